@@ -1,2 +1,5 @@
 pub mod Whole
 pub mod Division
+pub mod Lists
+pub mod Written
+pub mod Admitted
