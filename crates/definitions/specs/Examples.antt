@@ -1,4 +1,4 @@
--- The starred examples of 01, in one table, and one statement: what the definitions answer is what the document prints.
+-- The starred examples of 01, in one table, and one statement: what the definitions answer is what 01 prints.
 use Prim.Native.Nat.{ℕ, zero, suc, _+_, _*_, _-_}
 use mathlib.Core.Path.{_≡_, refl}
 use mathlib.Core.Bool.{Bool, true, false, not, _&&_}
@@ -61,6 +61,7 @@ once (c ∷ cs) = c ∷ keep (λ d. not (equal c d)) (once cs)
 
 -- ---- questions and answers
 pub data Question : Type 0 where
+  howLong : String → Question
   size : String → Question
   compile : String → List ℤ → Question
   decode : String → List ℕ → List ℤ → List ℕ → Question
@@ -76,6 +77,7 @@ pub data Question : Type 0 where
   translation : Term → ℤ → Question
 
 pub data Answer : Type 0 where
+  long : ℕ → Answer
   sized : Result Sizes → Answer
   compiled : Outcome Sizes (List ℤ) → Answer
   decoded : Outcome (Unit {0}) (List ℤ × List ℕ) → Answer
@@ -95,6 +97,7 @@ onBoard (done B) f = f B
 onBoard (refused n d) f = sized (refused n d)
 
 abbrev pub ask : Question → Answer
+ask (howLong s) = long (length (hex s))
 ask (size s) = sized (Size (hex s))
 ask (compile s list) = compiled (Compile (hex s) list)
 ask (decode s model values bools) = decoded (Decode (hex s) model values bools)
@@ -165,55 +168,61 @@ NMK n m k = done (record { n = n; m = m; k = k })
 abbrev accept : Result (Unit {0})
 accept = done tt
 
+-- a line of the table: 01's number of the case, what is asked of the definitions, what 01 prints
 pub record Row : Type 0 where
+  pub number : ℕ
   pub question : Question
   pub document : Answer
 
-infix 10 _⇒_
-abbrev pub _⇒_ : Question → Answer → Row
-q ⇒ a = record { question = q; document = a }
+infix 10 case_∶_⇒_
+abbrev pub case_∶_⇒_ : ℕ → Question → Answer → Row
+case n ∶ q ⇒ a = record { number = n; question = q; document = a }
 
 abbrev pub table : List Row
 table =
-    (size one ⇒ sized (NMK 0 0 0)) ∷
-    (compile one [] ⇒ compiled (NMK 0 0 0 leaves [])) ∷
-    (size two ⇒ sized (NMK 12 19 53)) ∷
-    (tuples two ⇒ bounds ((pos 1 ∷ pos 5 ∷ []) ∷ (pos 2 ∷ pos 4 ∷ []) ∷ (pos 3 ∷ pos 3 ∷ []) ∷ (pos 4 ∷ pos 2 ∷ []) ∷ (pos 5 ∷ pos 1 ∷ []) ∷ [])) ∷
-    (rulesOf two ⇒ clauses
+    (case 1 ∶ size one ⇒ sized (NMK 0 0 0)) ∷
+    (case 1 ∶ compile one [] ⇒ compiled (NMK 0 0 0 leaves [])) ∷
+    (case 2 ∶ size two ⇒ sized (NMK 12 19 53)) ∷
+    (case 2 ∶ tuples two ⇒ bounds ((pos 1 ∷ pos 5 ∷ []) ∷ (pos 2 ∷ pos 4 ∷ []) ∷ (pos 3 ∷ pos 3 ∷ []) ∷ (pos 4 ∷ pos 2 ∷ []) ∷ (pos 5 ∷ pos 1 ∷ []) ∷ [])) ∷
+    (case 2 ∶ rulesOf two ⇒ clauses
     ((x≤ (pos 1) ∷ y≤ (pos 5) ∷ []) ∷ (x≤ (pos 2) ∷ y≤ (pos 4) ∷ []) ∷ (x≤ (pos 3) ∷ y≤ (pos 3) ∷ []) ∷
     (x≤ (pos 4) ∷ y≤ (pos 2) ∷ []) ∷ (x≤ (pos 5) ∷ y≤ (pos 1) ∷ []) ∷ [])) ∷
-    (howManySolutions two ⇒ solutions-are 10) ∷
-    (size three ⇒ sized (NMK 15 24 72)) ∷
-    (rulesOf three ⇒ clauses
+    (case 2 ∶ howManySolutions two ⇒ solutions-are 10) ∷
+    (case 3 ∶ size three ⇒ sized (NMK 15 24 72)) ∷
+    (case 3 ∶ rulesOf three ⇒ clauses
     ((x≤ (neg 1) ∷ y≤ (neg 1) ∷ z> (pos 1) ∷ []) ∷ (x≤ (neg 1) ∷ y≤ (pos 0) ∷ z> (pos 2) ∷ []) ∷
     (x≤ (neg 1) ∷ y≤ (pos 1) ∷ z> (pos 3) ∷ []) ∷ (x≤ (pos 0) ∷ y≤ (neg 1) ∷ z> (pos 2) ∷ []) ∷
     (x≤ (pos 0) ∷ y≤ (pos 0) ∷ z> (pos 3) ∷ []) ∷ (x≤ (pos 1) ∷ y≤ (neg 1) ∷ z> (pos 3) ∷ []) ∷ [])) ∷
-    (size four ⇒ sized (NMK 12 18 50)) ∷
-    (rulesOf four ⇒ clauses
+    (case 4 ∶ size four ⇒ sized (NMK 12 18 50)) ∷
+    (case 4 ∶ rulesOf four ⇒ clauses
     ((x≤ (neg 1) ∷ y> (pos 1) ∷ []) ∷ (x≤ (pos 0) ∷ y> (pos 2) ∷ []) ∷ (x≤ (pos 1) ∷ y> (pos 3) ∷ []) ∷
     (x≤ (pos 2) ∷ y> (pos 4) ∷ []) ∷ [])) ∷
-    (judge four (pos 3 ∷ pos 4 ∷ []) [] ⇒ judged (refused 13 0)) ∷
-    (judge four (pos 2 ∷ pos 4 ∷ []) [] ⇒ judged accept) ∷
-    (rulesOf five ⇒ clauses ([] ∷ [])) ∷
-    (rulesOf five₀ ⇒ clauses ((x≤ (neg 1) ∷ y≤ (pos 0) ∷ []) ∷ (x≤ (pos 0) ∷ y≤ (neg 1) ∷ []) ∷ [])) ∷
-    (howManyRules six ⇒ written-different 6 4) ∷
-    (size seven ⇒ sized (NMK 2 3 7)) ∷
-    (howMany eight ⇒ models-solutions-plain 7 3 3) ∷
-    (translation (record { coef = neg 3; var = 0 }) (neg 7) ⇒ literal (minus (order 0 (pos 2)))) ∷
-    (translation (record { coef = pos 3; var = 0 }) (neg 7) ⇒ literal (plus (order 0 (neg 3)))) ∷
-    (size thirteen ⇒ sized (NMK 10 17 53)) ∷
-    (numbers thirteen ⇒ numbered
+    (case 4 ∶ judge four (pos 3 ∷ pos 4 ∷ []) [] ⇒ judged (refused 13 0)) ∷
+    (case 4 ∶ judge four (pos 2 ∷ pos 4 ∷ []) [] ⇒ judged accept) ∷
+    (case 5 ∶ rulesOf five ⇒ clauses ([] ∷ [])) ∷
+    (case 5 ∶ print five ⇒ text (ascii "p cnf 10 13\n-1 0\n5 0\n-1 2 0\n-2 3 0\n-3 4 0\n-4 5 0\n-6 0\n10 0\n-6 7 0\n-7 8 0\n-8 9 0\n-9 10 0\n0\n")) ∷
+    (case 5 ∶ rulesOf five₀ ⇒ clauses ((x≤ (neg 1) ∷ y≤ (pos 0) ∷ []) ∷ (x≤ (pos 0) ∷ y≤ (neg 1) ∷ []) ∷ [])) ∷
+    (case 6 ∶ howManyRules six ⇒ written-different 6 4) ∷
+    (case 7 ∶ size seven ⇒ sized (NMK 2 3 7)) ∷
+    (case 7 ∶ compile seven (pos 7 ∷ pos 7 ∷ pos 7 ∷ pos 7 ∷ pos 7 ∷ pos 7 ∷ pos 7 ∷ pos 7 ∷ []) ⇒
+    compiled (NMK 2 3 7 leaves (neg 1 ∷ pos 0 ∷ pos 2 ∷ pos 0 ∷ neg 1 ∷ pos 2 ∷ pos 0 ∷ pos 7 ∷ []))) ∷
+    (case 8 ∶ howMany eight ⇒ models-solutions-plain 7 3 3) ∷
+    (case 9 ∶ translation (record { coef = neg 3; var = 0 }) (neg 7) ⇒ literal (minus (order 0 (pos 2)))) ∷
+    (case 9 ∶ translation (record { coef = pos 3; var = 0 }) (neg 7) ⇒ literal (plus (order 0 (neg 3)))) ∷
+    (case 13 ∶ howLong thirteen ⇒ long 44) ∷
+    (case 13 ∶ size thirteen ⇒ sized (NMK 10 17 53)) ∷
+    (case 13 ∶ numbers thirteen ⇒ numbered
     (order 0 (neg 1) ∷ order 0 (pos 0) ∷ order 0 (pos 1) ∷ order 0 (pos 2) ∷ order 1 (neg 1) ∷ order 1 (pos 0) ∷
     order 1 (pos 1) ∷ order 1 (pos 2) ∷ selector 0 ∷ selector 1 ∷ [])
     (1 ∷ 2 ∷ 3 ∷ 4 ∷ 5 ∷ 6 ∷ 7 ∷ 8 ∷ 9 ∷ 10 ∷ [])) ∷
-    (print thirteen ⇒ text (ascii "p cnf 10 17\n-1 0\n4 0\n-1 2 0\n-2 3 0\n-3 4 0\n-5 0\n8 0\n-5 6 0\n-6 7 0\n-7 8 0\n9 10 0\n-9 1 -6 0\n-9 2 -7 0\n-9 3 -8 0\n-10 -4 7 0\n-10 -3 6 0\n-10 -2 5 0\n")) ∷
-    (decode thirteen (0 ∷ 1 ∷ 1 ∷ 1 ∷ 0 ∷ 0 ∷ 1 ∷ 1 ∷ 1 ∷ 0 ∷ []) (pos 7 ∷ pos 7 ∷ []) [] ⇒
+    (case 13 ∶ print thirteen ⇒ text (ascii "p cnf 10 17\n-1 0\n4 0\n-1 2 0\n-2 3 0\n-3 4 0\n-5 0\n8 0\n-5 6 0\n-6 7 0\n-7 8 0\n9 10 0\n-9 1 -6 0\n-9 2 -7 0\n-9 3 -8 0\n-10 -4 7 0\n-10 -3 6 0\n-10 -2 5 0\n")) ∷
+    (case 14 ∶ decode thirteen (0 ∷ 1 ∷ 1 ∷ 1 ∷ 0 ∷ 0 ∷ 1 ∷ 1 ∷ 1 ∷ 0 ∷ []) (pos 7 ∷ pos 7 ∷ []) [] ⇒
     decoded (accept leaves (pos 0 ∷ pos 1 ∷ [], []))) ∷
-    (decode thirteen (0 ∷ 1 ∷ 1 ∷ 1 ∷ 0 ∷ 0 ∷ 1 ∷ 1 ∷ 1 ∷ 1 ∷ []) (pos 7 ∷ pos 7 ∷ []) [] ⇒
+    (case 14 ∶ decode thirteen (0 ∷ 1 ∷ 1 ∷ 1 ∷ 0 ∷ 0 ∷ 1 ∷ 1 ∷ 1 ∷ 1 ∷ []) (pos 7 ∷ pos 7 ∷ []) [] ⇒
     decoded (refused 13 15 leaves (pos 7 ∷ pos 7 ∷ [], []))) ∷
-    (judge thirteen (pos 0 ∷ pos 1 ∷ []) [] ⇒ judged accept) ∷
-    (judge thirteen (pos 1 ∷ pos 1 ∷ []) [] ⇒ judged (refused 13 0)) ∷
-    (image thirteen (pos 0 ∷ pos 1 ∷ []) [] (7 ∷ 7 ∷ 7 ∷ 7 ∷ 7 ∷ 7 ∷ 7 ∷ 7 ∷ 7 ∷ 7 ∷ []) ⇒
+    (case 13 ∶ judge thirteen (pos 0 ∷ pos 1 ∷ []) [] ⇒ judged accept) ∷
+    (case 13 ∶ judge thirteen (pos 1 ∷ pos 1 ∷ []) [] ⇒ judged (refused 13 0)) ∷
+    (case 13 ∶ image thirteen (pos 0 ∷ pos 1 ∷ []) [] (7 ∷ 7 ∷ 7 ∷ 7 ∷ 7 ∷ 7 ∷ 7 ∷ 7 ∷ 7 ∷ 7 ∷ []) ⇒
     imaged (accept leaves (0 ∷ 1 ∷ 1 ∷ 1 ∷ 0 ∷ 0 ∷ 1 ∷ 1 ∷ 1 ∷ 0 ∷ []))) ∷
     []
 
@@ -222,4 +231,4 @@ Holds r = ask (r .question) ≡ r .document
 
 pub the-examples-hold : All Holds table
 unfolding all-open
-the-examples-hold = (refl, (refl, (refl, (refl, (refl, (refl, (refl, (refl, (refl, (refl, (refl, (refl, (refl, (refl, (refl, (refl, (refl, (refl, (refl, (refl, (refl, (refl, (refl, (refl, (refl, (refl, (refl, tt)))))))))))))))))))))))))))
+the-examples-hold = (refl, (refl, (refl, (refl, (refl, (refl, (refl, (refl, (refl, (refl, (refl, (refl, (refl, (refl, (refl, (refl, (refl, (refl, (refl, (refl, (refl, (refl, (refl, (refl, (refl, (refl, (refl, (refl, (refl, (refl, tt))))))))))))))))))))))))))))))
