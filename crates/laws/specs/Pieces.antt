@@ -1,14 +1,16 @@
 -- The rules' clauses in pieces: a clause's line, and each comparison's clauses under their lead. Assumes nothing.
-use mathlib.Core.Path.{_≡_, refl, sym, ap, _∙_}
-use mathlib.Core.List.{List, [], _∷_, _++_, map, flatten, zipWith, append-nil, append-assoc, map-append}
+use mathlib.Core.Path.{_≡_, refl, sym, ap, ap₂, _∙_}
+use mathlib.Core.Bool.{Bool, true, false, not}
+use mathlib.Core.List.{List, [], _∷_, _++_, map, flatten, zipWith, append-nil, append-assoc, map-append, map-map}
 use Prim.Native.Nat.{ℕ, zero, suc, _+_}
+use native.Mathlib.Nat.{add-zero}
 use native.Mathlib.Omega.{arith}
 use lib.ListN.{length}
-use Rattle.definitions.specs.Tools.{countUp}
+use Rattle.definitions.specs.Tools.{countUp, sum}
 use Rattle.definitions.specs.Board.{Bounds, Comparison, Literal, Clause, isTrue, isFalse, atMost}
-use Rattle.definitions.specs.Encoding.{Atom, SatClause, bool, selector, plus, minus, clausesUnder, comparisons, selected, clausesOf, rulesFrom}
+use Rattle.definitions.specs.Encoding.{Atom, SatClause, bool, selector, plus, minus, clausesUnder, comparisons, selected, clausesOf, rulesFrom, places}
 use Rattle.definitions.specs.Encoding as encoding
-use Rattle.laws.specs.Lists.{flatten-append}
+use Rattle.laws.specs.Lists.{flatten-append, length-flatten, sum-flatten}
 
 pub data Piece : Type 0 where
   line : SatClause → Piece
@@ -18,10 +20,16 @@ unfoldable pub pieceClauses : (ℕ → Bounds) → Piece → List SatClause
 pieceClauses of (line c) = c ∷ []
 pieceClauses of (under lead q) = clausesUnder lead of q
 
--- comparisons under the negations of their selectors, the first of which is j
-unfoldable pub led : ℕ → List Comparison → List Piece
-led j [] = []
-led j (q ∷ qs) = under (minus (selector j) ∷ []) q ∷ led (suc j) qs
+-- comparisons, each under its negated selector, of which the first is j; or under nothing
+unfoldable pub compared : Bool → ℕ → List Comparison → List Piece
+compared led j [] = []
+compared true j (q ∷ qs) = under (minus (selector j) ∷ []) q ∷ compared true (suc j) qs
+compared false j (q ∷ qs) = under [] q ∷ compared false j qs
+
+-- how many selectors n comparisons take
+abbrev pub used : Bool → ℕ → ℕ
+used true n = n
+used false n = 0
 
 -- the line of literals whose first selector is j
 unfoldable pub lineFrom : ℕ → Clause → SatClause
@@ -30,30 +38,85 @@ lineFrom j (isTrue b ∷ C) = plus (bool b) ∷ lineFrom j C
 lineFrom j (isFalse b ∷ C) = minus (bool b) ∷ lineFrom j C
 lineFrom j (atMost q ∷ C) = plus (selector j) ∷ lineFrom (suc j) C
 
--- a clause's pieces: a lone comparison has no line
-unfoldable pub piecesOf : ℕ → Clause → List Piece
-piecesOf j [] = line [] ∷ []
-piecesOf j (isTrue b ∷ []) = line (plus (bool b) ∷ []) ∷ []
-piecesOf j (isFalse b ∷ []) = line (minus (bool b) ∷ []) ∷ []
-piecesOf j (atMost q ∷ []) = under [] q ∷ []
-piecesOf j (l ∷ l′ ∷ C) = line (lineFrom j (l ∷ l′ ∷ C)) ∷ led j (comparisons (l ∷ l′ ∷ C))
+-- a comparison that is its clause's only literal: it has no selector and its clause no line
+unfoldable pub lone : Clause → Bool
+lone [] = false
+lone (isTrue b ∷ C) = false
+lone (isFalse b ∷ C) = false
+lone (atMost q ∷ []) = true
+lone (atMost q ∷ l ∷ C) = false
+
+abbrev pub opening : Bool → ℕ → Clause → List Piece
+opening true j C = []
+opening false j C = line (lineFrom j C) ∷ []
 
 unfoldable pub piecesFrom : ℕ → List Clause → List Piece
 piecesFrom j [] = []
-piecesFrom j (C ∷ Cs) = piecesOf j C ++ piecesFrom (j + length (selected C)) Cs
+piecesFrom j (C ∷ Cs) =
+    opening (lone C) j C ++
+    (compared (not (lone C)) j (comparisons C) ++ piecesFrom (j + used (not (lone C)) (length (comparisons C))) Cs)
+
+-- what is left of the rules within a clause: literals L, of which the comparisons have selectors from j or none, then clauses
+unfoldable pub left : Bool → ℕ → Clause → List Clause → List Piece
+left led j L Cs = compared led j (comparisons L) ++ piecesFrom (j + used led (length (comparisons L))) Cs
 
 abbrev pub clausesIn : (ℕ → Bounds) → List Piece → List SatClause
 clausesIn of ps = flatten (map (pieceClauses of) ps)
 
+-- ---- a step within a clause, to the next clause, and the end
+pub left-bool : (led : Bool) (j b : ℕ) (L : Clause) (Cs : List Clause) → left led j (isTrue b ∷ L) Cs ≡ left led j L Cs
+unfolding left comparisons
+left-bool led j b L Cs = refl
+
+pub left-negated : (led : Bool) (j b : ℕ) (L : Clause) (Cs : List Clause) → left led j (isFalse b ∷ L) Cs ≡ left led j L Cs
+unfolding left comparisons
+left-negated led j b L Cs = refl
+
+pub left-selected : (j : ℕ) (q : Comparison) (L : Clause) (Cs : List Clause)
+    → left true j (atMost q ∷ L) Cs ≡ under (minus (selector j) ∷ []) q ∷ left true (suc j) L Cs
+unfolding left comparisons compared
+left-selected j q L Cs =
+    let e : j + suc (length (comparisons L)) ≡ suc j + length (comparisons L) = omega arith in
+    ap (λ n. under (minus (selector j) ∷ []) q ∷ (compared true (suc j) (comparisons L) ++ piecesFrom n Cs)) e
+
+pub left-lone : (j : ℕ) (q : Comparison) (L : Clause) (Cs : List Clause) → left false j (atMost q ∷ L) Cs ≡ under [] q ∷ left false j L Cs
+unfolding left comparisons compared
+left-lone j q L Cs = refl
+
+pub left-clause : (led : Bool) (j : ℕ) (C : Clause) (Cs : List Clause)
+    → left led j [] (C ∷ Cs) ≡ opening (lone C) j C ++ left (not (lone C)) j C Cs
+unfolding left comparisons compared piecesFrom
+left-clause true j C Cs = ap (λ n. piecesFrom n (C ∷ Cs)) (add-zero j)
+left-clause false j C Cs = ap (λ n. piecesFrom n (C ∷ Cs)) (add-zero j)
+
+pub left-none : (led : Bool) (j : ℕ) → left led j [] [] ≡ []
+unfolding left comparisons compared piecesFrom
+left-none led j = refl
+
+pub left-start : (led : Bool) (Cs : List Clause) → left led 0 [] Cs ≡ piecesFrom 0 Cs
+unfolding left comparisons compared
+left-start true Cs = refl
+left-start false Cs = refl
+
 -- ---- they are the definition's
+pub selected-count : (C : Clause) → length (selected C) ≡ used (not (lone C)) (length (comparisons C))
+unfolding selected comparisons lone
+selected-count [] = refl
+selected-count (isTrue b ∷ []) = refl
+selected-count (isFalse b ∷ []) = refl
+selected-count (atMost q ∷ []) = refl
+selected-count (isTrue b ∷ l ∷ C) = refl
+selected-count (isFalse b ∷ l ∷ C) = refl
+selected-count (atMost q ∷ l ∷ C) = refl
+
 module _ (of : ℕ → Bounds) where
   pub clausesIn-append : (ps qs : List Piece) → clausesIn of (ps ++ qs) ≡ clausesIn of ps ++ clausesIn of qs
   clausesIn-append ps qs =
       ap flatten (map-append (pieceClauses of) ps qs) ∙ flatten-append (map (pieceClauses of) ps) (map (pieceClauses of) qs)
 
   led-clauses : (j : ℕ) (qs : List Comparison)
-      → flatten (zipWith (λ i q. clausesUnder (minus i ∷ []) of q) (map selector (countUp j (length qs))) qs) ≡ clausesIn of (led j qs)
-  unfolding led flatten zipWith pieceClauses
+      → flatten (zipWith (λ i q. clausesUnder (minus i ∷ []) of q) (map selector (countUp j (length qs))) qs) ≡ clausesIn of (compared true j qs)
+  unfolding compared flatten zipWith pieceClauses
   led-clauses j [] = refl
   led-clauses j (q ∷ qs) = ap (λ z. clausesUnder (minus (selector j) ∷ []) of q ++ z) (led-clauses (suc j) qs)
 
@@ -64,20 +127,47 @@ module _ (of : ℕ → Bounds) where
   line-is j (isFalse b ∷ C) = ap (λ z. minus (bool b) ∷ z) (line-is j C)
   line-is j (atMost q ∷ C) = ap (λ z. plus (selector j) ∷ z) (line-is (suc j) C)
 
-  clause-pieces : (j : ℕ) (C : Clause) → clausesOf of (map selector (countUp j (length (selected C)))) C ≡ clausesIn of (piecesOf j C)
-  unfolding clausesOf piecesOf selected flatten pieceClauses
+  longer : (j : ℕ) (l l′ : Literal) (C : Clause)
+      → clausesOf of (map selector (countUp j (length (comparisons (l ∷ l′ ∷ C))))) (l ∷ l′ ∷ C)
+      ≡ lineFrom j (l ∷ l′ ∷ C) ∷ clausesIn of (compared true j (comparisons (l ∷ l′ ∷ C)))
+  unfolding clausesOf selected
+  longer j l l′ C = ap₂ _∷_ (line-is j (l ∷ l′ ∷ C)) (led-clauses j (comparisons (l ∷ l′ ∷ C)))
+
+  clause-pieces : (j : ℕ) (C : Clause)
+      → clausesOf of (map selector (countUp j (length (selected C)))) C
+      ≡ clausesIn of (opening (lone C) j C ++ compared (not (lone C)) j (comparisons C))
+  unfolding clausesOf selected flatten pieceClauses lone compared comparisons lineFrom
   clause-pieces j [] = refl
   clause-pieces j (isTrue b ∷ []) = refl
   clause-pieces j (isFalse b ∷ []) = refl
   clause-pieces j (atMost q ∷ []) = sym (append-nil (clausesUnder [] of q))
-  clause-pieces j (l ∷ l′ ∷ C) =
-      ap (λ z. z ∷ flatten (zipWith (λ i q. clausesUnder (minus i ∷ []) of q) (map selector (countUp j (length (comparisons (l ∷ l′ ∷ C))))) (comparisons (l ∷ l′ ∷ C)))) (line-is j (l ∷ l′ ∷ C))
-      ∙ ap (λ z. lineFrom j (l ∷ l′ ∷ C) ∷ z) (led-clauses j (comparisons (l ∷ l′ ∷ C)))
+  clause-pieces j (isTrue b ∷ l ∷ C) = longer j (isTrue b) l C
+  clause-pieces j (isFalse b ∷ l ∷ C) = longer j (isFalse b) l C
+  clause-pieces j (atMost q ∷ l ∷ C) = longer j (atMost q) l C
 
   pub rules-pieces : (j : ℕ) (Cs : List Clause) → flatten (rulesFrom of j Cs) ≡ clausesIn of (piecesFrom j Cs)
   unfolding rulesFrom piecesFrom flatten
   rules-pieces j [] = refl
   rules-pieces j (C ∷ Cs) =
-      ap (λ z. z ++ flatten (rulesFrom of (j + length (selected C)) Cs)) (clause-pieces j C)
-      ∙ ap (λ z. clausesIn of (piecesOf j C) ++ z) (rules-pieces (j + length (selected C)) Cs)
-      ∙ sym (clausesIn-append (piecesOf j C) (piecesFrom (j + length (selected C)) Cs))
+      ap (λ n. clausesOf of (map selector (countUp j (length (selected C)))) C ++ flatten (rulesFrom of (j + n) Cs)) (selected-count C)
+      ∙ ap₂ _++_ (clause-pieces j C) (rules-pieces (j + used (not (lone C)) (length (comparisons C))) Cs)
+      ∙ sym (clausesIn-append (opening (lone C) j C ++ compared (not (lone C)) j (comparisons C)) (piecesFrom (j + used (not (lone C)) (length (comparisons C))) Cs))
+      ∙ ap (clausesIn of) (append-assoc (opening (lone C) j C) (compared (not (lone C)) j (comparisons C)) (piecesFrom (j + used (not (lone C)) (length (comparisons C))) Cs))
+
+  -- clauses and places, piece by piece
+  pub rules-count : (j : ℕ) (Cs : List Clause)
+      → sum (map length (rulesFrom of j Cs)) ≡ sum (map (λ p. length (pieceClauses of p)) (piecesFrom j Cs))
+  rules-count j Cs =
+      sym (length-flatten (rulesFrom of j Cs))
+      ∙ ap length (rules-pieces j Cs)
+      ∙ length-flatten (map (pieceClauses of) (piecesFrom j Cs))
+      ∙ ap sum (map-map length (pieceClauses of) (piecesFrom j Cs))
+
+  pub rules-places : (j : ℕ) (Cs : List Clause)
+      → sum (map places (rulesFrom of j Cs)) ≡ sum (map (λ p. places (pieceClauses of p)) (piecesFrom j Cs))
+  unfolding places
+  rules-places j Cs =
+      sym (sum-flatten (λ c. length c + 1) (rulesFrom of j Cs))
+      ∙ ap (λ cs. sum (map (λ c. length c + 1) cs)) (rules-pieces j Cs)
+      ∙ sum-flatten (λ c. length c + 1) (map (pieceClauses of) (piecesFrom j Cs))
+      ∙ ap sum (map-map (λ cs. sum (map (λ c. length c + 1) cs)) (pieceClauses of) (piecesFrom j Cs))
