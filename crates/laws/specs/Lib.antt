@@ -3,3 +3,6 @@ pub mod Division
 pub mod Lists
 pub mod Written
 pub mod Admitted
+pub mod Runs
+pub mod Offsets
+pub mod Tuples
