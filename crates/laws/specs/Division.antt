@@ -86,6 +86,28 @@ not-below-ceil (negsuc m) b x h = (to, from)
         (let e2 = mul-neg (pos (suc m)) x in omega whole))
         (le-or-lt x (negℤ (shrZ (negℤ (negℤ b)) (suc m)) -ℤ pos 1))
 
+-- the c of a term's literal lies from l - 1 to u where b is from (least of the term) - 1 to (greatest of the term)
+pub floor-within : (a l u b : ℤ) → pos 0 <ℤ a → ((a *ℤ l) -ℤ pos 1) ≤ℤ b → b ≤ℤ (a *ℤ u) → ((l -ℤ pos 1) ≤ℤ floor b a) × (floor b a ≤ℤ u)
+floor-within a l u b h below above = (
+  below-floor a b (l -ℤ pos 1) h .0 (omega (whole, mul-add a l (negsuc 0), mul-law a (negsuc 0), add-law (a *ℤ l) (a *ℤ negsuc 0), sub-law (a *ℤ l) (pos 1))),
+  ⊎-elim (λ k. k) (λ k.
+      let k′ = below-floor a b (u +ℤ pos 1) h .1 (omega (whole, add-law u (pos 1))) in
+      absurd (omega (whole, mul-add a u (pos 1), mul-law a (pos 1), add-law (a *ℤ u) (a *ℤ pos 1))))
+      (le-or-lt (floor b a) u),
+)
+
+pub ceil-within : (a l u b : ℤ) → a <ℤ pos 0 → ((a *ℤ u) -ℤ pos 1) ≤ℤ b → b ≤ℤ (a *ℤ l) → ((l -ℤ pos 1) ≤ℤ (ceil b a -ℤ pos 1)) × ((ceil b a -ℤ pos 1) ≤ℤ u)
+ceil-within a l u b h below above = (
+  ⊎-elim (λ k. k) (λ k.
+      let k′ = not-below-ceil a b (l -ℤ pos 1) h .1 (λ n. omega whole) in
+      absurd (omega (whole, mul-add a l (negsuc 0), mul-law a (negsuc 0), add-law (a *ℤ l) (a *ℤ negsuc 0))))
+      (le-or-lt (l -ℤ pos 1) (ceil b a -ℤ pos 1)),
+  ⊎-elim (λ k. k) (λ k.
+      let k′ = not-below-ceil a b (u +ℤ pos 1) h .0 (omega (whole, mul-add a u (pos 1), mul-law a (pos 1), add-law (a *ℤ u) (a *ℤ pos 1), sub-law (a *ℤ u) (pos 1))) in
+      absurd (k′ (omega (whole, add-law u (pos 1)))))
+      (le-or-lt (ceil b a -ℤ pos 1) u),
+)
+
 -- ---- how the code comes to them
 pub floor-up : (b a : ℤ) → pos 0 ≤ℤ b → pos 0 <ℤ a → quotZ b a ≡ floor b a
 unfolding floor

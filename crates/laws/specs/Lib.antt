@@ -4,3 +4,6 @@ pub mod Lists
 pub mod Written
 pub mod Admitted
 pub mod Pieces
+pub mod Runs
+pub mod Offsets
+pub mod Tuples
