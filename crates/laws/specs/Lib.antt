@@ -3,3 +3,5 @@ pub mod Division
 pub mod Lists
 pub mod Written
 pub mod Admitted
+pub mod Ranges
+pub mod Layout
