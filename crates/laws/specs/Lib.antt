@@ -5,3 +5,6 @@ pub mod Written
 pub mod Admitted
 pub mod Ranges
 pub mod Layout
+pub mod Outcomes
+pub mod Decide
+pub mod Search
