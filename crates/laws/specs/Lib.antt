@@ -7,3 +7,8 @@ pub mod Pieces
 pub mod Runs
 pub mod Offsets
 pub mod Tuples
+pub mod Ranges
+pub mod Layout
+pub mod Outcomes
+pub mod Decide
+pub mod Search

@@ -65,6 +65,24 @@ module _ {A B : Type 0} (P : B → Type 0) (f : A → B) where
   map-all [] a = tt
   map-all (x ∷ s) a = (a .0, map-all s (a .1))
 
+module _ {A : Type 0} (P : A → Type 0) where
+  pub any-left : (s t : List A) → Any P s → Any P (s ++ t)
+  any-left (x ∷ s) t (inl h) = inl h
+  any-left (x ∷ s) t (inr h) = inr (any-left s t h)
+
+  pub any-right : (s t : List A) → Any P t → Any P (s ++ t)
+  any-right [] t h = h
+  any-right (x ∷ s) t h = inr (any-right s t h)
+
+  pub any-flatten : (ls : List (List A)) → Any (Any P) ls → Any P (flatten ls)
+  unfolding flatten
+  any-flatten (l ∷ ls) (inl h) = any-left l (flatten ls) h
+  any-flatten (l ∷ ls) (inr h) = any-right l (flatten ls) (any-flatten ls h)
+
+  pub any-map : {B : Type 0} (f : B → A) (s : List B) → Any (λ x. P (f x)) s → Any P (map f s)
+  any-map f (x ∷ s) (inl h) = inl h
+  any-map f (x ∷ s) (inr h) = inr (any-map f s h)
+
 -- ---- lists joined
 module _ {A : Type 0} where
   pub flatten-append : (k l : List (List A)) → flatten (k ++ l) ≡ flatten k ++ flatten l
@@ -134,6 +152,14 @@ all-countUp P i (suc n) f = (f i (omega arith) (omega arith), all-countUp P (suc
 
 same : (i j : ℕ) → i ≤ j → ¬ (suc i ≤ j) → i ≡ j
 same i j l h = omega arith
+
+pub any-countUp : (P : ℕ → Type 0) (i n j : ℕ) → i ≤ j → j < i + n → P j → Any P (countUp i n)
+any-countUp P i zero j l u h = absurd (omega arith)
+any-countUp P i (suc n) j l u h =
+    elim (decLe (suc i) j) [
+      | yes k ↦ inr (any-countUp P (suc i) n j k (omega arith) h)
+      | no k ↦ inl (rw (same i j l k) h)
+    ]
 
 pub countUp-all : (P : ℕ → Type 0) (i n : ℕ) → All P (countUp i n) → (j : ℕ) → i ≤ j → j < i + n → P j
 countUp-all P i zero a j l u = absurd (omega arith)

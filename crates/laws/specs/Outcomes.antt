@@ -1,0 +1,67 @@
+-- Two answers of the code's own types that say the same (01's number and values) are one answer.
+use mathlib.Core.Path.{_≡_, refl, sym, ap, _∙_}
+use mathlib.Core.List.{[], _∷_}
+use Prim.Native.Nat.{ℕ, _-_}
+use lib.ListN.{getD}
+use Rattle.definitions.specs.declared.Refusal.{Refusal}
+use Rattle.definitions.specs.declared.Sizing.{Sizing}
+use Rattle.definitions.specs.declared.Verdict.{Verdict}
+use Rattle.definitions.specs.Result.{Result, done, refused}
+use Rattle.definitions.specs.Operations.{Sizes}
+use Rattle.definitions.specs.Answers.{said, saidVerdict, saidSizing}
+
+-- a refusal's number and detail tell which it is
+unsaid : ℕ × ℕ → Refusal
+unsaid p =
+    let d = p .1 in
+    getD
+    (Refusal.RecordTooLong ∷ Refusal.LengthWrong ∷ Refusal.VersionUnknown ∷ Refusal.CountWrong d ∷ Refusal.BoundWrong d ∷
+    Refusal.LiteralWrong d ∷ Refusal.TermWrong d ∷ Refusal.EndWrong d ∷ Refusal.ListTooLong ∷ Refusal.ListTooShort d ∷
+    Refusal.LentWrong d ∷ Refusal.ByteWrong d ∷ Refusal.ClauseFails d ∷ Refusal.ValueOutside d ∷ [])
+    (p .0 - 1) Refusal.RecordTooLong
+
+unsaid-said : (r : Refusal) → unsaid (said r) ≡ r
+unfolding unsaid
+unsaid-said Refusal.RecordTooLong = refl
+unsaid-said Refusal.LengthWrong = refl
+unsaid-said Refusal.VersionUnknown = refl
+unsaid-said (Refusal.CountWrong d) = refl
+unsaid-said (Refusal.BoundWrong d) = refl
+unsaid-said (Refusal.LiteralWrong d) = refl
+unsaid-said (Refusal.TermWrong d) = refl
+unsaid-said (Refusal.EndWrong d) = refl
+unsaid-said Refusal.ListTooLong = refl
+unsaid-said (Refusal.ListTooShort d) = refl
+unsaid-said (Refusal.LentWrong d) = refl
+unsaid-said (Refusal.ByteWrong d) = refl
+unsaid-said (Refusal.ClauseFails d) = refl
+unsaid-said (Refusal.ValueOutside d) = refl
+
+-- what can be read back from its saying is told by it
+told : {A S : Type 0} (say : A → S) (back : S → A) → ((a : A) → back (say a) ≡ a) → (a b : A) → say a ≡ say b → a ≡ b
+told say back e a b h = sym (e a) ∙ ap back h ∙ e b
+
+pub one-refusal : (r r′ : Refusal) → said r ≡ said r′ → r ≡ r′
+one-refusal = told said unsaid unsaid-said
+
+pub one-verdict : (v v′ : Verdict) → saidVerdict v ≡ saidVerdict v′ → v ≡ v′
+one-verdict = told saidVerdict back is
+  where
+    back : Result (Unit {0}) → Verdict
+    back (done a) = Verdict.Accepted
+    back (refused n d) = Verdict.Refused (unsaid (n, d))
+
+    is : (v : Verdict) → back (saidVerdict v) ≡ v
+    is Verdict.Accepted = refl
+    is (Verdict.Refused r) = ap Verdict.Refused (unsaid-said r)
+
+pub one-sizing : (z z′ : Sizing) → saidSizing z ≡ saidSizing z′ → z ≡ z′
+one-sizing = told saidSizing back is
+  where
+    back : Result Sizes → Sizing
+    back (done z) = Sizing.Sizes (z .n) (z .m) (z .k)
+    back (refused n d) = Sizing.Unsized (unsaid (n, d))
+
+    is : (z : Sizing) → back (saidSizing z) ≡ z
+    is (Sizing.Sizes n m k) = refl
+    is (Sizing.Unsized r) = ap Sizing.Unsized (unsaid-said r)
