@@ -3,3 +3,4 @@ pub mod Division
 pub mod Lists
 pub mod Written
 pub mod Admitted
+pub mod Readings
