@@ -12,3 +12,4 @@ pub mod Layout
 pub mod Outcomes
 pub mod Decide
 pub mod Search
+pub mod Readings
