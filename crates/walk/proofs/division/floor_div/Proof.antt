@@ -1,0 +1,57 @@
+use mathlib.Core.Path.{_∙_}
+use native.Mathlib.Omega.{arith}
+use lib.IntN.{pos, _-ℤ_}
+use mir.Syntax.{w32}
+use mir.Val.{SFits}
+use mir.Facts.{toZ-ofZ}
+use Rattle.laws.specs.Whole.{whole, back, abs-fits, abs-law, abs-sub, sub-law, part-law}
+use Rattle.laws.specs.Division.{floor-flip}
+use Rattle.walk.proofs.division.floor_div.Statement.{statement}
+use Rattle.walk.proofs.division.floor_div.Tie as tie
+
+minus-b : (s : tie.Start) → SFits w32 (pos 0 -ℤ s .args .b)
+minus-b s = abs-fits (omega (arith, abs-sub (pos 0) (s .args .b)))
+
+minus-a : (s : tie.Start) → SFits w32 (pos 0 -ℤ s .args .a)
+minus-a s = abs-fits (omega (arith, abs-sub (pos 0) (s .args .a)))
+
+sub-floor-positive : tie.Need-sub-floor-positive
+sub-floor-positive c = let fb = c .before .fits .b in simp toZ-ofZ (minus-b (c .before))
+
+sub-floor-positive-2 : tie.Need-sub-floor-positive-2
+sub-floor-positive-2 c = let fa = c .before .fits .a in simp toZ-ofZ (minus-a (c .before))
+
+floor-positive-requires : tie.Need-floor-positive-requires
+floor-positive-requires c κs =
+    let s = c .before in
+    let fa = s .fits .a in
+    let fb = s .fits .b in
+    let ma = minus-a s in
+    let mb = minus-b s in
+    simp toZ-ofZ (omega (whole, back fa, sub-law (pos 0) (s .args .a), abs-sub (pos 0) (s .args .b)))
+
+returns : tie.Need-returns
+returns c =
+    let s = c .before .before in
+    let fa = s .fits .a in
+    let fb = s .fits .b in
+    let ma = minus-a s in
+    let mb = minus-b s in
+    toZ-ofZ (record { sfits = c .floor-positive .ok }) ∙ (simp toZ-ofZ at (c .floor-positive .ensures)) ∙ floor-flip (s .args .b) (s .args .a) (omega (whole, back fa))
+
+floor-positive-requires-2 : tie.Need-floor-positive-requires-2
+floor-positive-requires-2 c κs =
+    let s = c .before in
+    let fa = s .fits .a in
+    let fb = s .fits .b in
+    simp toZ-ofZ (omega (whole, back fa, abs-law (s .args .a), part-law (s .args .a)))
+
+returns-2 : tie.Need-returns-2
+returns-2 c =
+    let s = c .before .before in
+    let fa = s .fits .a in
+    let fb = s .fits .b in
+    toZ-ofZ (record { sfits = c .floor-positive2 .ok }) ∙ (simp toZ-ofZ at (c .floor-positive2 .ensures))
+
+pub floor-div-spec : {M : Type 1} → statement M
+floor-div-spec = tie.close (tie.spec sub-floor-positive sub-floor-positive-2 floor-positive-requires returns floor-positive-requires-2 returns-2)

@@ -1,0 +1,42 @@
+// A comparison's tuples one after another, and the literal of each term at the present one.
+
+// A term: its coefficient, its variable's bounds and the number of p(x, lower - 1).
+pub struct Slot {
+    pub coefficient: i32,
+    pub lower: i32,
+    pub upper: i32,
+    pub first: u32,
+}
+
+// The sum of the first n slots is at most the constant.
+pub struct Comparison {
+    pub n: usize,
+    pub slots: [Slot; 3],
+    pub constant: i32,
+}
+
+pub struct Range {
+    pub lo: i32,
+    pub hi: i32,
+}
+
+// A bound as its offset k from the least bound lo; the largest offset is w.
+pub struct Place {
+    pub lo: i32,
+    pub k: u32,
+    pub w: u32,
+}
+
+// A tuple of three bounds. The places of terms that a comparison lacks stand in front.
+pub struct Walk {
+    pub a: Place,
+    pub b: Place,
+    pub c: Place,
+}
+
+pub enum At {
+    Tuple(Walk),
+    End,
+}
+
+pub mod division;
