@@ -4,9 +4,7 @@ use mathlib.Core.List.{List, [], _∷_, _++_, map, flatten, append-nil, map-appe
 use Prim.Native.Nat.{ℕ, zero, suc, _+_, _-_, _≤_, _<_}
 use native.Mathlib.Nat.{le-refl}
 use native.Mathlib.Omega.{arith}
-use lib.IntN.{ℤ, pos, sucℤ, _+ℤ_, _-ℤ_}
-use Rattle.definitions.specs.Tools.{countUp, size, upFrom, range}
-use Rattle.laws.specs.Whole.{whole, add-law, suc-law}
+use Rattle.definitions.specs.Tools.{countUp}
 use Rattle.laws.specs.Lists.{flatten-append, map-flatten, countUp-append}
 
 -- f b ++ f (b + 1) ++ .. , n of them
@@ -50,15 +48,3 @@ module _ {A B : Type 0} where
   pub map-over : (g : A → B) (f : ℕ → List A) (b n : ℕ) → map g (over f b n) ≡ over (λ k. map g (f k)) b n
   unfolding over
   map-over g f b n = map-flatten g (map f (countUp b n)) ∙ ap flatten (map-map (map g) f (countUp b n))
-
--- ---- lo, lo + 1, .. hi
-pub upFrom-shift : (lo : ℤ) (i n : ℕ) → upFrom (lo +ℤ pos i) n ≡ map (λ k. lo +ℤ pos k) (countUp i n)
-upFrom-shift lo i zero = refl
-upFrom-shift lo i (suc n) =
-    let e : sucℤ (lo +ℤ pos i) ≡ lo +ℤ pos (suc i) = omega (whole, suc-law (lo +ℤ pos i), add-law lo (pos i), add-law lo (pos (suc i))) in
-    ap (λ l. (lo +ℤ pos i) ∷ l) (ap (λ z. upFrom z n) e ∙ upFrom-shift lo (suc i) n)
-
-pub range-shift : (lo hi : ℤ) → range lo hi ≡ map (λ k. lo +ℤ pos k) (countUp 0 (size (sucℤ hi -ℤ lo)))
-range-shift lo hi =
-    let e : lo ≡ lo +ℤ pos 0 = omega (whole, add-law lo (pos 0)) in
-    ap (λ z. upFrom z (size (sucℤ hi -ℤ lo))) e ∙ upFrom-shift lo 0 (size (sucℤ hi -ℤ lo))
