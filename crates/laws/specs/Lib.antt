@@ -13,3 +13,4 @@ pub mod Outcomes
 pub mod Decide
 pub mod Search
 pub mod Readings
+pub mod Mentions

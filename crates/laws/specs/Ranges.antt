@@ -1,6 +1,5 @@
 -- Ranges of whole numbers, lo to hi: their length, and what holds of each entry. Assumes nothing.
 use mathlib.Core.Path.{_≡_, ap, _∙_}
-use Prim.Native.Nat.{ℕ, suc}
 use lib.ListN.{length, length-map}
 use lib.IntN.{ℤ, pos, sucℤ, _+ℤ_, _-ℤ_}
 use lib.Signed.{_≤ℤ_}
@@ -20,5 +19,5 @@ all-range P lo hi f =
     rw (range-shift lo hi)
     (all-map P (λ j. lo +ℤ pos j) (countUp 0 n)
     (all-countUp (λ j. P (lo +ℤ pos j)) 0 n (λ j l u.
-      f (lo +ℤ pos j) (omega (whole, add-law lo (pos j)))
-      (omega (whole, add-law lo (pos j), sub-law (sucℤ hi) lo, suc-law hi, part-law (sucℤ hi -ℤ lo))))))
+    f (lo +ℤ pos j) (omega (whole, add-law lo (pos j)))
+    (omega (whole, add-law lo (pos j), sub-law (sucℤ hi) lo, suc-law hi, part-law (sucℤ hi -ℤ lo))))))
