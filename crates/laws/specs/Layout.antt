@@ -12,9 +12,9 @@ use lib.Signed.{_≤ℤ_}
 use Rattle.definitions.specs.Tools.{Any, countUp, sum, size}
 use Rattle.definitions.specs.Board.{Board, Bounds, boundsOf, variables}
 use Rattle.definitions.specs.Encoding.{Atom, bool, order, selector, orders, selected, selections, atoms, width, first, number, N}
-use Rattle.laws.specs.Whole.{whole, add-law, sub-law, part-law}
+use Rattle.laws.specs.Whole.{whole, add-law, sub-law, suc-law, part-law}
 use Rattle.laws.specs.Lists.{length-flat-map, sum-take, length-countUp, countUp-append, countUp-shift, any-left, any-right, any-flatten, any-map, any-countUp}
-use Rattle.laws.specs.Ranges.{suc-law, size-law, upFrom-is}
+use Rattle.laws.specs.Runs.{range-shift}
 
 -- ---- variable by variable
 pub first-next : (B : Board) (x : ℕ) → x < length (B .bounds) → first B (suc x) ≡ first B x + width (boundsOf B x)
@@ -36,7 +36,7 @@ unfolding orders width
 orders-are B x =
     let b = boundsOf B x in
     let l = b .lo -ℤ pos 1 in
-    ap (map (order x)) (upFrom-is l (size (sucℤ (b .hi) -ℤ l)))
+    ap (map (order x)) (range-shift l (b .hi))
     ∙ map-map (order x) (λ i. l +ℤ pos i) (countUp 0 (size (sucℤ (b .hi) -ℤ l)))
     ∙ ap (λ z. map (λ i. order x (l +ℤ pos i)) (countUp 0 (size z))) (spread (b .lo) (b .hi))
 
@@ -107,14 +107,14 @@ Has B (selector j) = j < length (selections B)
 apart : (lo c : ℤ) → (lo -ℤ pos 1) ≤ℤ c → lo -ℤ pos 1 +ℤ pos (size (c -ℤ lo +ℤ pos 1)) ≡ c
 apart lo c h =
     let i = size (c -ℤ lo +ℤ pos 1) in
-    omega (whole, add-law (lo -ℤ pos 1) (pos i), sub-law lo (pos 1), size-law (c -ℤ lo +ℤ pos 1), add-law (c -ℤ lo) (pos 1), sub-law c lo, part-law (c -ℤ lo +ℤ pos 1))
+    omega (whole, add-law (lo -ℤ pos 1) (pos i), sub-law lo (pos 1), add-law (c -ℤ lo) (pos 1), sub-law c lo, part-law (c -ℤ lo +ℤ pos 1))
 
 within-width : (b : Bounds) (c : ℤ) → (b .lo -ℤ pos 1) ≤ℤ c → c ≤ℤ b .hi → size (c -ℤ b .lo +ℤ pos 1) < width b
 unfolding width
 within-width b c h k =
     let z = c -ℤ b .lo +ℤ pos 1 in
     let w = b .hi -ℤ b .lo +ℤ pos 2 in
-    omega (whole, sub-law (b .lo) (pos 1), size-law z, add-law (c -ℤ b .lo) (pos 1), sub-law c (b .lo), part-law z, size-law w, add-law (b .hi -ℤ b .lo) (pos 2), sub-law (b .hi) (b .lo), part-law w)
+    omega (whole, sub-law (b .lo) (pos 1), add-law (c -ℤ b .lo) (pos 1), sub-law c (b .lo), part-law z, add-law (b .hi -ℤ b .lo) (pos 2), sub-law (b .hi) (b .lo), part-law w)
 
 -- each stands in the list
 order-listed : (B : Board) (x : ℕ) (c : ℤ) → Has B (order x c) → Any (λ v. v ≡ order x c) (orders (boundsOf B) x)

@@ -14,3 +14,4 @@ pub mod Decide
 pub mod Search
 pub mod Readings
 pub mod Ahead
+pub mod Mentions
