@@ -1,17 +1,17 @@
 -- The tuple rule for any number of terms, whatever says that a term is at most a bound (000, Proposition 1). Assumes nothing.
-use mathlib.Core.Path.{_≡_, refl}
-use mathlib.Core.Logic.{_↔_, _⊎_, inl, inr}
-use mathlib.Core.List.{List, [], _∷_, map, zipWith, flatten}
-use Prim.Native.Nat.{ℕ, zero, suc, _+_}
+use mathlib.Core.Path.{_≡_}
+use mathlib.Core.Logic.{_↔_, inl, inr}
+use mathlib.Core.List.{List, [], _∷_, map, zipWith}
+use Prim.Native.Nat.{ℕ, zero, suc}
 use lib.Dec.{leb·suc-zero}
 use lib.ListN.{length}
 use lib.IntN.{ℤ, pos, negsuc, _+ℤ_, _-ℤ_}
 use lib.Signed.{_≤ℤ_, _<ℤ_}
-use Rattle.definitions.specs.Tools.{All, Any, sumZ, range}
+use Rattle.definitions.specs.Tools.{All, Any, sumZ}
 use Rattle.definitions.specs.Board.{Bounds}
 use Rattle.definitions.specs.Encoding.{tuples}
 use Rattle.laws.specs.Whole.{whole, add-law, sub-law, le-or-lt}
-use Rattle.laws.specs.Lists.{all-every, all-impl, all-map, map-all, all-flatten, flatten-all}
+use Rattle.laws.specs.Lists.{all-every, all-impl, all-map, map-all}
 use Rattle.demands.specs.Ranges.{all-over}
 
 -- bᵢ is from (least of term i) - 1 to (greatest of term i)
