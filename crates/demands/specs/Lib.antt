@@ -1,0 +1,4 @@
+pub mod Ranges
+pub mod Truth
+pub mod Tuples
+pub mod Rule

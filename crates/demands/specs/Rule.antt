@@ -1,0 +1,135 @@
+-- A comparison's clauses say the comparison (000, Proposition 1; one empty clause where it says nothing). Assumes nothing.
+use mathlib.Core.Path.{_≡_, refl, sym}
+use mathlib.Core.Logic.{_↔_, _≢_, inl, inr}
+use mathlib.Core.Bool.{Bool, true, false}
+use mathlib.Core.List.{List, [], _∷_, map, zipWith, map-map}
+use Prim.Native.Nat.{ℕ, suc}
+use native.Mathlib.Nat.{mul-le-mul-left}
+use lib.Dec.{T, T-not, not-T}
+use lib.IntN.{ℤ, pos, negsuc, _-ℤ_, _*ℤ_}
+use lib.Signed.{leZ, ltZ, _≤ℤ_, _<ℤ_}
+use Rattle.definitions.specs.Tools.{All, Any, floor, ceil, sumZ}
+use Rattle.definitions.specs.Board.{Bounds, Term, Comparison}
+use Rattle.definitions.specs.Encoding.{Atom, SatLiteral, SatClause, order, minus, termBounds, least, tuplesOf, sharp, clausesUnder}
+use Rattle.definitions.specs.Meaning.{Assignment, satisfies, compares}
+use Rattle.laws.specs.Whole.{whole, mul-law, mul-mono, le-in, ne-in, part-law}
+use Rattle.laws.specs.Division.{below-floor, not-below-ceil, floor-within, ceil-within}
+use Rattle.laws.specs.Lists.{all-every, all-impl, all-map, map-all}
+use Rattle.demands.specs.Truth.{Satisfied, Tells}
+use Rattle.demands.specs.Tuples.{Bounded, tuple-rule, low-sum}
+
+-- ---- (ax ≤ b)^#: the term lies within its bounds, and its literal says ax ≤ b
+falls : (a x y : ℤ) → a <ℤ pos 0 → x ≤ℤ y → (a *ℤ y) ≤ℤ (a *ℤ x)
+falls (pos n) x y s h = absurd (omega whole)
+falls (negsuc n) x y s h = omega (whole, mul-law (negsuc n) x, mul-law (negsuc n) y, mul-le-mul-left (suc n) (le-in x y h))
+
+rises : (a x y : ℤ) → pos 0 <ℤ a → x ≤ℤ y → (a *ℤ x) ≤ℤ (a *ℤ y)
+rises (pos n) x y s h = mul-mono n x y h
+rises (negsuc n) x y s h = absurd (omega whole)
+
+module _ (of : ℕ → Bounds) (v : Atom → Bool) (a : Assignment) where
+  -- a coefficient that is not 0, of a variable whose value v tells
+  abbrev pub Told : Term → Type 0
+  Told t = (t .coef ≢ pos 0) × Tells of v (t .var) (a .α (t .var))
+
+  abbrev value : Term → ℤ
+  value t = t .coef *ℤ a .α (t .var)
+
+  abbrev True : SatLiteral → Type 0
+  True l = T (satisfies v l)
+
+  abbrev Says : Term → Type 0
+  Says = Bounded (λ t. termBounds of t .lo) (λ t. termBounds of t .hi) value True sharp
+
+  says : (t : Term) → Told t → Says t
+  unfolding termBounds sharp satisfies
+  says t h = go (ltZ (pos 0) n) refl
+    where
+      n : ℤ
+      n = t .coef
+
+      x : Bounds
+      x = of (t .var)
+
+      told : Tells of v (t .var) (a .α (t .var))
+      told = h .1
+
+      go : (s : Bool) → ltZ (pos 0) (t .coef) ≡ s → Says t
+      go true e =
+          let p : pos 0 <ℤ n = omega whole in
+          record {
+            least = rw e (rises n _ _ p (told .least));
+            most = rw e (rises n _ _ p (told .most));
+            says = λ b l u.
+                let c = floor-within n (x .lo) (x .hi) b p (rw e at l) (rw e at u) in
+                let s = told .says (floor b n) (c .0) (c .1) in
+                let w = below-floor n b (a .α (t .var)) p in
+                rw e (λ k. w .1 (s .0 k), λ k. s .1 (w .0 k));
+          }
+      go false e =
+          let p : n <ℤ pos 0 = omega (whole, ne-in n (pos 0) (h .0), part-law n) in
+          record {
+            least = rw e (falls n _ _ p (told .most));
+            most = rw e (falls n _ _ p (told .least));
+            says = λ b l u.
+                let c = ceil-within n (x .lo) (x .hi) b p (rw e at l) (rw e at u) in
+                let s = told .says (ceil b n -ℤ pos 1) (c .0) (c .1) in
+                let w = not-below-ceil n b (a .α (t .var)) p in
+                let m = v (order (t .var) (ceil b n -ℤ pos 1)) in
+                rw e (λ k. w .1 (λ n. T-not m k (s .1 n)), λ k. not-T m (λ n. w .0 k (s .0 n)));
+          }
+
+  -- all clauses hold exactly if the comparison does
+  pub proposition-1 : (q : Comparison) → All Told (q .terms) → Satisfied v (clausesUnder [] of q) ↔ T (compares a q)
+  unfolding clausesUnder tuplesOf least compares
+  proposition-1 q h = go (leZ (least of ts) (q .constant)) refl
+    where
+      ts : List Term
+      ts = q .terms
+
+      sum : ℤ
+      sum = sumZ (map value ts)
+
+      said : All Says ts
+      said = all-impl Told Says says ts h
+
+      go : (s : Bool) → leZ (least of ts) (q .constant) ≡ s → Satisfied v (clausesUnder [] of q) ↔ T (leZ sum (q .constant))
+      go true e =
+          let rule = tuple-rule _ _ value True sharp ts (q .constant) said (omega whole) in
+          rw e (
+            λ s. rule .0 (map-all (Any True) (zipWith sharp ts) (tuplesOf of q) s) .le,
+            λ s. all-map (Any True) (zipWith sharp ts) (tuplesOf of q) (rule .1 (record { le = s })),
+          )
+      go false e =
+          let least = low-sum _ _ value True sharp ts said in
+          rw e (λ s. absurd (s .0), λ s. absurd (let k : sum ≤ℤ q .constant = record { le = s } in omega (whole, least)))
+
+-- ---- led by a negated selector: where that is true
+led-by : (l : SatLiteral) (of : ℕ → Bounds) (q : Comparison) → clausesUnder (l ∷ []) of q ≡ map (λ c. l ∷ c) (clausesUnder [] of q)
+unfolding clausesUnder
+led-by l of q = go (leZ (least of (q .terms)) (q .constant)) refl
+  where
+    go : (s : Bool) → leZ (least of (q .terms)) (q .constant) ≡ s → clausesUnder (l ∷ []) of q ≡ map (λ c. l ∷ c) (clausesUnder [] of q)
+    go true e = rw e (sym (map-map (λ c. l ∷ c) (zipWith sharp (q .terms)) (tuplesOf of q)))
+    go false e = rw e refl
+
+pub led : (of : ℕ → Bounds) (v : Atom → Bool) (j : Atom) (q : Comparison) → Satisfied v (clausesUnder (minus j ∷ []) of q) ↔ (T (v j) → Satisfied v (clausesUnder [] of q))
+unfolding satisfies
+led of v j q = rw (led-by (minus j) of q) (to, λ f. all-map Holds (λ c. minus j ∷ c) cs (from (v j) refl f))
+  where
+    cs : List SatClause
+    cs = clausesUnder [] of q
+
+    Holds : SatClause → Type 0
+    Holds c = Any (λ l. T (satisfies v l)) c
+
+    to : Satisfied v (map (λ c. minus j ∷ c) cs) → T (v j) → Satisfied v cs
+    to a t = all-impl (λ c. Holds (minus j ∷ c)) Holds past cs (map-all Holds (λ c. minus j ∷ c) cs a)
+      where
+        past : (c : SatClause) → Holds (minus j ∷ c) → Holds c
+        past c (inl n) = absurd (T-not (v j) n t)
+        past c (inr k) = k
+
+    from : (s : Bool) → v j ≡ s → (T s → Satisfied v cs) → All (λ c. Holds (minus j ∷ c)) cs
+    from true e f = all-impl Holds (λ c. Holds (minus j ∷ c)) (λ c k. inr k) cs (f tt)
+    from false e f = all-every (λ c. Holds (minus j ∷ c)) (λ c. inl (rw e tt)) cs
