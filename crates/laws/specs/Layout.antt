@@ -14,7 +14,7 @@ use Rattle.definitions.specs.Board.{Board, Bounds, boundsOf, variables}
 use Rattle.definitions.specs.Encoding.{Atom, bool, order, selector, orders, selected, selections, atoms, width, first, number, N}
 use Rattle.laws.specs.Whole.{whole, add-law, sub-law, suc-law, part-law}
 use Rattle.laws.specs.Lists.{length-flat-map, sum-take, length-countUp, countUp-append, countUp-shift, any-left, any-right, any-flatten, any-map, any-countUp}
-use Rattle.laws.specs.Runs.{range-shift}
+use Rattle.laws.specs.Ranges.{range-shift}
 
 -- ---- variable by variable
 pub first-next : (B : Board) (x : ℕ) → x < length (B .bounds) → first B (suc x) ≡ first B x + width (boundsOf B x)

@@ -9,9 +9,9 @@ use lib.Signed.{_≤ℤ_, _<ℤ_}
 use Rattle.definitions.specs.Tools.{if_then_else_, _&&_, All, countUp, sumZ, size}
 use Rattle.definitions.specs.Board.{Bounds}
 use Rattle.definitions.specs.Encoding.{tuples}
-use Rattle.laws.specs.Whole.{whole, add-law, sub-law, part-law}
+use Rattle.laws.specs.Whole.{whole, add-law, sub-law, suc-law, part-law}
 use Rattle.laws.specs.Runs.{over, over-none, over-same, over-window, map-over}
-use Rattle.laws.specs.Ranges.{suc-law, upFrom-is}
+use Rattle.laws.specs.Ranges.{range-shift}
 use Rattle.laws.specs.Offsets.{offsets, beginning}
 
 abbrev pub Ordered : Bounds → Type 0
@@ -34,7 +34,7 @@ from r rs s k = map (λ bs. (r .lo +ℤ pos k) ∷ bs) (tuples rs (s -ℤ (r .lo
 tuples-over : (r : Bounds) (rs : List Bounds) (s : ℤ) → tuples (r ∷ rs) s ≡ over (from r rs s) 0 (size (sucℤ (r .hi) -ℤ r .lo))
 unfolding tuples over
 tuples-over r rs s =
-    ap (λ l. flatten (map (λ b. map (λ bs. b ∷ bs) (tuples rs (s -ℤ b))) l)) (upFrom-is (r .lo) (size (sucℤ (r .hi) -ℤ r .lo)))
+    ap (λ l. flatten (map (λ b. map (λ bs. b ∷ bs) (tuples rs (s -ℤ b))) l)) (range-shift (r .lo) (r .hi))
     ∙ ap flatten (map-map (λ b. map (λ bs. b ∷ bs) (tuples rs (s -ℤ b))) (λ k. r .lo +ℤ pos k) (countUp 0 (size (sucℤ (r .hi) -ℤ r .lo))))
 
 -- a sum below the least

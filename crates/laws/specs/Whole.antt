@@ -8,7 +8,7 @@ use native.Mathlib.Nat.{mul-le-mul, mul-le-mul-left, div-le-self}
 use mathlib.Core.Logic.{_≢_, _⊎_, inl, inr, ⊎-elim}
 use native.Mathlib.Omega.{arith}
 use lib.Dec.{T, leb, ltb, leb→le, le→leb, ltb→lt, lt→ltb, nleb→lt, nltb→le, lit<}
-use lib.IntN.{ℤ, pos, negsuc, negℤ, natAbs, subℕ, _+ℤ_, _-ℤ_, _*ℤ_, +ℤ-idl}
+use lib.IntN.{ℤ, pos, negsuc, negℤ, natAbs, subℕ, sucℤ, _+ℤ_, _-ℤ_, _*ℤ_, +ℤ-idl}
 use lib.Signed.{mag, ltZ, leZ, quotZ, _≤ℤ_, _<ℤ_}
 use mir.Syntax.{Width, w8, w16, w32, w64, w128}
 use mir.Val.{SFits, bits, hbits, toZ, ofZ}
@@ -86,6 +86,11 @@ neg-law (negsuc n) = (refl, refl)
 
 pub sub-law : (a b : ℤ) → pp (a -ℤ b) + (nn a + pp b) ≡ (pp a + nn b) + nn (a -ℤ b)
 sub-law a b = omega (arith, add-law a (negℤ b), neg-law b)
+
+pub suc-law : (a : ℤ) → pp (sucℤ a) + nn a ≡ suc (pp a) + nn (sucℤ a)
+suc-law (pos a) = omega arith
+suc-law (negsuc zero) = omega arith
+suc-law (negsuc (suc a)) = omega arith
 
 -- a product, in the products of the parts
 pub mul-law : (a b : ℤ) → (pp (a *ℤ b) ≡ pp a * pp b + nn a * nn b) × (nn (a *ℤ b) ≡ pp a * nn b + nn a * pp b)
