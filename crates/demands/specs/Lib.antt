@@ -3,3 +3,4 @@ pub mod Truth
 pub mod Tuples
 pub mod Rule
 pub mod Order
+pub mod Selectors

@@ -15,7 +15,7 @@ use Rattle.laws.specs.Whole.{whole, add-law, sub-law, part-law, le-or-lt}
 use Rattle.laws.specs.Lists.{all-map, map-all}
 use Rattle.laws.specs.Ranges.{suc-law, size-law, all-range}
 use Rattle.demands.specs.Ranges.{range-all}
-use Rattle.demands.specs.Truth.{Satisfied, Tells}
+use Rattle.demands.specs.Truth.{Satisfied, Tells, only}
 
 -- ---- the least true number
 record Least (p : ℤ → Bool) (c hi z : ℤ) : Type 0 where
@@ -58,10 +58,6 @@ record Rising (p : ℤ → Bool) (lo hi : ℤ) : Type 0 where
   before : ¬ T (p (lo -ℤ pos 1))
   last : T (p hi)
   step : (c : ℤ) → lo ≤ℤ c → c ≤ℤ hi → T (p (c -ℤ pos 1)) → T (p c)
-
-only : {P : Type 0} → P ⊎ ⊥ → P
-only (inl h) = h
-only (inr h) = absurd h
 
 if-then : (b c : Bool) → (T (not b) ⊎ (T c ⊎ ⊥)) ↔ (T b → T c)
 if-then true c = (λ h t. elim h [ inl k ↦ absurd k | inr k ↦ only k ], λ f. inr (inl (f tt)))
