@@ -5,6 +5,7 @@ use mathlib.Core.Bool.{Bool, true, false, _&&_}
 use mathlib.Core.List.{List, [], _∷_, _++_, map, flatten}
 use Prim.Native.Nat.{ℕ, suc, _+_, _≤_, _<_}
 use native.Mathlib.Nat.{add-zero}
+use native.Mathlib.Numerals.{add-one}
 use native.Mathlib.Omega.{arith}
 use lib.ListN.{length, getD, drop, drop-of-length-le}
 use lib.Seq.{drop-cons}
@@ -37,8 +38,14 @@ module _ {A : Type 0} (n : ℕ) (test : A → Bool) where
   unfolding flatten
   seek-pieces i l ls = seek-append i l (flatten ls)
 
-  pub seek-step : (d : A) (l : List A) (i : ℕ) → i < length l → seek i (drop i l) ≡ (if test (getD l i d) then seek (suc i) (drop (suc i) l) else refused n i)
+  seek-step : (d : A) (l : List A) (i : ℕ) → i < length l → seek i (drop i l) ≡ (if test (getD l i d) then seek (suc i) (drop (suc i) l) else refused n i)
   seek-step d l i h = ap (seek i) (drop-cons l i d h)
+
+  pub seek-fails : (d : A) (l : List A) (i : ℕ) → i < length l → test (getD l i d) ≡ false → seek i (drop i l) ≡ refused n i
+  seek-fails d l i h e = seek-step d l i h ∙ ap (λ b. if b then seek (suc i) (drop (suc i) l) else refused n i) e
+
+  pub seek-goes : (d : A) (l : List A) (i : ℕ) → i < length l → test (getD l i d) ≡ true → seek i (drop i l) ≡ seek (i + 1) (drop (i + 1) l)
+  seek-goes d l i h e = rw add-one (seek-step d l i h ∙ ap (λ b. if b then seek (suc i) (drop (suc i) l) else refused n i) e)
 
   pub seek-end : (l : List A) (i : ℕ) → length l ≤ i → seek i (drop i l) ≡ done tt
   seek-end l i h = ap (seek i) (drop-of-length-le l h)
