@@ -190,6 +190,21 @@ le-or-lt a b = go (leZ a b) refl
 pub mul-neg : (a x : ℤ) → a *ℤ negℤ x ≡ negℤ a *ℤ x
 mul-neg a x = omega (whole, mul-law a (negℤ x), mul-law (negℤ a) x, ap (λ (t : ℕ). pp a * t) (neg-law x .0), ap (λ (t : ℕ). pp a * t) (neg-law x .1), ap (λ (t : ℕ). nn a * t) (neg-law x .0), ap (λ (t : ℕ). nn a * t) (neg-law x .1), ap (λ (t : ℕ). t * pp x) (neg-law a .0), ap (λ (t : ℕ). t * pp x) (neg-law a .1), ap (λ (t : ℕ). t * nn x) (neg-law a .0), ap (λ (t : ℕ). t * nn x) (neg-law a .1))
 
+-- tests, from orders
+pub lt-test : (a b : ℤ) → a <ℤ b → ltZ a b ≡ true
+lt-test a b h = go (ltZ a b) refl
+  where
+    go : (t : Bool) → ltZ a b ≡ t → t ≡ true
+    go true e = refl
+    go false e = absurd (omega whole)
+
+pub ge-test : (a b : ℤ) → b ≤ℤ a → ltZ a b ≡ false
+ge-test a b h = go (ltZ a b) refl
+  where
+    go : (t : Bool) → ltZ a b ≡ t → t ≡ false
+    go true e = absurd (omega whole)
+    go false e = refl
+
 -- the divisor's bits are not 0
 half-below : (w : Width) → 2 ^ hbits w < 2 ^ bits w
 half-below w8 = lit< tt

@@ -40,3 +40,4 @@ pub enum At {
 }
 
 pub mod division;
+pub mod terms;

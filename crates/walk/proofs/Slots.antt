@@ -1,0 +1,118 @@
+-- What the code of a slot computes fits its type. Assumes nothing.
+use mathlib.Core.Path.{_≡_, refl, sym, ap, _∙_}
+use mathlib.Core.Logic.{⊎-elim}
+use Prim.Native.Nat.{ℕ, _+_, _*_, _≤_, _<_}
+use native.Mathlib.Omega.{arith}
+use lib.IntN.{ℤ, pos, natAbs, _+ℤ_, _-ℤ_, _*ℤ_}
+use lib.Signed.{ltZ, _≤ℤ_, _<ℤ_}
+use mir.Syntax.{w32}
+use mir.Val.{SFits, toZ}
+use mir.Facts.{toZ-ofZ, toZ-pos}
+use Rattle.definitions.specs.Tools.{floor, ceil, neg}
+use Rattle.laws.specs.Whole.{whole, sfits, mag-law, add-law, sub-law, part-law, abs-law, abs-le, abs-fits, abs-mul-le, abs-sub, lt-test, ge-test, le-or-lt}
+use Rattle.laws.specs.Division.{floor-within, ceil-within}
+use Rattle.laws.specs.Ranges.{size-law}
+use Rattle.walk.specs.declared.Slot.{Slot}
+use Rattle.walk.specs.Slots.{FairSlot, valueBounds, slotBounds, orderNumber, slotLiteral}
+
+pub small : {a : ℤ} → natAbs a ≤ 2000000 → SFits w32 a
+small h = abs-fits (omega arith)
+
+pub minus-fits : {z : ℤ} {n : ℕ} → z ≡ pos n → SFits w32 z → SFits w32 (pos 0 -ℤ z)
+minus-fits {z} e f = sfits (omega (whole, sub-law (pos 0) z, mag-law z, f .sfits))
+
+module _ (s : Slot) (f : FairSlot s) where
+  pub coefficient-fits : SFits w32 (s .coefficient)
+  coefficient-fits = small (omega arith)
+
+  pub lower-fits : SFits w32 (s .lower)
+  lower-fits = small (omega arith)
+
+  pub upper-fits : SFits w32 (s .upper)
+  upper-fits = small (omega arith)
+
+  pub first-is : toZ w32 (s .first) ≡ pos (s .first)
+  first-is = toZ-pos w32 (omega arith)
+
+  at-lower : natAbs (s .coefficient *ℤ s .lower) ≤ 262144
+  at-lower = abs-mul-le (s .coefficient) (s .lower) 64 4096 (f .few) (f .lowest)
+
+  at-upper : natAbs (s .coefficient *ℤ s .upper) ≤ 262144
+  at-upper = abs-mul-le (s .coefficient) (s .upper) 64 4096 (f .few) (f .highest)
+
+  pub at-lower-fits : SFits w32 (s .coefficient *ℤ s .lower)
+  at-lower-fits = small (omega (arith, at-lower))
+
+  pub at-upper-fits : SFits w32 (s .coefficient *ℤ s .upper)
+  at-upper-fits = small (omega (arith, at-upper))
+
+  pub below-lower-fits : SFits w32 (s .coefficient *ℤ s .lower -ℤ pos 1)
+  below-lower-fits = small (omega (arith, at-lower, abs-sub (s .coefficient *ℤ s .lower) (pos 1)))
+
+  pub below-upper-fits : SFits w32 (s .coefficient *ℤ s .upper -ℤ pos 1)
+  below-upper-fits = small (omega (arith, at-upper, abs-sub (s .coefficient *ℤ s .upper) (pos 1)))
+
+pub ruleset slot-fits = (toZ-ofZ, coefficient-fits, lower-fits, upper-fits, at-lower-fits, at-upper-fits, below-lower-fits, below-upper-fits)
+
+pub rising : (s : Slot) → pos 0 <ℤ s .coefficient
+    → (s .coefficient *ℤ s .lower -ℤ pos 1 ≡ slotBounds s .lo) × (s .coefficient *ℤ s .upper ≡ slotBounds s .hi)
+unfolding slotBounds valueBounds
+rising s h = rw (lt-test (pos 0) (s .coefficient) h) (refl, refl)
+
+pub falling : (s : Slot) → s .coefficient ≤ℤ pos 0
+    → (s .coefficient *ℤ s .upper -ℤ pos 1 ≡ slotBounds s .lo) × (s .coefficient *ℤ s .lower ≡ slotBounds s .hi)
+unfolding slotBounds valueBounds
+falling s h = rw (ge-test (pos 0) (s .coefficient) h) (refl, refl)
+
+-- ---- the number of p(x,c)
+module _ (s : Slot) (c : ℤ) (f : FairSlot s) (low : (s .lower -ℤ pos 1) ≤ℤ c) (high : c ≤ℤ s .upper) where
+  pub inside-fits : SFits w32 c
+  inside-fits = small (abs-le c (omega (whole, sub-law (s .lower) (pos 1), abs-law (s .lower), abs-law (s .upper))))
+
+  pub from-lower-fits : SFits w32 (c -ℤ s .lower)
+  from-lower-fits = small (abs-le (c -ℤ s .lower) (omega (whole, sub-law c (s .lower), sub-law (s .lower) (pos 1), abs-law (s .lower), abs-law (s .upper))))
+
+  pub index-fits : SFits w32 (c -ℤ s .lower +ℤ pos 1)
+  index-fits = small (abs-le (c -ℤ s .lower +ℤ pos 1) (omega (whole, sub-law c (s .lower), add-law (c -ℤ s .lower) (pos 1), sub-law (s .lower) (pos 1), abs-law (s .lower), abs-law (s .upper))))
+
+  pub number-is : pos (s .first) +ℤ (c -ℤ s .lower +ℤ pos 1) ≡ pos (orderNumber s c)
+  unfolding orderNumber
+  number-is = omega (whole, add-law (pos (s .first)) (c -ℤ s .lower +ℤ pos 1), size-law (c -ℤ s .lower +ℤ pos 1), part-law (c -ℤ s .lower +ℤ pos 1), sub-law c (s .lower), add-law (c -ℤ s .lower) (pos 1), sub-law (s .lower) (pos 1))
+
+  pub number-below : orderNumber s c ≤ 10008193
+  unfolding orderNumber
+  number-below = omega (whole, size-law (c -ℤ s .lower +ℤ pos 1), part-law (c -ℤ s .lower +ℤ pos 1), sub-law c (s .lower), add-law (c -ℤ s .lower) (pos 1), abs-law (s .lower), abs-law (s .upper))
+
+  pub number-fits : SFits w32 (pos (s .first) +ℤ (c -ℤ s .lower +ℤ pos 1))
+  number-fits = rw number-is (abs-fits (omega (arith, number-below)))
+
+pub ruleset number-fits-all = (toZ-ofZ, lower-fits, first-is, from-lower-fits, index-fits, number-fits)
+
+-- ---- the literal at a bound of the slot's range
+pub slot-near : (s : Slot) → FairSlot s → (natAbs (slotBounds s .lo) ≤ 262145) × (natAbs (slotBounds s .hi) ≤ 262144)
+slot-near s f = ⊎-elim (λ h. near (s .upper) (s .lower) (f .highest) (f .lowest) (falling s h)) (λ h. near (s .lower) (s .upper) (f .lowest) (f .highest) (rising s h)) (le-or-lt (s .coefficient) (pos 0))
+  where
+    near : (x y : ℤ) → natAbs x ≤ 4096 → natAbs y ≤ 4096 → (s .coefficient *ℤ x -ℤ pos 1 ≡ slotBounds s .lo) × (s .coefficient *ℤ y ≡ slotBounds s .hi)
+        → (natAbs (slotBounds s .lo) ≤ 262145) × (natAbs (slotBounds s .hi) ≤ 262144)
+    near x y hx hy e =
+        let at-x = abs-mul-le (s .coefficient) x 64 4096 (f .few) hx in
+        let at-y = abs-mul-le (s .coefficient) y 64 4096 (f .few) hy in
+        omega (arith, ap natAbs (e .0), ap natAbs (e .1), abs-sub (s .coefficient *ℤ x) (pos 1))
+
+module _ (s : Slot) (b : ℤ) (f : FairSlot s) (low : slotBounds s .lo ≤ℤ b) (high : b ≤ℤ slotBounds s .hi) where
+  pub bound-near : natAbs b ≤ 262145
+  bound-near = abs-le b (omega (whole, slot-near s f, abs-law (slotBounds s .lo), abs-law (slotBounds s .hi)))
+
+  pub floor-inside : (c : ℤ) → c ≡ floor b (s .coefficient) → pos 0 <ℤ s .coefficient → ((s .lower -ℤ pos 1) ≤ℤ c) × (c ≤ℤ s .upper)
+  floor-inside c e h = let r = rising s h in rw e (floor-within (s .coefficient) (s .lower) (s .upper) b h (rw (r .0) low) (rw (r .1) high))
+
+  pub ceil-inside : (c : ℤ) → c ≡ ceil b (s .coefficient) → s .coefficient <ℤ pos 0 → ((s .lower -ℤ pos 1) ≤ℤ (c -ℤ pos 1)) × ((c -ℤ pos 1) ≤ℤ s .upper)
+  ceil-inside c e h = let r = falling s (omega whole) in rw e (ceil-within (s .coefficient) (s .lower) (s .upper) b h (rw (r .0) low) (rw (r .1) high))
+
+pub literal-rising : (s : Slot) (b : ℤ) → pos 0 <ℤ s .coefficient → slotLiteral s b ≡ pos (orderNumber s (floor b (s .coefficient)))
+unfolding slotLiteral
+literal-rising s b h = rw (lt-test (pos 0) (s .coefficient) h)
+
+pub literal-falling : (s : Slot) (b : ℤ) → s .coefficient <ℤ pos 0 → slotLiteral s b ≡ neg (orderNumber s (ceil b (s .coefficient) -ℤ pos 1))
+unfolding slotLiteral
+literal-falling s b h = rw (ge-test (pos 0) (s .coefficient) (omega whole))
