@@ -15,3 +15,5 @@ pub mod Search
 pub mod Readings
 pub mod Ahead
 pub mod Mentions
+pub mod Counting
+pub mod Terms

@@ -15,6 +15,7 @@ use Rattle.laws.specs.Lists.{all-append, all-flatten, all-impl, all-map,
 use Rattle.laws.specs.Ranges.{all-range}
 use Rattle.laws.specs.Division.{floor-within, ceil-within}
 use Rattle.laws.specs.Admitted.{Admitted, GoodBounds, GoodTerm, GoodLiteral, GoodComparison, GoodClause}
+use Rattle.laws.specs.Terms.{ranges}
 use Rattle.laws.specs.Pieces.{Piece, pieceClauses, compared, lineFrom, lone, opening, piecesFrom, used, selected-count, rules-pieces}
 use Rattle.laws.specs.Layout.{Has, number-range}
 
@@ -52,20 +53,17 @@ module _ (B : Board) where
       r : Bounds
       r = boundsOf B (t .var)
 
-      ranges : Bool → Bounds
-      ranges q = if q then record { lo = t .coef *ℤ r .lo; hi = t .coef *ℤ r .hi } else record { lo = t .coef *ℤ r .hi; hi = t .coef *ℤ r .lo }
+      ends : Bool → Bounds
+      ends q = if q then record { lo = t .coef *ℤ r .lo; hi = t .coef *ℤ r .hi } else record { lo = t .coef *ℤ r .hi; hi = t .coef *ℤ r .lo }
 
-      go : (q : Bool) → ltZ (pos 0) (t .coef) ≡ q → (ranges q .lo -ℤ pos 1) ≤ℤ b → b ≤ℤ ranges q .hi →
+      go : (q : Bool) → ltZ (pos 0) (t .coef) ≡ q → (ends q .lo -ℤ pos 1) ≤ℤ b → b ≤ℤ ends q .hi →
           Mentions (if q then plus (order (t .var) (floor b (t .coef))) else minus (order (t .var) (ceil b (t .coef) -ℤ pos 1)))
       go true e l u = let w = floor-within (t .coef) (r .lo) (r .hi) b (omega whole) l u in (g .known, w .0, w .1)
       go false e l u =
           let w = ceil-within (t .coef) (r .lo) (r .hi) b (omega (whole, ne-in (t .coef) (pos 0) (g .some))) l u in
           (g .known, w .0, w .1)
 
-  abbrev ranges : List Term → List Bounds
-  ranges ts = map (λ t. record { lo = termBounds (boundsOf B) t .lo -ℤ pos 1; hi = termBounds (boundsOf B) t .hi }) ts
-
-  tuple-mentions : (ts : List Term) (bs : List ℤ) → All (GoodTerm (length (B .bounds))) ts → Within (ranges ts) bs → All Mentions (zipWith sharp ts bs)
+  tuple-mentions : (ts : List Term) (bs : List ℤ) → All (GoodTerm (length (B .bounds))) ts → Within (ranges (boundsOf B) ts) bs → All Mentions (zipWith sharp ts bs)
   unfolding zipWith
   tuple-mentions [] bs g w = tt
   tuple-mentions (t ∷ ts) [] g w = tt
@@ -81,9 +79,9 @@ module _ (B : Board) where
       go : (b : Bool) → All (All Mentions) (if b then map clause (tuplesOf (boundsOf B) q) else lead ∷ [])
       go true =
           all-map (All Mentions) clause (tuplesOf (boundsOf B) q)
-          (all-impl (Within (ranges (q .terms))) (λ bs. All Mentions (clause bs))
+          (all-impl (Within (ranges (boundsOf B) (q .terms))) (λ bs. All Mentions (clause bs))
           (λ bs w. all-append Mentions lead (zipWith sharp (q .terms) bs) a (tuple-mentions (q .terms) bs (g .terms) w))
-          (tuplesOf (boundsOf B) q) (tuples-within (ranges (q .terms)) _))
+          (tuplesOf (boundsOf B) q) (tuples-within (ranges (boundsOf B) (q .terms)) _))
       go false = (a, tt)
 
   -- ---- the record's clauses, whose selectors are those from j
