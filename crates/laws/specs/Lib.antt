@@ -17,3 +17,5 @@ pub mod Ahead
 pub mod Mentions
 pub mod Counting
 pub mod Terms
+pub mod Sizes
+pub mod Fits
