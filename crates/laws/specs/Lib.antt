@@ -15,3 +15,7 @@ pub mod Search
 pub mod Readings
 pub mod Ahead
 pub mod Mentions
+pub mod Counting
+pub mod Terms
+pub mod Sizes
+pub mod Fits

@@ -83,6 +83,10 @@ module _ {A : Type 0} (P : A → Type 0) where
   any-map f (x ∷ s) (inl h) = inl h
   any-map f (x ∷ s) (inr h) = inr (any-map f s h)
 
+pub map-same : {A B : Type 0} (f g : A → B) (l : List A) → All (λ x. f x ≡ g x) l → map f l ≡ map g l
+map-same f g [] a = refl
+map-same f g (x ∷ l) a = ap₂ _∷_ (a .0) (map-same f g l (a .1))
+
 -- ---- lists joined
 module _ {A : Type 0} where
   pub flatten-append : (k l : List (List A)) → flatten (k ++ l) ≡ flatten k ++ flatten l
@@ -122,6 +126,10 @@ module _ {A : Type 0} (f : A → ℕ) where
   sum-take d [] i h = absurd (omega arith)
   sum-take d (x ∷ l) zero h = omega arith
   sum-take d (x ∷ l) (suc i) h = let r : i < length l = omega arith in omega (arith, sum-take d l i r)
+
+  pub sum-same : (m : ℕ) (l : List A) → All (λ x. f x ≡ m) l → sum (map f l) ≡ length l * m
+  sum-same m [] a = omega arith
+  sum-same m (x ∷ l) a = omega (arith, a .0, sum-same m l (a .1))
 
   -- each entry at most m
   pub sum-most : (m : ℕ) (l : List A) → All (λ x. f x ≤ m) l → sum (map f l) ≤ length l * m
@@ -168,3 +176,12 @@ countUp-all P i (suc n) a j l u =
       | yes h ↦ countUp-all P (suc i) n (a .1) j h (omega arith)
       | no h ↦ rw (← same i j l h) (a .0)
     ]
+
+map-later : {A : Type 0} (f : ℕ → A) (i n : ℕ) → map f (countUp (suc i) n) ≡ map (λ j. f (suc j)) (countUp i n)
+map-later f i zero = refl
+map-later f i (suc n) = ap (λ l. f (suc i) ∷ l) (map-later f (suc i) n)
+
+-- the entries, place by place
+pub map-at : {A : Type 0} (d : A) (l : List A) → map (λ i. getD l i d) (countUp 0 (length l)) ≡ l
+map-at d [] = refl
+map-at d (x ∷ l) = ap (λ r. x ∷ r) (map-later (λ i. getD (x ∷ l) i d) 0 (length l) ∙ map-at d l)

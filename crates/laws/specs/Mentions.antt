@@ -1,5 +1,5 @@
 -- The clauses of an admitted board speak of the board's own atoms, so that each literal's number is from 1 to N.
-use mathlib.Core.Path.{_≡_, refl}
+use mathlib.Core.Path.{_≡_, refl, ap}
 use mathlib.Core.Bool.{Bool, true, false, not}
 use mathlib.Core.List.{List, [], _∷_, _++_, map, flatten, zipWith}
 use Prim.Native.Nat.{ℕ, suc, _+_, _≤_, _<_}
@@ -9,37 +9,19 @@ use lib.IntN.{ℤ, pos, natAbs, _-ℤ_, _*ℤ_}
 use lib.Signed.{leZ, ltZ, _≤ℤ_}
 use Rattle.definitions.specs.Tools.{All, if_then_else_, floor, ceil, countUp, range}
 use Rattle.definitions.specs.Board.{Board, Bounds, Term, Comparison, Clause, isTrue, isFalse, atMost, boundsOf, variables}
-use Rattle.definitions.specs.Encoding.{Atom, order, selector, SatLiteral, SatClause, plus, minus, termBounds, least, tuples, tuplesOf, sharp, clausesUnder, axiomsOf, comparisons, selected, axioms, rules, clauses, selections, number, literalNumber, N}
+use Rattle.definitions.specs.Encoding.{Atom, order, SatLiteral, SatClause, plus, minus, termBounds, least, tuplesOf, sharp, clausesUnder, axiomsOf, comparisons, selected, axioms, rules, clauses, selections, number, literalNumber, N}
 use Rattle.laws.specs.Whole.{whole, sub-law, abs-neg, ne-in}
 use Rattle.laws.specs.Lists.{all-append, all-flatten, all-impl, all-map, all-at, all-countUp}
 use Rattle.laws.specs.Ranges.{all-range}
 use Rattle.laws.specs.Division.{floor-within, ceil-within}
 use Rattle.laws.specs.Admitted.{Admitted, GoodBounds, GoodTerm, GoodLiteral, GoodComparison, GoodClause}
-use Rattle.laws.specs.Pieces.{Piece, pieceClauses, compared, lineFrom, lone, opening, piecesFrom, used, selected-count, rules-pieces}
+use Rattle.laws.specs.Terms.{ranges, Within, tuples-within}
+use Rattle.laws.specs.Pieces.{Piece, line, under, pieceClauses, compared, lineFrom, lone, opening, piecesFrom, used, selected-count, rules-pieces}
 use Rattle.laws.specs.Layout.{Has, number-range}
 
 abbrev pub atomOf : SatLiteral → Atom
 atomOf (plus a) = a
 atomOf (minus a) = a
-
-abbrev pub Within : List Bounds → List ℤ → Type 0
-Within [] bs = Unit {0}
-Within (r ∷ rs) [] = ⊥
-Within (r ∷ rs) (b ∷ bs) = (r .lo ≤ℤ b) × (b ≤ℤ r .hi) × Within rs bs
-
-pub tuples-within : (rs : List Bounds) (s : ℤ) → All (Within rs) (tuples rs s)
-unfolding tuples flatten
-tuples-within [] s = go (tuples [] s)
-  where
-    go : (l : List (List ℤ)) → All (Within []) l
-    go [] = tt
-    go (x ∷ l) = (tt, go l)
-tuples-within (r ∷ rs) s =
-    all-flatten (Within (r ∷ rs)) (map (λ b. map (λ bs. b ∷ bs) (tuples rs (s -ℤ b))) (range (r .lo) (r .hi)))
-    (all-map (All (Within (r ∷ rs))) (λ b. map (λ bs. b ∷ bs) (tuples rs (s -ℤ b))) (range (r .lo) (r .hi))
-    (all-range (λ b. All (Within (r ∷ rs)) (map (λ bs. b ∷ bs) (tuples rs (s -ℤ b)))) (r .lo) (r .hi) (λ b l u.
-    all-map (Within (r ∷ rs)) (λ bs. b ∷ bs) (tuples rs (s -ℤ b))
-    (all-impl (Within rs) (λ bs. Within (r ∷ rs) (b ∷ bs)) (λ bs w. (l, u, w)) (tuples rs (s -ℤ b)) (tuples-within rs (s -ℤ b))))))
 
 module _ (B : Board) where
   abbrev pub Mentions : SatLiteral → Type 0
@@ -52,20 +34,17 @@ module _ (B : Board) where
       r : Bounds
       r = boundsOf B (t .var)
 
-      ranges : Bool → Bounds
-      ranges q = if q then record { lo = t .coef *ℤ r .lo; hi = t .coef *ℤ r .hi } else record { lo = t .coef *ℤ r .hi; hi = t .coef *ℤ r .lo }
+      ends : Bool → Bounds
+      ends q = if q then record { lo = t .coef *ℤ r .lo; hi = t .coef *ℤ r .hi } else record { lo = t .coef *ℤ r .hi; hi = t .coef *ℤ r .lo }
 
-      go : (q : Bool) → ltZ (pos 0) (t .coef) ≡ q → (ranges q .lo -ℤ pos 1) ≤ℤ b → b ≤ℤ ranges q .hi →
+      go : (q : Bool) → ltZ (pos 0) (t .coef) ≡ q → (ends q .lo -ℤ pos 1) ≤ℤ b → b ≤ℤ ends q .hi →
           Mentions (if q then plus (order (t .var) (floor b (t .coef))) else minus (order (t .var) (ceil b (t .coef) -ℤ pos 1)))
       go true e l u = let w = floor-within (t .coef) (r .lo) (r .hi) b (omega whole) l u in (g .known, w .0, w .1)
       go false e l u =
           let w = ceil-within (t .coef) (r .lo) (r .hi) b (omega (whole, ne-in (t .coef) (pos 0) (g .some))) l u in
           (g .known, w .0, w .1)
 
-  abbrev ranges : List Term → List Bounds
-  ranges ts = map (λ t. record { lo = termBounds (boundsOf B) t .lo -ℤ pos 1; hi = termBounds (boundsOf B) t .hi }) ts
-
-  tuple-mentions : (ts : List Term) (bs : List ℤ) → All (GoodTerm (length (B .bounds))) ts → Within (ranges ts) bs → All Mentions (zipWith sharp ts bs)
+  tuple-mentions : (ts : List Term) (bs : List ℤ) → All (GoodTerm (length (B .bounds))) ts → Within (ranges (boundsOf B) ts) bs → All Mentions (zipWith sharp ts bs)
   unfolding zipWith
   tuple-mentions [] bs g w = tt
   tuple-mentions (t ∷ ts) [] g w = tt
@@ -81,20 +60,28 @@ module _ (B : Board) where
       go : (b : Bool) → All (All Mentions) (if b then map clause (tuplesOf (boundsOf B) q) else lead ∷ [])
       go true =
           all-map (All Mentions) clause (tuplesOf (boundsOf B) q)
-          (all-impl (Within (ranges (q .terms))) (λ bs. All Mentions (clause bs))
+          (all-impl (Within (ranges (boundsOf B) (q .terms))) (λ bs. All Mentions (clause bs))
           (λ bs w. all-append Mentions lead (zipWith sharp (q .terms) bs) a (tuple-mentions (q .terms) bs (g .terms) w))
-          (tuplesOf (boundsOf B) q) (tuples-within (ranges (q .terms)) _))
+          (tuplesOf (boundsOf B) q) (tuples-within (ranges (boundsOf B) (q .terms)) _))
       go false = (a, tt)
 
-  -- ---- the record's clauses, whose selectors are those from j
+  -- ---- the pieces of the record's clauses, whose selectors are those from j
+  abbrev pub Sound : Piece → Type 0
+  Sound (line c) = (length c ≤ 64) × All Mentions c
+  Sound (under lead q) = (length lead ≤ 1) × All Mentions lead × GoodComparison (length (B .bounds)) q
+
   abbrev Good : Clause → Type 0
   Good C = All (GoodLiteral (length (B .bounds)) (B .bools)) C
 
   abbrev Fits : ℕ → ℕ → Type 0
   Fits j n = j + n ≤ length (selections B)
 
-  abbrev PieceMentions : Piece → Type 0
-  PieceMentions p = All (All Mentions) (pieceClauses (boundsOf B) p)
+  line-length : (j : ℕ) (C : Clause) → length (lineFrom j C) ≡ length C
+  unfolding lineFrom
+  line-length j [] = refl
+  line-length j (isTrue b ∷ C) = ap suc (line-length j C)
+  line-length j (isFalse b ∷ C) = ap suc (line-length j C)
+  line-length j (atMost q ∷ C) = ap suc (line-length (suc j) C)
 
   line-mentions : (j : ℕ) (C : Clause) → Good C → Fits j (length (comparisons C)) → All Mentions (lineFrom j C)
   unfolding lineFrom comparisons
@@ -103,33 +90,41 @@ module _ (B : Board) where
   line-mentions j (isFalse b ∷ C) g h = (g .0, line-mentions j C (g .1) h)
   line-mentions j (atMost q ∷ C) g h = (omega arith, line-mentions (suc j) C (g .1) (omega arith))
 
-  compared-mentions : (led : Bool) (j : ℕ) (C : Clause) → Good C → Fits j (used led (length (comparisons C))) → All PieceMentions (compared led j (comparisons C))
-  unfolding compared comparisons pieceClauses
-  compared-mentions led j [] g h = tt
-  compared-mentions led j (isTrue b ∷ C) g h = compared-mentions led j C (g .1) h
-  compared-mentions led j (isFalse b ∷ C) g h = compared-mentions led j C (g .1) h
-  compared-mentions true j (atMost q ∷ C) g h =
-      (under-mentions (minus (selector j) ∷ []) q (omega arith, tt) (g .0), compared-mentions true (suc j) C (g .1) (omega arith))
-  compared-mentions false j (atMost q ∷ C) g h = (under-mentions [] q tt (g .0), compared-mentions false j C (g .1) h)
+  compared-sound : (led : Bool) (j : ℕ) (C : Clause) → Good C → Fits j (used led (length (comparisons C))) → All Sound (compared led j (comparisons C))
+  unfolding compared comparisons
+  compared-sound led j [] g h = tt
+  compared-sound led j (isTrue b ∷ C) g h = compared-sound led j C (g .1) h
+  compared-sound led j (isFalse b ∷ C) g h = compared-sound led j C (g .1) h
+  compared-sound true j (atMost q ∷ C) g h =
+      ((omega arith, (omega arith, tt), g .0), compared-sound true (suc j) C (g .1) (omega arith))
+  compared-sound false j (atMost q ∷ C) g h = ((omega arith, tt, g .0), compared-sound false j C (g .1) h)
 
-  opening-mentions : (alone : Bool) (j : ℕ) (C : Clause) → Good C → Fits j (used (not alone) (length (comparisons C))) → All PieceMentions (opening alone j C)
-  unfolding pieceClauses
-  opening-mentions true j C g h = tt
-  opening-mentions false j C g h = ((line-mentions j C g h, tt), tt)
+  opening-sound : (alone : Bool) (j : ℕ) (C : Clause) → GoodClause (length (B .bounds)) (B .bools) C → Fits j (used (not alone) (length (comparisons C))) → All Sound (opening alone j C)
+  opening-sound true j C g h = tt
+  opening-sound false j C g h = ((omega (arith, line-length j C, g .few), line-mentions j C (g .literals) h), tt)
 
-  rules-mention : (j : ℕ) (Cs : List Clause) → All (GoodClause (length (B .bounds)) (B .bools)) Cs → Fits j (length (flatten (map selected Cs))) → All PieceMentions (piecesFrom j Cs)
+  sound-from : (j : ℕ) (Cs : List Clause) → All (GoodClause (length (B .bounds)) (B .bools)) Cs → Fits j (length (flatten (map selected Cs))) → All Sound (piecesFrom j Cs)
   unfolding piecesFrom flatten
-  rules-mention j [] g h = tt
-  rules-mention j (C ∷ Cs) g h =
+  sound-from j [] g h = tt
+  sound-from j (C ∷ Cs) g h =
       let n = used (not (lone C)) (length (comparisons C)) in
       let e = length-append (selected C) (flatten (map selected Cs)) in
       let s = selected-count C in
       let f : Fits j n = omega arith in
-      all-append PieceMentions (opening (lone C) j C) (compared (not (lone C)) j (comparisons C) ++ piecesFrom (j + n) Cs)
-      (opening-mentions (lone C) j C (g .0 .literals) f)
-      (all-append PieceMentions (compared (not (lone C)) j (comparisons C)) (piecesFrom (j + n) Cs)
-      (compared-mentions (not (lone C)) j C (g .0 .literals) f)
-      (rules-mention (j + n) Cs (g .1) (omega arith)))
+      all-append Sound (opening (lone C) j C) (compared (not (lone C)) j (comparisons C) ++ piecesFrom (j + n) Cs)
+      (opening-sound (lone C) j C (g .0) f)
+      (all-append Sound (compared (not (lone C)) j (comparisons C)) (piecesFrom (j + n) Cs)
+      (compared-sound (not (lone C)) j C (g .0 .literals) f)
+      (sound-from (j + n) Cs (g .1) (omega arith)))
+
+  pub pieces-sound : Admitted B → All Sound (piecesFrom 0 (B .clauses))
+  unfolding selections
+  pieces-sound g = sound-from 0 (B .clauses) (g .clauses) (omega arith)
+
+  pub piece-mentions : (p : Piece) → Sound p → All (All Mentions) (pieceClauses (boundsOf B) p)
+  unfolding pieceClauses
+  piece-mentions (line c) h = (h .1, tt)
+  piece-mentions (under lead q) h = under-mentions lead q (h .1) (h .2)
 
   -- ---- the axioms
   axioms-mention : (x : ℕ) → x < length (B .bounds) → boundsOf B x .lo ≤ℤ boundsOf B x .hi → All (All Mentions) (axiomsOf (boundsOf B) x)
@@ -148,17 +143,18 @@ module _ (B : Board) where
 
 -- ---- all of them
 pub clauses-mention : (B : Board) → Admitted B → All (All (Mentions B)) (clauses B)
-unfolding clauses axioms rules variables selections boundsOf
+unfolding clauses axioms rules variables boundsOf
 clauses-mention B g =
     let n = length (B .bounds) in
+    let ps = piecesFrom 0 (B .clauses) in
     all-append (All (Mentions B)) (flatten (axioms B)) (flatten (rules B))
     (all-flatten (All (Mentions B)) (axioms B) (all-map (All (All (Mentions B))) (axiomsOf (boundsOf B)) (countUp 0 n)
     (all-countUp (λ x. All (All (Mentions B)) (axiomsOf (boundsOf B) x)) 0 n (λ x l u.
     axioms-mention B x (omega arith) (all-at GoodBounds (record { lo = pos 0; hi = pos 0 }) (B .bounds) (g .bounds) x (omega arith) .ordered)))))
     (rw (rules-pieces (boundsOf B) 0 (B .clauses))
-    (all-flatten (All (Mentions B)) (map (pieceClauses (boundsOf B)) (piecesFrom 0 (B .clauses)))
-    (all-map (All (All (Mentions B))) (pieceClauses (boundsOf B)) (piecesFrom 0 (B .clauses))
-    (rules-mention B 0 (B .clauses) (g .clauses) (omega arith)))))
+    (all-flatten (All (Mentions B)) (map (pieceClauses (boundsOf B)) ps)
+    (all-map (All (All (Mentions B))) (pieceClauses (boundsOf B)) ps
+    (all-impl (Sound B) (λ p. All (All (Mentions B)) (pieceClauses (boundsOf B) p)) (piece-mentions B) ps (pieces-sound B g)))))
 
 -- a number of the clause list that is no clause's end
 abbrev pub InList : ℕ → ℤ → Type 0

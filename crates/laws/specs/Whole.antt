@@ -179,6 +179,15 @@ mul-add a x y = omega (whole, add-law (a *ℤ x) (a *ℤ y), mul-law a (x +ℤ y
 pub mul-mono : (a : ℕ) (x y : ℤ) → x ≤ℤ y → (pos a *ℤ x) ≤ℤ (pos a *ℤ y)
 mul-mono a x y h = omega (whole, mul-law (pos a) x, mul-law (pos a) y, mul-le-mul-left a (le-in x y h))
 
+pub mul-rises : (a x y : ℤ) → pos 0 <ℤ a → x ≤ℤ y → (a *ℤ x) ≤ℤ (a *ℤ y)
+mul-rises (pos n) x y s h = mul-mono n x y h
+mul-rises (negsuc n) x y s h = absurd (omega whole)
+
+pub mul-falls : (a x y : ℤ) → a ≤ℤ pos 0 → x ≤ℤ y → (a *ℤ y) ≤ℤ (a *ℤ x)
+mul-falls (pos zero) x y s h = omega (whole, mul-law (pos 0) x, mul-law (pos 0) y)
+mul-falls (pos (suc n)) x y s h = absurd (omega whole)
+mul-falls (negsuc n) x y s h = omega (whole, mul-law (negsuc n) x, mul-law (negsuc n) y, mul-le-mul-left (suc n) (le-in x y h))
+
 -- ---- cases
 pub le-or-lt : (a b : ℤ) → (a ≤ℤ b) ⊎ (b <ℤ a)
 le-or-lt a b = go (leZ a b) refl
