@@ -15,7 +15,7 @@ use Rattle.laws.specs.Whole.{whole, add-law, sub-law, suc-law, part-law, le-or-
 use Rattle.laws.specs.Lists.{all-map, map-all}
 use Rattle.laws.specs.Ranges.{all-range}
 use Rattle.demands.specs.Ranges.{range-all}
-use Rattle.demands.specs.Truth.{Satisfied, Tells, only}
+use Rattle.demands.specs.Truth.{Holds, Satisfied, Tells, only}
 
 -- ---- the least true number
 record Least (p : ℤ → Bool) (c hi z : ℤ) : Type 0 where
@@ -76,19 +76,18 @@ module _ (of : ℕ → Bounds) (v : Atom → Bool) (x : ℕ) where
   axioms-rise : Satisfied v (axiomsOf of x) ↔ Rising p lo hi
   unfolding axiomsOf satisfies
   axioms-rise =
-      let Holds = Any (λ l. T (satisfies v l)) in
       let step : ℤ → SatClause = λ c. minus (order x (c -ℤ pos 1)) ∷ plus (order x c) ∷ [] in (
         λ a. record {
           before = T-not (p (lo -ℤ pos 1)) (only (a .0));
           last = only (a .1 .0);
-          step = λ c l u. if-then (p (c -ℤ pos 1)) (p c) .0 (range-all (λ c. Holds (step c)) lo hi (map-all Holds step (range lo hi) (a .1 .1)) c l u);
+          step = λ c l u. if-then (p (c -ℤ pos 1)) (p c) .0 (range-all (λ c. Holds v (step c)) lo hi (map-all (Holds v) step (range lo hi) (a .1 .1)) c l u);
         },
         λ r. (
           inl (not-T (p (lo -ℤ pos 1)) (r .before)),
           (
             inl (r .last),
-            all-map Holds step (range lo hi)
-                (all-range (λ c. Holds (step c)) lo hi (λ c l u. if-then (p (c -ℤ pos 1)) (p c) .1 (r .step c l u))),
+            all-map (Holds v) step (range lo hi)
+                (all-range (λ c. Holds v (step c)) lo hi (λ c l u. if-then (p (c -ℤ pos 1)) (p c) .1 (r .step c l u))),
           ),
         ),
       )

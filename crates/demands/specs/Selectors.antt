@@ -3,17 +3,17 @@ use mathlib.Core.Path.{_≡_}
 use mathlib.Core.Logic.{_↔_, inl, inr}
 use mathlib.Core.Bool.{Bool}
 use mathlib.Core.List.{List, [], _∷_, _++_, map, zipWith, flatten}
-use Prim.Native.Nat.{ℕ, suc, _+_}
+use Prim.Native.Nat.{ℕ, suc, _+_, _<_}
 use native.Mathlib.Nat.{add-zero}
 use native.Mathlib.Omega.{arith}
 use lib.Dec.{T}
-use lib.ListN.{length}
+use lib.ListN.{length, getD}
 use Rattle.definitions.specs.Tools.{All, Any, countUp}
 use Rattle.definitions.specs.Board.{Bounds, Comparison, Literal, Clause, isTrue, isFalse, atMost}
 use Rattle.definitions.specs.Encoding.{Atom, SatLiteral, SatClause, selector, minus, clausesUnder, comparisons, selected, line, clausesOf, rulesFrom}
 use Rattle.definitions.specs.Meaning.{satisfies}
 use Rattle.laws.specs.Lists.{all-flatten, flatten-all}
-use Rattle.demands.specs.Truth.{Satisfied, only}
+use Rattle.demands.specs.Truth.{Holds, Satisfied, only}
 use Rattle.demands.specs.Rule.{led}
 
 -- the selectors of comparisons, from j on
@@ -21,9 +21,6 @@ abbrev pub named : ℕ → List Comparison → List Atom
 named j qs = map selector (countUp j (length qs))
 
 module _ (of : ℕ → Bounds) (v : Atom → Bool) (Mean : Literal → Type 0) where
-  abbrev True : SatLiteral → Type 0
-  True l = T (satisfies v l)
-
   -- as a clause of its own
   abbrev pub Means : Literal → Type 0
   Means l = Satisfied v (clausesOf of [] (l ∷ [])) ↔ Mean l
@@ -38,7 +35,7 @@ module _ (of : ℕ → Bounds) (v : Atom → Bool) (Mean : Literal → Type 0) w
 
   -- ---- a clause of two or more literals
   -- a true literal of the line holds
-  line-sound : (j : ℕ) (C : Clause) → All Means C → Any True (line (named j (comparisons C)) C) → All (Satisfied v) (under j (comparisons C)) → Any Mean C
+  line-sound : (j : ℕ) (C : Clause) → All Means C → Holds v (line (named j (comparisons C)) C) → All (Satisfied v) (under j (comparisons C)) → Any Mean C
   unfolding clausesOf comparisons line satisfies zipWith
   line-sound j [] m h u = h
   line-sound j (isTrue b ∷ C) m (inl t) u = inl (m .0 .0 (inl t, tt))
@@ -49,7 +46,7 @@ module _ (of : ℕ → Bounds) (v : Atom → Bool) (Mean : Literal → Type 0) w
   line-sound j (atMost q ∷ C) m (inr t) u = inr (line-sound (suc j) C (m .1) t (u .1))
 
   -- a literal that holds is true in the line
-  line-full : (j : ℕ) (C : Clause) → All Means C → Plainly j (comparisons C) → Any Mean C → Any True (line (named j (comparisons C)) C)
+  line-full : (j : ℕ) (C : Clause) → All Means C → Plainly j (comparisons C) → Any Mean C → Holds v (line (named j (comparisons C)) C)
   unfolding clausesOf comparisons line satisfies
   line-full j [] m p h = h
   line-full j (isTrue b ∷ C) m p (inl h) = inl (only (m .0 .1 h .0))
@@ -84,6 +81,11 @@ module _ (of : ℕ → Bounds) (v : Atom → Bool) (Mean : Literal → Type 0) w
   lemma-2-full j (l ∷ l′ ∷ C) m p h = (line-full j (l ∷ l′ ∷ C) m p h, all-flatten _ _ (under-full j (l ∷ l′ ∷ C) m p))
 
   -- ---- clause after clause
+  pub plainly : (j : ℕ) (qs : List Comparison) (d : Comparison) → ((i : ℕ) → i < length qs → T (v (selector (j + i))) ↔ Mean (atMost (getD qs i d))) → Plainly j qs
+  plainly j [] d f = tt
+  plainly j (q ∷ qs) d f =
+      (rw add-zero at (f 0 (omega arith)), plainly (suc j) qs d (λ i h. let e : suc j + i ≡ j + suc i = omega arith in rw e (f (suc i) (omega arith))))
+
   plainly-append : (j : ℕ) (qs rs : List Comparison) → Plainly j (qs ++ rs) → Plainly j qs × Plainly (j + length qs) rs
   plainly-append j [] rs p = (tt, rw add-zero p)
   plainly-append j (q ∷ qs) rs p =
