@@ -1,17 +1,18 @@
 -- A list of bytes is the truth of its variables, and a truth of the board's atoms is a list of N bytes. Assumes nothing.
 use mathlib.Core.Path.{_≡_, refl, sym, ap, _∙_}
 use mathlib.Core.Bool.{Bool, true, false}
-use mathlib.Core.List.{List, _∷_, _++_, map, flatten, map-map}
-use Prim.Native.Nat.{ℕ, zero, suc, _+_, _-_, _≤_, _<_}
+use mathlib.Core.List.{List, _++_, map, flatten, append-assoc, map-append, map-map}
+use Prim.Native.Nat.{ℕ, zero, suc, _+_, _-_, _≤_}
 use native.Mathlib.Omega.{arith}
 use lib.Dec.{eqb}
-use lib.ListN.{length, getD, length-map}
+use lib.ListN.{length, getD, take, length-map}
+use lib.Seq.{take-at}
 use lib.IntN.{pos, _-ℤ_}
 use Rattle.definitions.specs.Tools.{All, if_then_else_, countUp, range}
 use Rattle.definitions.specs.Board.{Board, boundsOf, variables}
 use Rattle.definitions.specs.Encoding.{Atom, bool, order, selector, orders, selections, atoms, number, N}
 use Rattle.definitions.specs.Meaning.{on, inModel}
-use Rattle.laws.specs.Lists.{all-append, all-flatten, all-every, all-impl, all-map, all-at, all-countUp}
+use Rattle.laws.specs.Lists.{all-append, all-flatten, all-every, all-map, all-at, length-countUp, all-countUp}
 use Rattle.laws.specs.Ranges.{all-range}
 use Rattle.laws.specs.Layout.{Has, numbers-are, N-is, number-range, atom-at}
 use Rattle.demands.specs.Entries.{counted, map-at, map-alike}
@@ -63,6 +64,18 @@ module _ (B : Board) where
 
   pub told-bytes : (v : Atom → Bool) → All (λ b. b ≤ 1) (told v)
   told-bytes v = all-map (λ b. b ≤ 1) (λ x. bit (v x)) (atoms B) (all-every (λ x. bit (v x) ≤ 1) (λ x. bit-most (v x)) (atoms B))
+
+  pub told-bools : (v : Atom → Bool) → take (B .bools) (told v) ≡ map (λ i. bit (v (bool i))) (countUp 1 (B .bools))
+  unfolding atoms
+  told-bools v =
+      let f : Atom → ℕ = λ x. bit (v x) in
+      let is = countUp 1 (B .bools) in
+      let os = flatten (map (orders (boundsOf B)) (variables B)) in
+      let ss = map selector (countUp 0 (length (selections B))) in
+      ap (λ l. take (B .bools) (map f l)) (append-assoc (map bool is) os ss)
+      ∙ ap (take (B .bools)) (map-append f (map bool is) (os ++ ss))
+      ∙ take-at (map f (map bool is)) (map f (os ++ ss)) (B .bools) (length-map (map bool is) f ∙ length-map is bool ∙ length-countUp 1 (B .bools))
+      ∙ map-map f bool is
 
   pub told-reads : (v : Atom → Bool) (x : Atom) → Has B x → inModel B (told v) x ≡ v x
   unfolding inModel on

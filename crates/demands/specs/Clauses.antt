@@ -1,21 +1,20 @@
 -- The clauses of an admitted board under a truth of the atoms that tells an assignment (000, section 3 as a whole). Assumes nothing.
 use mathlib.Core.Path.{_≡_}
 use mathlib.Core.Logic.{_↔_, inl}
-use mathlib.Core.Bool.{Bool, not}
-use mathlib.Core.List.{[], _∷_, flatten, map}
+use mathlib.Core.Bool.{Bool}
+use mathlib.Core.List.{[], flatten}
 use Prim.Native.Nat.{ℕ, _≤_, _<_}
 use native.Mathlib.Omega.{arith}
 use native.Mathlib.Nat.{zero-add}
 use lib.Dec.{T}
 use lib.ListN.{length}
 use lib.IntN.{pos}
-use lib.Signed.{_≤ℤ_}
-use Rattle.definitions.specs.Tools.{All, Any, countUp}
-use Rattle.definitions.specs.Board.{Board, Literal, Clause, Term, boundsOf, variables, isTrue, isFalse, atMost}
-use Rattle.definitions.specs.Encoding.{Atom, bool, selector, axiomsOf, clausesOf, selected, rulesFrom, axioms, rules, clauses, selections}
+use Rattle.definitions.specs.Tools.{All, Any}
+use Rattle.definitions.specs.Board.{Board, Literal, boundsOf, variables, isTrue, isFalse, atMost}
+use Rattle.definitions.specs.Encoding.{Atom, bool, selector, axiomsOf, clausesOf, axioms, rules, clauses, selections}
 use Rattle.definitions.specs.Meaning.{Assignment, satisfies, compares, holds, selection}
-use Rattle.laws.specs.Lists.{all-append, append-all, all-flatten, flatten-all, all-impl, all-map, map-all, all-at, all-countUp, countUp-all}
-use Rattle.laws.specs.Admitted.{Admitted, GoodBounds, GoodTerm, GoodLiteral, GoodClause}
+use Rattle.laws.specs.Lists.{all-append, append-all, all-flatten, flatten-all, all-impl, all-map, map-all, all-countUp, countUp-all}
+use Rattle.laws.specs.Admitted.{Admitted, GoodTerm, GoodLiteral, GoodClause}
 use Rattle.demands.specs.Truth.{Holds, Satisfied, Tells, only}
 use Rattle.demands.specs.Rule.{Told, proposition-1}
 use Rattle.demands.specs.Order.{told-axioms}

@@ -7,3 +7,4 @@ pub mod Selectors
 pub mod Entries
 pub mod Bytes
 pub mod Clauses
+pub mod Pairing

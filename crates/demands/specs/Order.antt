@@ -7,7 +7,7 @@ use Prim.Native.Nat.{ℕ, zero, suc}
 use lib.Dec.{T, T-not, not-T}
 use lib.IntN.{ℤ, pos, sucℤ, _+ℤ_, _-ℤ_}
 use lib.Signed.{_≤ℤ_}
-use Rattle.definitions.specs.Tools.{Any, size, upFrom, range, if_then_else_}
+use Rattle.definitions.specs.Tools.{size, upFrom, range, if_then_else_}
 use Rattle.definitions.specs.Board.{Bounds}
 use Rattle.definitions.specs.Encoding.{Atom, SatClause, order, plus, minus, axiomsOf}
 use Rattle.definitions.specs.Meaning.{satisfies, leastTrue}
