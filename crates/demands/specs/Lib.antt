@@ -4,3 +4,7 @@ pub mod Tuples
 pub mod Rule
 pub mod Order
 pub mod Selectors
+pub mod Entries
+pub mod Bytes
+pub mod Clauses
+pub mod Pairing

@@ -7,15 +7,15 @@ use Prim.Native.Nat.{ℕ, zero, suc}
 use lib.Dec.{T, T-not, not-T}
 use lib.IntN.{ℤ, pos, sucℤ, _+ℤ_, _-ℤ_}
 use lib.Signed.{_≤ℤ_}
-use Rattle.definitions.specs.Tools.{Any, size, upFrom, range, if_then_else_}
+use Rattle.definitions.specs.Tools.{size, upFrom, range, if_then_else_}
 use Rattle.definitions.specs.Board.{Bounds}
 use Rattle.definitions.specs.Encoding.{Atom, SatClause, order, plus, minus, axiomsOf}
 use Rattle.definitions.specs.Meaning.{satisfies, leastTrue}
-use Rattle.laws.specs.Whole.{whole, add-law, sub-law, part-law, le-or-lt}
+use Rattle.laws.specs.Whole.{whole, add-law, sub-law, suc-law, part-law, le-or-lt}
 use Rattle.laws.specs.Lists.{all-map, map-all}
-use Rattle.laws.specs.Ranges.{suc-law, size-law, all-range}
+use Rattle.laws.specs.Ranges.{all-range}
 use Rattle.demands.specs.Ranges.{range-all}
-use Rattle.demands.specs.Truth.{Satisfied, Tells, only}
+use Rattle.demands.specs.Truth.{Holds, Satisfied, Tells, only}
 
 -- ---- the least true number
 record Least (p : ℤ → Bool) (c hi z : ℤ) : Type 0 where
@@ -25,9 +25,9 @@ record Least (p : ℤ → Bool) (c hi z : ℤ) : Type 0 where
   first : (d : ℤ) → c ≤ℤ d → d ≤ℤ hi → T (p d) → z ≤ℤ d
 
 module _ (p : ℤ → Bool) (hi : ℤ) where
-  from : (c z : ℤ) (s : Bool) → p c ≡ s → c ≤ℤ hi → (¬ T (p c) → Least p (sucℤ c) hi z) → Least p c hi (if s then c else z)
-  from c z true e h f = record { least = omega whole; most = h; there = rw e tt; first = λ d l u t. l }
-  from c z false e h f =
+  least-from : (c z : ℤ) (s : Bool) → p c ≡ s → c ≤ℤ hi → (¬ T (p c) → Least p (sucℤ c) hi z) → Least p c hi (if s then c else z)
+  least-from c z true e h f = record { least = omega whole; most = h; there = rw e tt; first = λ d l u t. l }
+  least-from c z false e h f =
       let no-c : ¬ T (p c) = λ t. rw e at t in
       let r = f no-c in
       record {
@@ -42,16 +42,16 @@ module _ (p : ℤ → Bool) (hi : ℤ) where
 
   found : (n : ℕ) (c : ℤ) → T (p hi) → c +ℤ pos n ≡ hi → Least p c hi (leastTrue p hi (upFrom c (suc n)))
   unfolding leastTrue
-  found zero c t e = from c hi (p c) refl (omega (whole, add-law c (pos 0))) (λ f. absurd (f (let q : hi ≡ c = omega (whole, add-law c (pos 0)) in rw q at t)))
+  found zero c t e = least-from c hi (p c) refl (omega (whole, add-law c (pos 0))) (λ f. absurd (f (let q : hi ≡ c = omega (whole, add-law c (pos 0)) in rw q at t)))
   found (suc n) c t e =
-      from c (leastTrue p hi (upFrom (sucℤ c) (suc n))) (p c) refl (omega (whole, add-law c (pos (suc n))))
+      least-from c (leastTrue p hi (upFrom (sucℤ c) (suc n))) (p c) refl (omega (whole, add-law c (pos (suc n))))
       (λ f. found n (sucℤ c) t (omega (whole, add-law c (pos (suc n)), add-law (sucℤ c) (pos n), suc-law c)))
 
   least-true : (lo : ℤ) → lo ≤ℤ hi → T (p hi) → Least p lo hi (leastTrue p hi (range lo hi))
   least-true lo h t =
       let n = size (hi -ℤ lo) in
-      let e : size (sucℤ hi -ℤ lo) ≡ suc n = omega (whole, size-law (sucℤ hi -ℤ lo), sub-law (sucℤ hi) lo, suc-law hi, size-law (hi -ℤ lo), sub-law hi lo, part-law (hi -ℤ lo), part-law (sucℤ hi -ℤ lo)) in
-      rw e (found n lo t (omega (whole, add-law lo (pos n), size-law (hi -ℤ lo), sub-law hi lo, part-law (hi -ℤ lo))))
+      let e : size (sucℤ hi -ℤ lo) ≡ suc n = omega (whole, sub-law (sucℤ hi) lo, suc-law hi, sub-law hi lo, part-law (hi -ℤ lo), part-law (sucℤ hi -ℤ lo)) in
+      rw e (found n lo t (omega (whole, add-law lo (pos n), sub-law hi lo, part-law (hi -ℤ lo))))
 
 -- ---- what A(x) says
 record Rising (p : ℤ → Bool) (lo hi : ℤ) : Type 0 where
@@ -76,19 +76,18 @@ module _ (of : ℕ → Bounds) (v : Atom → Bool) (x : ℕ) where
   axioms-rise : Satisfied v (axiomsOf of x) ↔ Rising p lo hi
   unfolding axiomsOf satisfies
   axioms-rise =
-      let Holds = Any (λ l. T (satisfies v l)) in
       let step : ℤ → SatClause = λ c. minus (order x (c -ℤ pos 1)) ∷ plus (order x c) ∷ [] in (
         λ a. record {
           before = T-not (p (lo -ℤ pos 1)) (only (a .0));
           last = only (a .1 .0);
-          step = λ c l u. if-then (p (c -ℤ pos 1)) (p c) .0 (range-all (λ c. Holds (step c)) lo hi (map-all Holds step (range lo hi) (a .1 .1)) c l u);
+          step = λ c l u. if-then (p (c -ℤ pos 1)) (p c) .0 (range-all (λ c. Holds v (step c)) lo hi (map-all (Holds v) step (range lo hi) (a .1 .1)) c l u);
         },
         λ r. (
           inl (not-T (p (lo -ℤ pos 1)) (r .before)),
           (
             inl (r .last),
-            all-map Holds step (range lo hi)
-                (all-range (λ c. Holds (step c)) lo hi (λ c l u. if-then (p (c -ℤ pos 1)) (p c) .1 (r .step c l u))),
+            all-map (Holds v) step (range lo hi)
+                (all-range (λ c. Holds v (step c)) lo hi (λ c l u. if-then (p (c -ℤ pos 1)) (p c) .1 (r .step c l u))),
           ),
         ),
       )
@@ -120,14 +119,14 @@ module _ (of : ℕ → Bounds) (v : Atom → Bool) (x : ℕ) where
       from c u k =
           let d = leastTrue p hi (range lo hi) in
           let n = size (c -ℤ d) in
-          let e : d +ℤ pos n ≡ c = omega (whole, add-law d (pos n), size-law (c -ℤ d), sub-law c d, part-law (c -ℤ d)) in
+          let e : d +ℤ pos n ≡ c = omega (whole, add-law d (pos n), sub-law c d, part-law (c -ℤ d)) in
           rw e at (stays r d n (omega (whole, z .least, sub-law lo (pos 1))) (rw e u) (z .there))
 
   pub told-axioms : (z : ℤ) → Tells of v x z → Satisfied v (axiomsOf of x)
   told-axioms z t =
       axioms-rise .1 (record {
-        before = λ u. (let k = t .says (lo -ℤ pos 1) (omega whole) (omega (whole, t .least, t .most, sub-law lo (pos 1))) .0 u in omega (whole, k, t .least, sub-law lo (pos 1)));
-        last = t .says hi (omega (whole, t .least, t .most, sub-law lo (pos 1))) (omega whole) .1 (t .most);
+        before = λ u. (let k = t .says (lo -ℤ pos 1) (omega whole) (omega (whole, sub-law lo (pos 1))) .0 u in omega (whole, k, sub-law lo (pos 1)));
+        last = t .says hi (omega (whole, sub-law lo (pos 1))) (omega whole) .1 (t .most);
         step = λ c l u k.
             let k′ = t .says (c -ℤ pos 1) (omega (whole, sub-law c (pos 1), sub-law lo (pos 1))) (omega (whole, sub-law c (pos 1))) .0 k in
             t .says c (omega (whole, sub-law lo (pos 1))) u .1 (omega (whole, k′, sub-law c (pos 1)));
@@ -135,12 +134,12 @@ module _ (of : ℕ → Bounds) (v : Atom → Bool) (x : ℕ) where
 
   -- of one value only
   once : (y z : ℤ) → Tells of v x y → Tells of v x z → y ≤ℤ z
-  once y z s t = s .says z (omega (whole, t .least, sub-law lo (pos 1))) (t .most) .0 (t .says z (omega (whole, t .least, sub-law lo (pos 1))) (t .most) .1 (omega whole))
+  once y z s t = s .says z (omega (whole, sub-law lo (pos 1))) (t .most) .0 (t .says z (omega (whole, sub-law lo (pos 1))) (t .most) .1 (omega whole))
 
   pub proposition-2 : lo ≤ℤ hi → Satisfied v (axiomsOf of x) ↔ Tells of v x (leastTrue p hi (range lo hi))
   proposition-2 h = (axioms-tell h, told-axioms (leastTrue p hi (range lo hi)))
 
   pub told-least : (z : ℤ) → Tells of v x z → leastTrue p hi (range lo hi) ≡ z
   told-least z t =
-      let s = axioms-tell (omega (whole, t .least, t .most)) (told-axioms z t) in
+      let s = axioms-tell (omega (whole, t .most)) (told-axioms z t) in
       omega (whole, once _ z s t, once z _ t s)

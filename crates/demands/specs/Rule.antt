@@ -15,7 +15,7 @@ use Rattle.definitions.specs.Meaning.{Assignment, satisfies, compares}
 use Rattle.laws.specs.Whole.{whole, mul-law, mul-mono, le-in, ne-in, part-law}
 use Rattle.laws.specs.Division.{below-floor, not-below-ceil, floor-within, ceil-within}
 use Rattle.laws.specs.Lists.{all-every, all-impl, all-map, map-all}
-use Rattle.demands.specs.Truth.{Satisfied, Tells}
+use Rattle.demands.specs.Truth.{Holds, Satisfied, Tells}
 use Rattle.demands.specs.Tuples.{Bounded, tuple-rule, low-sum}
 
 -- ---- (ax ≤ b)^#: the term lies within its bounds, and its literal says ax ≤ b
@@ -115,21 +115,18 @@ led-by l of q = go (leZ (least of (q .terms)) (q .constant)) refl
 
 pub led : (of : ℕ → Bounds) (v : Atom → Bool) (j : Atom) (q : Comparison) → Satisfied v (clausesUnder (minus j ∷ []) of q) ↔ (T (v j) → Satisfied v (clausesUnder [] of q))
 unfolding satisfies
-led of v j q = rw (led-by (minus j) of q) (to, λ f. all-map Holds (λ c. minus j ∷ c) cs (from (v j) refl f))
+led of v j q = rw (led-by (minus j) of q) (to, λ f. all-map (Holds v) (λ c. minus j ∷ c) cs (from (v j) refl f))
   where
     cs : List SatClause
     cs = clausesUnder [] of q
 
-    Holds : SatClause → Type 0
-    Holds c = Any (λ l. T (satisfies v l)) c
-
     to : Satisfied v (map (λ c. minus j ∷ c) cs) → T (v j) → Satisfied v cs
-    to a t = all-impl (λ c. Holds (minus j ∷ c)) Holds past cs (map-all Holds (λ c. minus j ∷ c) cs a)
+    to a t = all-impl (λ c. Holds v (minus j ∷ c)) (Holds v) past cs (map-all (Holds v) (λ c. minus j ∷ c) cs a)
       where
-        past : (c : SatClause) → Holds (minus j ∷ c) → Holds c
+        past : (c : SatClause) → Holds v (minus j ∷ c) → Holds v c
         past c (inl n) = absurd (T-not (v j) n t)
         past c (inr k) = k
 
-    from : (s : Bool) → v j ≡ s → (T s → Satisfied v cs) → All (λ c. Holds (minus j ∷ c)) cs
-    from true e f = all-impl Holds (λ c. Holds (minus j ∷ c)) (λ c k. inr k) cs (f tt)
-    from false e f = all-every (λ c. Holds (minus j ∷ c)) (λ c. inl (rw e tt)) cs
+    from : (s : Bool) → v j ≡ s → (T s → Satisfied v cs) → All (λ c. Holds v (minus j ∷ c)) cs
+    from true e f = all-impl (Holds v) (λ c. Holds v (minus j ∷ c)) (λ c k. inr k) cs (f tt)
+    from false e f = all-every (λ c. Holds v (minus j ∷ c)) (λ c. inl (rw e tt)) cs
