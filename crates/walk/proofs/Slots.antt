@@ -11,7 +11,6 @@ use mir.Facts.{toZ-ofZ, toZ-pos}
 use Rattle.definitions.specs.Tools.{floor, ceil, neg}
 use Rattle.laws.specs.Whole.{whole, sfits, mag-law, add-law, sub-law, part-law, abs-law, abs-le, abs-fits, abs-mul-le, abs-sub, lt-test, ge-test, le-or-lt}
 use Rattle.laws.specs.Division.{floor-within, ceil-within}
-use Rattle.laws.specs.Ranges.{size-law}
 use Rattle.walk.specs.declared.Slot.{Slot}
 use Rattle.walk.specs.Slots.{FairSlot, valueBounds, slotBounds, orderNumber, slotLiteral}
 
@@ -77,11 +76,11 @@ module _ (s : Slot) (c : ℤ) (f : FairSlot s) (low : (s .lower -ℤ pos 1) ≤�
 
   pub number-is : pos (s .first) +ℤ (c -ℤ s .lower +ℤ pos 1) ≡ pos (orderNumber s c)
   unfolding orderNumber
-  number-is = omega (whole, add-law (pos (s .first)) (c -ℤ s .lower +ℤ pos 1), size-law (c -ℤ s .lower +ℤ pos 1), part-law (c -ℤ s .lower +ℤ pos 1), sub-law c (s .lower), add-law (c -ℤ s .lower) (pos 1), sub-law (s .lower) (pos 1))
+  number-is = omega (whole, add-law (pos (s .first)) (c -ℤ s .lower +ℤ pos 1), part-law (c -ℤ s .lower +ℤ pos 1), sub-law c (s .lower), add-law (c -ℤ s .lower) (pos 1), sub-law (s .lower) (pos 1))
 
   pub number-below : orderNumber s c ≤ 10008193
   unfolding orderNumber
-  number-below = omega (whole, size-law (c -ℤ s .lower +ℤ pos 1), part-law (c -ℤ s .lower +ℤ pos 1), sub-law c (s .lower), add-law (c -ℤ s .lower) (pos 1), abs-law (s .lower), abs-law (s .upper))
+  number-below = omega (whole, part-law (c -ℤ s .lower +ℤ pos 1), sub-law c (s .lower), add-law (c -ℤ s .lower) (pos 1), abs-law (s .lower), abs-law (s .upper))
 
   pub number-fits : SFits w32 (pos (s .first) +ℤ (c -ℤ s .lower +ℤ pos 1))
   number-fits = rw number-is (abs-fits (omega (arith, number-below)))
