@@ -1,5 +1,6 @@
 -- What the bytes of an accepted record hold, read plainly and without checks. Assumes nothing.
 use mathlib.Core.Path.{_≡_, refl, sym, ap, _∙_}
+use mathlib.Core.Logic.{_↔_}
 use mathlib.Core.Bool.{Bool, true, false}
 use mathlib.Core.List.{List, [], _∷_, map, flatten}
 use Prim.Native.Nat.{ℕ, zero, suc, _+_, _*_, _-_, _≤_, _<_}
@@ -14,7 +15,8 @@ use Rattle.definitions.specs.Board.{Bounds, Term, Comparison, Board, boundsOf}
 use Rattle.definitions.specs.Result.{Result, done, refused, need}
 use Rattle.definitions.specs.Result as result
 use Rattle.definitions.specs.Reading.{Got, Context, times, big, twos, readComparison, readClause, readBody}
-use Rattle.definitions.specs.Operations.{readBoard}
+use Rattle.definitions.specs.Encoding.{K}
+use Rattle.definitions.specs.Operations.{readBoard, accepted}
 use Rattle.laws.specs.Admitted.{Admitted, GoodComparison}
 use Rattle.laws.specs.Readings.{same, never, from-start}
 use Rattle.laws.specs.Spelling.{Field, integer, Stand, none, more, append-stand, stand-onward, boundsFields, termFields, comparisonFields, bodyFields}
@@ -59,6 +61,17 @@ wrapped s B e =
 pub unwrapped : (s : List ℕ) (B : Board) → Wrapped s B → readBoard s ≡ done B
 unfolding readBoard
 unwrapped s B w = rw (le-leb (length s) 65536 (w .short), le-leb 5 (length s) (w .head), w .version, eq-eqb (big s 1 4) (length s - 5) (w .stated), w .body, eq-eqb (length s) (length s) refl)
+
+-- all operations' checks
+pub accepted-parts : (s : List ℕ) (B : Board) → (accepted s ≡ done B) ↔ ((readBoard s ≡ done B) × (K B ≤ 2000000000))
+unfolding accepted
+accepted-parts s B = (to (readBoard s), λ h. rw (h .0, le-leb (K B) 2000000000 (h .1)))
+  where
+    to : (m : Result Board) → result._>>=_ m (λ C. result._>>_ (need 9 0 (leb (K C) 2000000000)) (done C)) ≡ done B → (m ≡ done B) × (K B ≤ 2000000000)
+    to (done C) e =
+        let t = met 9 0 (leb (K C) 2000000000) (done C) e in
+        (t .1, rw (same (t .1)) at (leb→le (K C) 2000000000 (t .0)))
+    to (refused n d) e = never e
 
 -- ---- n parts of k bytes, one after another
 module _ {A : Type 0} (f : ℕ → A) (k : ℕ) where
