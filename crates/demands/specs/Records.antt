@@ -19,10 +19,10 @@ use Rattle.definitions.specs.Encoding.{K}
 use Rattle.definitions.specs.Operations.{readBoard, accepted}
 use Rattle.laws.specs.Whole.{whole, pp, nn, part-law}
 use Rattle.laws.specs.Lists.{all-append, all-flatten, all-map, all-impl}
-use Rattle.laws.specs.Readings.{big-drop}
+use Rattle.laws.specs.Readings.{big-drop, big-below}
 use Rattle.laws.specs.Admitted.{GoodBounds, GoodTerm, GoodComparison, GoodLiteral, GoodClause, Admitted}
-use Rattle.laws.specs.Spelling.{Field, natural, integer, width, Says, Stand, none, more, boundsFields, termFields, comparisonFields, literalFields, clauseFields, bodyFields}
-use Rattle.laws.specs.Grammar.{several, spelt, found}
+use Rattle.laws.specs.Spelling.{Field, several, natural, integer, width, Says, Stand, none, more, boundsFields, termFields, comparisonFields, literalFields, clauseFields, bodyFields}
+use Rattle.laws.specs.Grammar.{spelt, found}
 use Rattle.laws.specs.Reads.{reads-body}
 use Rattle.laws.specs.Reread.{wrapped, unwrapped, accepted-parts}
 
@@ -72,11 +72,6 @@ bytes-at (b ∷ s) a zero = a .0
 bytes-at (b ∷ s) a (suc i) = bytes-at s (a .1) i
 
 module _ (s : List ℕ) (byte : (i : ℕ) → getD s i 0 < 256) where
-  big-below : (at n : ℕ) → big s at n < 256 ^ n
-  unfolding big
-  big-below at zero = omega arith
-  big-below at (suc n) = omega (arith, big-below at n, byte (at + n), pow-suc 256 n)
-
   big-bytes : (at n : ℕ) → at + n ≤ length s → drop at s ≡ bigBytes n (big s at n) ++ drop (at + n) s
   unfolding big bigBytes
   big-bytes at zero h = rw add-zero

@@ -1,7 +1,7 @@
 -- When a reader is done: exactly where fields stand that spell what it reads, and that is good. Assumes nothing.
 use mathlib.Core.Path.{_≡_, refl, ap, _∙_, subst}
 use mathlib.Core.Bool.{Bool, true, false}
-use mathlib.Core.List.{List, [], _∷_, _++_, map, flatten, append-nil}
+use mathlib.Core.List.{List, [], _∷_, _++_, flatten, append-nil}
 use Prim.Native.Nat.{ℕ, zero, suc, _+_}
 use native.Mathlib.Omega.{arith}
 use lib.ListN.{length}
@@ -14,7 +14,7 @@ use Rattle.definitions.specs.Result as result
 use Rattle.definitions.specs.Reading.{Got, Reader, give, asked, _>>=_, mapped, times, big, twos, unsigned, signed}
 use Rattle.laws.specs.Readings.{same, never, Orderly, orderly-give, orderly-asked, orderly-bind, orderly-unsigned}
 use Rattle.laws.specs.Decide.{Decides}
-use Rattle.laws.specs.Spelling.{Field, natural, integer, Stand, none, more, stand-append, append-stand}
+use Rattle.laws.specs.Spelling.{Field, natural, integer, several, Stand, none, more, stand-append, append-stand}
 
 -- which fields may spell a value
 abbrev pub Grammar : Type 0 → Type 1
@@ -41,11 +41,13 @@ module _ {A : Type 0} where
   abbrev pub finds : A → ℕ → Result (Got A)
   finds a end = done (record { value = a; next = end })
 
+  -- fields that spell a stand in s, from one place to another
   pub record Found (P : Grammar A) (s : List ℕ) (at : ℕ) (a : A) (end : ℕ) : Type 0 where
     pub fields : List Field
     pub spelling : P a fields
     pub stand : Stand s at fields end
 
+  -- r is done exactly where such fields stand
   pub record Reads (r : Reader A) (P : Grammar A) : Type 0 where
     pub orderly : Orderly r
     pub told : (s : List ℕ) (at : ℕ) (a : A) (end : ℕ) → r s at ≡ finds a end → Found P s at a end
@@ -59,6 +61,7 @@ reads-as o f g = record {
   read = λ s at a end fs q d. o .read s at a end fs (g a fs q) d;
 }
 
+-- a good value, and its own fields
 module _ {A : Type 0} {Good : A → Type 0} {w : A → List Field} {s : List ℕ} {at end : ℕ} {a : A} where
   go : {fs : List Field} → Spelt Good w a fs → Stand s at fs end → Good a × Stand s at (w a) end
   go (spelt g) d = (g, d)
@@ -130,12 +133,8 @@ module _ {A B : Type 0} (f : A → B) {r : Reader A} {P : Grammar A} (o : Reads 
   pub reads-mapped : Reads (mapped f r) (Image f P)
   reads-mapped = reads-as (reads-bind o (λ a. reads-give (f a))) to-image from-image
 
-module _ {A : Type 0} where
-  abbrev pub Many : (A → Type 0) → ℕ → List A → Type 0
-  Many Good n l = (length l ≡ n) × All Good l
-
-  abbrev pub several : (A → List Field) → List A → List Field
-  several w l = flatten (map w l)
+abbrev pub Many : {A : Type 0} → (A → Type 0) → ℕ → List A → Type 0
+Many Good n l = (length l ≡ n) × All Good l
 
 module _ {A : Type 0} {r : Reader A} {Good : A → Type 0} {w : A → List Field} (o : Reads r (Spelt Good w)) where
   pub reads-times : (n : ℕ) → Reads (times n r) (Spelt (Many Good n) (several w))

@@ -2,10 +2,10 @@
 use mathlib.Core.Path.{_≡_, refl, sym, ap, _∙_}
 use mathlib.Core.Bool.{Bool, true, false}
 use mathlib.Core.List.{List, [], _∷_}
-use Prim.Native.Nat.{ℕ, zero, suc, _+_, _-_, _≤_}
-use native.Mathlib.Nat.{add-assoc, add-zero}
+use Prim.Native.Nat.{ℕ, zero, suc, _+_, _-_, _^_, _≤_, _<_}
+use native.Mathlib.Nat.{add-assoc, add-zero, pow-suc}
 use native.Mathlib.Omega.{arith}
-use lib.ListN.{length, drop, length-drop}
+use lib.ListN.{length, getD, drop, length-drop}
 use lib.Seq.{getD-drop}
 use lib.Dec.{leb}
 use borrow.Author.Tests.{leb-true, le-leb, leb-false, lt-leb}
@@ -33,6 +33,7 @@ abbrev pub place : {A : Type 0} → Result (Got A) → ℕ
 place (done g) = g .next
 place (refused n d) = d
 
+-- it moves with the bytes that it reads, and from a place within them it points further on within them
 pub record Orderly {A : Type 0} (r : Reader A) : Type 0 where
   pub moves : (s : List ℕ) (base at : ℕ) → base ≤ length s → r s (base + at) ≡ moved base (r (drop base s) at)
   pub onward : (s : List ℕ) (at : ℕ) → at ≤ length s → at ≤ place (r s at)
@@ -70,27 +71,25 @@ module _ {A : Type 0} where
       inside = λ s at h. judge-place (λ p. p ≤ length s) at (r s at) h (o .inside s at h);
     }
 
-module _ {A B : Type 0} where
-  bind-moved : {f : A → Reader B} → ((a : A) → Orderly (f a)) → (s : List ℕ) (base : ℕ) → base ≤ length s → (m : Result (Got A))
-      → result._>>=_ (moved base m) (λ g. f (g .value) s (g .next)) ≡ moved base (result._>>=_ m λ g. f (g .value) (drop base s) (g .next))
-  bind-moved o s base h (done g) = o (g .value) .moves s base (g .next) h
-  bind-moved o s base h (refused n d) = refl
+module _ {A B : Type 0} {r : Reader A} {f : A → Reader B} (o : Orderly r) (next : (a : A) → Orderly (f a)) where
+  abbrev go-on : List ℕ → Got A → Result (Got B)
+  go-on s g = f (g .value) s (g .next)
 
-  bind-onward : {f : A → Reader B} → ((a : A) → Orderly (f a)) → (s : List ℕ) (at : ℕ) (m : Result (Got A)) → at ≤ place m → place m ≤ length s
-      → at ≤ place (result._>>=_ m λ g. f (g .value) s (g .next))
-  bind-onward o s at (done g) h k = omega (arith, o (g .value) .onward s (g .next) k)
-  bind-onward o s at (refused n d) h k = h
+  bind-moved : (s : List ℕ) (base : ℕ) → base ≤ length s → (m : Result (Got A))
+      → result._>>=_ (moved base m) (go-on s) ≡ moved base (result._>>=_ m (go-on (drop base s)))
+  bind-moved s base h (done g) = next (g .value) .moves s base (g .next) h
+  bind-moved s base h (refused n d) = refl
 
-  bind-inside : {f : A → Reader B} → ((a : A) → Orderly (f a)) → (s : List ℕ) (m : Result (Got A)) → place m ≤ length s
-      → place (result._>>=_ m λ g. f (g .value) s (g .next)) ≤ length s
-  bind-inside o s (done g) k = o (g .value) .inside s (g .next) k
-  bind-inside o s (refused n d) k = k
+  bind-place : (s : List ℕ) (at : ℕ) (m : Result (Got A)) → at ≤ place m → place m ≤ length s
+      → (at ≤ place (result._>>=_ m (go-on s))) × (place (result._>>=_ m (go-on s)) ≤ length s)
+  bind-place s at (done g) h k = (omega (arith, next (g .value) .onward s (g .next) k), next (g .value) .inside s (g .next) k)
+  bind-place s at (refused n d) h k = (h, k)
 
-  pub orderly-bind : {r : Reader A} {f : A → Reader B} → Orderly r → ((a : A) → Orderly (f a)) → Orderly (r >>= f)
-  orderly-bind {r} {f} o p = record {
-    moves = λ s base at h. ap (λ m. result._>>=_ m (λ g. f (g .value) s (g .next))) (o .moves s base at h) ∙ bind-moved p s base h (r (drop base s) at);
-    onward = λ s at h. bind-onward p s at (r s at) (o .onward s at h) (o .inside s at h);
-    inside = λ s at h. bind-inside p s (r s at) (o .inside s at h);
+  pub orderly-bind : Orderly (r >>= f)
+  orderly-bind = record {
+    moves = λ s base at h. ap (λ m. result._>>=_ m (go-on s)) (o .moves s base at h) ∙ bind-moved s base h (r (drop base s) at);
+    onward = λ s at h. bind-place s at (r s at) (o .onward s at h) (o .inside s at h) .0;
+    inside = λ s at h. bind-place s at (r s at) (o .onward s at h) (o .inside s at h) .1;
   }
 
 -- ---- fields
@@ -98,6 +97,11 @@ pub big-drop : (s : List ℕ) (base at n : ℕ) → big s (base + at) n ≡ big 
 unfolding big
 big-drop s base at zero = refl
 big-drop s base at (suc n) = rw (big-drop s base at n, add-assoc, getD-drop)
+
+pub big-below : (s : List ℕ) → ((i : ℕ) → getD s i 0 < 256) → (at n : ℕ) → big s at n < 256 ^ n
+unfolding big
+big-below s byte at zero = omega arith
+big-below s byte at (suc n) = omega (arith, big-below s byte at n, byte (at + n), pow-suc 256 n)
 
 test-drop : (s : List ℕ) (base at n : ℕ) → base ≤ length s → leb ((base + at) + n) (length s) ≡ leb (at + n) (length (drop base s))
 test-drop s base at n h = go (leb (at + n) (length (drop base s))) refl

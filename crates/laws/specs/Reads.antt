@@ -16,8 +16,8 @@ use Rattle.laws.specs.Whole.{whole}
 use Rattle.laws.specs.Lists.{all-impl, all-both, all-every}
 use Rattle.laws.specs.Decide.{Decides, equals, both}
 use Rattle.laws.specs.Admitted.{Differ, GoodBounds, GoodTerm, GoodComparison, GoodLiteral, GoodClause, Admitted}
-use Rattle.laws.specs.Spelling.{Field, natural, integer, boundsFields, termFields, comparisonFields, literalFields, clauseFields, bodyFields}
-use Rattle.laws.specs.Grammar.{Grammar, Just, just, Spelt, spelt, Then, _then_, Image, image, Reads, reads-as, reads-give, reads-asked, reads-bind, reads-mapped, reads-times, reads-unsigned, reads-signed, reads-tested, Many, several}
+use Rattle.laws.specs.Spelling.{Field, several, natural, integer, boundsFields, termFields, comparisonFields, literalFields, clauseFields, bodyFields}
+use Rattle.laws.specs.Grammar.{Grammar, Just, just, Spelt, spelt, Then, _then_, Image, image, Reads, reads-as, reads-give, reads-asked, reads-bind, reads-mapped, reads-times, reads-unsigned, reads-signed, reads-tested, Many}
 
 -- ---- tests
 at-most : (m n : ℕ) → Decides (leb m n) (m ≤ n)

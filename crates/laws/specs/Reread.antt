@@ -19,8 +19,8 @@ use Rattle.definitions.specs.Encoding.{K}
 use Rattle.definitions.specs.Operations.{readBoard, accepted}
 use Rattle.laws.specs.Admitted.{Admitted, GoodComparison}
 use Rattle.laws.specs.Readings.{same, never, from-start}
-use Rattle.laws.specs.Spelling.{Field, integer, Stand, none, more, append-stand, stand-onward, boundsFields, termFields, comparisonFields, bodyFields}
-use Rattle.laws.specs.Grammar.{spelt, finds, several, found, reads-times}
+use Rattle.laws.specs.Spelling.{Field, several, integer, Stand, none, more, append-stand, stand-onward, boundsFields, termFields, comparisonFields, bodyFields}
+use Rattle.laws.specs.Grammar.{spelt, finds, found, reads-times}
 use Rattle.laws.specs.Reads.{reads-comparison, reads-clause, reads-body}
 
 -- ---- the record around its body
