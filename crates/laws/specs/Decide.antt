@@ -20,10 +20,10 @@ pub record Decides (b : Bool) (P : Type 0) : Type 0 where
 pub itself : (b : Bool) → Decides b (T b)
 itself b = record { sound = λ t. t; full = λ t. t }
 
-equals : (m n : ℕ) → Decides (eqb m n) (m ≡ n)
+pub equals : (m n : ℕ) → Decides (eqb m n) (m ≡ n)
 equals m n = record { sound = eqb→eq m n; full = λ e. subst (λ k. T (eqb m k)) e (eqb-refl m) }
 
-both : (b c : Bool) {P Q : Type 0} → Decides b P → Decides c Q → Decides (b && c) (P × Q)
+pub both : (b c : Bool) {P Q : Type 0} → Decides b P → Decides c Q → Decides (b && c) (P × Q)
 both true c d e = record { sound = λ t. (d .sound tt, e .sound t); full = λ h. e .full (h .1) }
 both false c d e = record { sound = λ t. absurd t; full = λ h. d .full (h .0) }
 

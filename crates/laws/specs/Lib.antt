@@ -19,3 +19,7 @@ pub mod Counting
 pub mod Terms
 pub mod Sizes
 pub mod Fits
+pub mod Spelling
+pub mod Grammar
+pub mod Reads
+pub mod Reread

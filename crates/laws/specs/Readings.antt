@@ -1,22 +1,28 @@
--- Laws of readers: each moves with the bytes that it reads and stays within them; `times` step by step. Assumes nothing.
+-- Laws of readers: each moves with the bytes that it reads and stays within them; parts one by one. Assumes nothing.
 use mathlib.Core.Path.{_≡_, refl, sym, ap, _∙_}
-use mathlib.Core.Bool.{Bool, true, false, not, _&&_}
+use mathlib.Core.Bool.{Bool, true, false}
 use mathlib.Core.List.{List, [], _∷_}
-use Prim.Native.Nat.{ℕ, zero, suc, _+_, _≤_}
-use native.Mathlib.Nat.{add-assoc}
+use Prim.Native.Nat.{ℕ, zero, suc, _+_, _-_, _^_, _≤_, _<_}
+use native.Mathlib.Nat.{add-assoc, add-zero, pow-suc}
 use native.Mathlib.Omega.{arith}
-use lib.ListN.{length, drop, length-drop}
+use lib.ListN.{length, getD, drop, length-drop}
 use lib.Seq.{getD-drop}
-use lib.Dec.{leb, ltb, eqb}
-use lib.IntN.{pos}
+use lib.Dec.{leb}
 use borrow.Author.Tests.{leb-true, le-leb, leb-false, lt-leb}
-use lib.Signed.{leZ}
-use Rattle.definitions.specs.Tools.{if_then_else_, any, neg, eqZ, within}
-use Rattle.definitions.specs.Board.{isTrue, isFalse, atMost}
+use Rattle.definitions.specs.Tools.{if_then_else_}
 use Rattle.definitions.specs.Result.{Result, done, refused}
 use Rattle.definitions.specs.Result as result
-use Rattle.definitions.specs.Reading.{Got, Reader, Context, give, asked, _>>=_, mapped, times, big, twos, unsigned, signed, count, bound, readBounds, boolean, readTerms, readComparison, ofKind, readLiteral, readClause}
+use Rattle.definitions.specs.Reading.{Got, Reader, give, asked, _>>=_, times, big, unsigned}
 
+-- ---- results
+module _ {A : Type 0} where
+  pub same : {a b : A} → done a ≡ done b → a ≡ b
+  same e = cc
+
+  pub never : {B : Type 0} {a : A} {n d : ℕ} → refused n d ≡ done a → B
+  never e = absurd (let z : _≡_ {A = ℕ} 0 1 = cc in omega arith)
+
+-- ---- places
 -- the same answer where base bytes more stand in front
 abbrev pub moved : {A : Type 0} → ℕ → Result (Got A) → Result (Got A)
 moved base (done g) = done (record { value = g .value; next = base + g .next })
@@ -27,6 +33,7 @@ abbrev pub place : {A : Type 0} → Result (Got A) → ℕ
 place (done g) = g .next
 place (refused n d) = d
 
+-- it moves with the bytes that it reads, and from a place within them it points further on within them
 pub record Orderly {A : Type 0} (r : Reader A) : Type 0 where
   pub moves : (s : List ℕ) (base at : ℕ) → base ≤ length s → r s (base + at) ≡ moved base (r (drop base s) at)
   pub onward : (s : List ℕ) (at : ℕ) → at ≤ length s → at ≤ place (r s at)
@@ -64,41 +71,37 @@ module _ {A : Type 0} where
       inside = λ s at h. judge-place (λ p. p ≤ length s) at (r s at) h (o .inside s at h);
     }
 
-module _ {A B : Type 0} where
-  bind-moved : {f : A → Reader B} → ((a : A) → Orderly (f a)) → (s : List ℕ) (base : ℕ) → base ≤ length s → (m : Result (Got A))
-      → result._>>=_ (moved base m) (λ g. f (g .value) s (g .next)) ≡ moved base (result._>>=_ m λ g. f (g .value) (drop base s) (g .next))
-  bind-moved o s base h (done g) = o (g .value) .moves s base (g .next) h
-  bind-moved o s base h (refused n d) = refl
+module _ {A B : Type 0} {r : Reader A} {f : A → Reader B} (o : Orderly r) (next : (a : A) → Orderly (f a)) where
+  abbrev go-on : List ℕ → Got A → Result (Got B)
+  go-on s g = f (g .value) s (g .next)
 
-  bind-onward : {f : A → Reader B} → ((a : A) → Orderly (f a)) → (s : List ℕ) (at : ℕ) (m : Result (Got A)) → at ≤ place m → place m ≤ length s
-      → at ≤ place (result._>>=_ m λ g. f (g .value) s (g .next))
-  bind-onward o s at (done g) h k = omega (arith, o (g .value) .onward s (g .next) k)
-  bind-onward o s at (refused n d) h k = h
+  bind-moved : (s : List ℕ) (base : ℕ) → base ≤ length s → (m : Result (Got A))
+      → result._>>=_ (moved base m) (go-on s) ≡ moved base (result._>>=_ m (go-on (drop base s)))
+  bind-moved s base h (done g) = next (g .value) .moves s base (g .next) h
+  bind-moved s base h (refused n d) = refl
 
-  bind-inside : {f : A → Reader B} → ((a : A) → Orderly (f a)) → (s : List ℕ) (m : Result (Got A)) → place m ≤ length s
-      → place (result._>>=_ m λ g. f (g .value) s (g .next)) ≤ length s
-  bind-inside o s (done g) k = o (g .value) .inside s (g .next) k
-  bind-inside o s (refused n d) k = k
+  bind-place : (s : List ℕ) (at : ℕ) (m : Result (Got A)) → at ≤ place m → place m ≤ length s
+      → (at ≤ place (result._>>=_ m (go-on s))) × (place (result._>>=_ m (go-on s)) ≤ length s)
+  bind-place s at (done g) h k = (omega (arith, next (g .value) .onward s (g .next) k), next (g .value) .inside s (g .next) k)
+  bind-place s at (refused n d) h k = (h, k)
 
-  pub orderly-bind : {r : Reader A} {f : A → Reader B} → Orderly r → ((a : A) → Orderly (f a)) → Orderly (r >>= f)
-  orderly-bind {r} {f} o p = record {
-    moves = λ s base at h. ap (λ m. result._>>=_ m (λ g. f (g .value) s (g .next))) (o .moves s base at h) ∙ bind-moved p s base h (r (drop base s) at);
-    onward = λ s at h. bind-onward p s at (r s at) (o .onward s at h) (o .inside s at h);
-    inside = λ s at h. bind-inside p s (r s at) (o .inside s at h);
+  pub orderly-bind : Orderly (r >>= f)
+  orderly-bind = record {
+    moves = λ s base at h. ap (λ m. result._>>=_ m (go-on s)) (o .moves s base at h) ∙ bind-moved s base h (r (drop base s) at);
+    onward = λ s at h. bind-place s at (r s at) (o .onward s at h) (o .inside s at h) .0;
+    inside = λ s at h. bind-place s at (r s at) (o .onward s at h) (o .inside s at h) .1;
   }
-
-  pub orderly-mapped : (f : A → B) {r : Reader A} → Orderly r → Orderly (mapped f r)
-  orderly-mapped f o = orderly-bind o (λ a. orderly-give (f a))
-
-pub orderly-times : {A : Type 0} (n : ℕ) {r : Reader A} → Orderly r → Orderly (times n r)
-orderly-times zero o = orderly-give []
-orderly-times (suc n) o = orderly-bind o (λ a. orderly-bind (orderly-times n o) (λ rest. orderly-give (a ∷ rest)))
 
 -- ---- fields
 pub big-drop : (s : List ℕ) (base at n : ℕ) → big s (base + at) n ≡ big (drop base s) at n
 unfolding big
 big-drop s base at zero = refl
 big-drop s base at (suc n) = rw (big-drop s base at n, add-assoc, getD-drop)
+
+pub big-below : (s : List ℕ) → ((i : ℕ) → getD s i 0 < 256) → (at n : ℕ) → big s at n < 256 ^ n
+unfolding big
+big-below s byte at zero = omega arith
+big-below s byte at (suc n) = omega (arith, big-below s byte at n, byte (at + n), pow-suc 256 n)
 
 test-drop : (s : List ℕ) (base at n : ℕ) → base ≤ length s → leb ((base + at) + n) (length s) ≡ leb (at + n) (length (drop base s))
 test-drop s base at n h = go (leb (at + n) (length (drop base s))) refl
@@ -123,60 +126,16 @@ module _ (n : ℕ) where
     inside = λ s at h. field-inside s at h (leb (at + n) (length s)) refl;
   }
 
-pub orderly-signed : (n : ℕ) → Orderly (signed n)
-unfolding signed
-orderly-signed n = orderly-mapped (twos n) (orderly-unsigned n)
-
-pub orderly-count : (least most n : ℕ) → Orderly (count least most n)
-unfolding count
-orderly-count least most n = orderly-asked 4 (λ c. leb least c && leb c most) (orderly-unsigned n)
-
-pub orderly-bound : Orderly bound
-unfolding bound
-orderly-bound = orderly-asked 5 (within (neg 4096) (pos 4095)) (orderly-signed 2)
-
-pub orderly-bounds : Orderly readBounds
-unfolding readBounds
-orderly-bounds =
-    orderly-bind orderly-bound λ l.
-    orderly-bind (orderly-asked 5 (leZ l) orderly-bound) λ u.
-    orderly-give (record { lo = l; hi = u })
-
-pub orderly-boolean : (ctx : Context) → Orderly (boolean ctx)
-unfolding boolean
-orderly-boolean ctx = orderly-asked 6 (λ b. leb 1 b && leb b (ctx .bools)) (orderly-unsigned 2)
-
--- ---- clauses
-pub orderly-terms : (ctx : Context) (seen : List ℕ) (n : ℕ) → Orderly (readTerms ctx seen n)
-unfolding readTerms
-orderly-terms ctx seen zero = orderly-give []
-orderly-terms ctx seen (suc n) =
-    orderly-bind (orderly-asked 7 (λ a. within (neg 64) (pos 64) a && not (eqZ a (pos 0))) (orderly-signed 1)) λ a.
-    orderly-bind (orderly-asked 7 (λ x. not (any (eqb x) seen)) (orderly-asked 7 (λ x. ltb x (ctx .ints)) (orderly-unsigned 2))) λ x.
-    orderly-bind (orderly-terms ctx (x ∷ seen) n) λ ts.
-    orderly-give (record { coef = a; var = x } ∷ ts)
-
-pub orderly-comparison : (ctx : Context) → Orderly (readComparison ctx)
-unfolding readComparison
-orderly-comparison ctx =
-    orderly-bind (orderly-count 1 3 1) λ n.
-    orderly-bind (orderly-terms ctx [] n) λ ts.
-    orderly-bind (orderly-asked 7 (within (neg 1000000) (pos 1000000)) (orderly-signed 4)) λ k.
-    orderly-give (record { terms = ts; constant = k })
-
-pub orderly-kind : (ctx : Context) (k : ℕ) → Orderly (ofKind ctx k)
-unfolding ofKind
-orderly-kind ctx zero = orderly-mapped isTrue (orderly-boolean ctx)
-orderly-kind ctx (suc zero) = orderly-mapped isFalse (orderly-boolean ctx)
-orderly-kind ctx (suc (suc k)) = orderly-mapped atMost (orderly-comparison ctx)
-
-pub orderly-literal : (ctx : Context) → Orderly (readLiteral ctx)
-unfolding readLiteral
-orderly-literal ctx = orderly-bind (orderly-asked 6 (λ k. leb k 2) (orderly-unsigned 1)) (orderly-kind ctx)
-
-pub orderly-clause : (ctx : Context) → Orderly (readClause ctx)
-unfolding readClause
-orderly-clause ctx = orderly-bind (orderly-count 0 64 1) λ n. orderly-times n (orderly-literal ctx)
+-- what is read in the middle is read from the start of the rest
+pub from-start : {A : Type 0} {r : Reader A} {a : A} {end : ℕ} → Orderly r → (s : List ℕ) (base : ℕ) → base ≤ length s
+    → r s base ≡ done (record { value = a; next = end }) → r (drop base s) 0 ≡ done (record { value = a; next = end - base })
+from-start {A} {r} {a} {end} o s base h e = go (r (drop base s) 0) (sym (o .moves s base 0 h) ∙ ap (r s) (add-zero base) ∙ e)
+  where
+    go : (m : Result (Got A)) → moved base m ≡ done (record { value = a; next = end }) → m ≡ done (record { value = a; next = end - base })
+    go (done g) d =
+        let n : g .next ≡ end - base = omega (arith, ap (λ g. g .next) (same d)) in
+        rw (n, ap (λ g. g .value) (same d))
+    go (refused n p) d = never d
 
 -- ---- part by part
 module _ {A : Type 0} where
@@ -213,8 +172,8 @@ module _ {A : Type 0} where
       where
         others : (g : Got A) (m : Result (Got (List A))) → r s at ≡ done g → times n r s (g .next) ≡ m → led (g .value) m ≡ done all → Parts n r s at all
         others g (done h) c c′ l = record { first = g; others = h; read = c; rest = c′; joined = cc }
-        others g (refused why p) c c′ l = absurd (let z : _≡_ {A = ℕ} 0 1 = cc in omega arith)
+        others g (refused why p) c c′ l = never l
 
         first : (m : Result (Got A)) → r s at ≡ m → Parts n r s at all
         first (done g) c = others g (times n r s (g .next)) c refl (sym (times-more e c) ∙ d)
-        first (refused why p) c = absurd (let z : _≡_ {A = ℕ} 0 1 = cc (sym d, times-stop e c) in omega arith)
+        first (refused why p) c = never (sym (times-stop e c) ∙ d)

@@ -1,0 +1,241 @@
+-- What each reader of the record reads: a good part (01, "The record"), by its fields. Assumes nothing.
+use mathlib.Core.Path.{_≡_, refl, sym, ap}
+use mathlib.Core.Logic.{_≢_}
+use mathlib.Core.Bool.{Bool, true, false, not, _&&_, _||_}
+use mathlib.Core.List.{List, [], _∷_, map, flatten}
+use Prim.Native.Nat.{ℕ, zero, suc, _≤_, _<_, zero-le}
+use native.Mathlib.Omega.{arith}
+use lib.ListN.{length}
+use lib.Dec.{leb, eqb, leb→le, le→leb, T-not, not-T}
+use lib.IntN.{ℤ, pos}
+use lib.Signed.{_≤ℤ_, leZ}
+use Rattle.definitions.specs.Tools.{All, any, neg, eqZ, within}
+use Rattle.definitions.specs.Board.{Bounds, Term, Comparison, Literal, Clause, Board, isTrue, isFalse, atMost}
+use Rattle.definitions.specs.Reading.{Context, count, bound, readBounds, boolean, readTerms, readComparison, ofKind, readLiteral, readClause, readBody}
+use Rattle.laws.specs.Whole.{whole}
+use Rattle.laws.specs.Lists.{all-impl, all-both, all-every}
+use Rattle.laws.specs.Decide.{Decides, equals, both}
+use Rattle.laws.specs.Admitted.{Differ, GoodBounds, GoodTerm, GoodComparison, GoodLiteral, GoodClause, Admitted}
+use Rattle.laws.specs.Spelling.{Field, several, natural, integer, boundsFields, termFields, comparisonFields, literalFields, clauseFields, bodyFields}
+use Rattle.laws.specs.Grammar.{Grammar, Just, just, Spelt, spelt, Then, _then_, Image, image, Reads, reads-as, reads-give, reads-asked, reads-bind, reads-mapped, reads-times, reads-unsigned, reads-signed, reads-tested, Many}
+
+-- ---- tests
+at-most : (m n : ℕ) → Decides (leb m n) (m ≤ n)
+at-most m n = record { sound = leb→le m n; full = le→leb m n }
+
+at-mostZ : (a b : ℤ) → Decides (leZ a b) (a ≤ℤ b)
+at-mostZ a b = record { sound = λ t. record { le = t }; full = λ h. h .le }
+
+apart : (b : Bool) {P : Type 0} → Decides b P → Decides (not b) (¬ P)
+apart b d = record { sound = λ t p. T-not b t (d .full p); full = λ n. not-T b (λ t. n (d .sound t)) }
+
+equalsZ : (a b : ℤ) → Decides (eqZ a b) (a ≡ b)
+equalsZ a b =
+    let d = both (leZ a b) (leZ b a) (at-mostZ a b) (at-mostZ b a) in
+    record {
+      sound = λ t. let h = d .sound t in omega (whole, h .0, h .1);
+      full = λ e. d .full (omega whole, omega whole);
+    }
+
+neither : (b c : Bool) {P Q : Type 0} → Decides (not b) P → Decides (not c) Q → Decides (not (b || c)) (P × Q)
+neither true c d e = record { sound = λ t. absurd t; full = λ h. d .full (h .0) }
+neither false c d e = record { sound = λ t. (d .sound tt, e .sound t); full = λ h. e .full (h .1) }
+
+new : (x : ℕ) (seen : List ℕ) → Decides (not (any (eqb x) seen)) (All (λ y. x ≢ y) seen)
+new x [] = record { sound = λ t. tt; full = λ t. tt }
+new x (y ∷ seen) = neither (eqb x y) (any (eqb x) seen) (apart (eqb x y) (equals x y)) (new x seen)
+
+-- ---- fields
+abbrev FromTo : ℕ → ℕ → ℕ → Type 0
+FromTo least most n = (least ≤ n) × (n ≤ most)
+
+abbrev Within : ℤ → ℤ → ℤ → Type 0
+Within lo hi z = (lo ≤ℤ z) × (z ≤ℤ hi)
+
+from-to : (least most n : ℕ) → Decides (leb least n && leb n most) (FromTo least most n)
+from-to least most n = both (leb least n) (leb n most) (at-most least n) (at-most n most)
+
+is-within : (lo hi z : ℤ) → Decides (within lo hi z) (Within lo hi z)
+is-within lo hi z = both (leZ lo z) (leZ z hi) (at-mostZ lo z) (at-mostZ z hi)
+
+abbrev Natural : (ℕ → Type 0) → ℕ → Grammar ℕ
+Natural Good n = Spelt Good (λ v. natural n v ∷ [])
+
+abbrev Signed : (ℤ → Type 0) → ℕ → Grammar ℤ
+Signed Good n = Spelt Good (λ z. integer n z ∷ [])
+
+reads-count : (least most n : ℕ) → Reads (count least most n) (Natural (FromTo least most) n)
+unfolding count
+reads-count least most n = reads-tested 4 (reads-unsigned n) (from-to least most)
+
+reads-bound : Reads bound (Signed (Within (neg 4096) (pos 4095)) 2)
+unfolding bound
+reads-bound = reads-tested 5 (reads-signed 2) (is-within (neg 4096) (pos 4095))
+
+-- ---- bounds
+pub reads-bounds : Reads readBounds (Spelt GoodBounds boundsFields)
+unfolding readBounds
+reads-bounds = reads-as (reads-bind reads-bound λ l. reads-mapped (λ u. record { lo = l; hi = u }) (reads-asked 5 reads-bound (at-mostZ l))) to from
+  where
+    Raw : Grammar Bounds
+    Raw =
+        Then (Signed (Within (neg 4096) (pos 4095)) 2) λ l.
+        Image (λ u. record { lo = l; hi = u }) (Signed (λ u. Within (neg 4096) (pos 4095) u × (l ≤ℤ u)) 2)
+
+    to : (b : Bounds) (fs : List Field) → Raw b fs → Spelt GoodBounds boundsFields b fs
+    to b fs (spelt l then image (spelt u)) = spelt (record { lowest = l .0; ordered = u .1; highest = u .0 .1 })
+
+    from : (b : Bounds) (fs : List Field) → Spelt GoodBounds boundsFields b fs → Raw b fs
+    from b fs (spelt g) = spelt (g .lowest, omega whole) then image {a = b .hi} (spelt ((omega whole, g .highest), g .ordered))
+
+-- ---- clauses
+-- none of the numbers stands in another list
+abbrev Apart : List ℕ → List ℕ → Type 0
+Apart seen xs = All (λ x. All (λ y. x ≢ y) seen) xs
+
+apart-cons : (x : ℕ) (seen xs : List ℕ) → Apart (x ∷ seen) xs → All (λ y. x ≢ y) xs × Apart seen xs
+apart-cons x seen xs a = (all-impl _ _ (λ y h e. h .0 (sym e)) xs a, all-impl _ _ (λ y h. h .1) xs a)
+
+cons-apart : (x : ℕ) (seen xs : List ℕ) → All (λ y. x ≢ y) xs → Apart seen xs → Apart (x ∷ seen) xs
+cons-apart x seen xs h a = all-both _ _ _ (λ y d k. ((λ e. d (sym e)), k)) xs h a
+
+pub record GoodTerms (ints : ℕ) (seen : List ℕ) (n : ℕ) (ts : List Term) : Type 0 where
+  pub many : length ts ≡ n
+  pub good : All (GoodTerm ints) ts
+  pub differ : Differ (map (λ t. t .var) ts)
+  pub new : Apart seen (map (λ t. t .var) ts)
+
+module _ (ctx : Context) where
+  pub reads-terms : (seen : List ℕ) (n : ℕ) → Reads (readTerms ctx seen n) (Spelt (GoodTerms (ctx .ints) seen n) (several termFields))
+  unfolding readTerms flatten
+  reads-terms seen zero = reads-as (reads-give []) to from
+    where
+      to : (ts : List Term) (fs : List Field) → Just [] ts fs → Spelt (GoodTerms (ctx .ints) seen 0) (several termFields) ts fs
+      to ts fs just = spelt (record { many = refl; good = tt; differ = tt; new = tt })
+
+      from : (ts : List Term) (fs : List Field) → Spelt (GoodTerms (ctx .ints) seen 0) (several termFields) ts fs → Just [] ts fs
+      from [] fs (spelt g) = just
+      from (t ∷ ts) fs (spelt g) = absurd (omega (arith, g .many))
+  reads-terms seen (suc n) = reads-as (
+      reads-bind (reads-tested 7 (reads-signed 1) (λ a. both _ _ (is-within (neg 64) (pos 64) a) (apart _ (equalsZ a (pos 0))))) λ a.
+      reads-bind (reads-asked 7 (reads-tested 7 (reads-unsigned 2) (λ x. at-most (suc x) (ctx .ints))) (λ x. new x seen)) λ x.
+      reads-mapped (λ ts. record { coef = a; var = x } ∷ ts) (reads-terms (x ∷ seen) n)) to from
+    where
+      Raw : Grammar (List Term)
+      Raw =
+          Then (Signed (λ a. Within (neg 64) (pos 64) a × (a ≢ pos 0)) 1) λ a.
+          Then (Natural (λ x. (x < ctx .ints) × All (λ y. x ≢ y) seen) 2) λ x.
+          Image (λ ts. record { coef = a; var = x } ∷ ts) (Spelt (GoodTerms (ctx .ints) (x ∷ seen) n) (several termFields))
+
+      to : (ts : List Term) (fs : List Field) → Raw ts fs → Spelt (GoodTerms (ctx .ints) seen (suc n)) (several termFields) ts fs
+      to ts fs (spelt a then _then_ {a = v} (spelt x) (image {a = us} (spelt g))) =
+          let p = apart-cons v seen (map (λ t. t .var) us) (g .new) in
+          spelt (record {
+            many = ap suc (g .many);
+            good = (record { least = a .0 .0; most = a .0 .1; some = a .1; known = x .0 }, g .good);
+            differ = (p .0, g .differ);
+            new = (x .1, p .1);
+          })
+
+      from : (ts : List Term) (fs : List Field) → Spelt (GoodTerms (ctx .ints) seen (suc n)) (several termFields) ts fs → Raw ts fs
+      from [] fs (spelt g) = absurd (omega (arith, g .many))
+      from (t ∷ ts) fs (spelt g) =
+          spelt ((g .good .0 .least, g .good .0 .most), g .good .0 .some) then
+          spelt (g .good .0 .known, g .new .0) then
+          image {a = ts} (spelt (record { many = omega (arith, g .many); good = g .good .1; differ = g .differ .1; new = cons-apart (t .var) seen (map (λ t. t .var) ts) (g .differ .0) (g .new .1) }))
+
+  pub reads-comparison : Reads (readComparison ctx) (Spelt (GoodComparison (ctx .ints)) comparisonFields)
+  unfolding readComparison
+  reads-comparison = reads-as (
+      reads-bind (reads-count 1 3 1) λ n.
+      reads-bind (reads-terms [] n) λ ts.
+      reads-mapped (λ k. record { terms = ts; constant = k }) (reads-tested 7 (reads-signed 4) (is-within (neg 1000000) (pos 1000000)))) to from
+    where
+      Raw : Grammar Comparison
+      Raw =
+          Then (Natural (FromTo 1 3) 1) λ n.
+          Then (Spelt (GoodTerms (ctx .ints) [] n) (several termFields)) λ ts.
+          Image (λ k. record { terms = ts; constant = k }) (Signed (Within (neg 1000000) (pos 1000000)) 4)
+
+      to : (q : Comparison) (fs : List Field) → Raw q fs → Spelt (GoodComparison (ctx .ints)) comparisonFields q fs
+      to q fs (spelt n then spelt g then image (spelt k)) =
+          rw (← g .many) (spelt (record { some = omega (arith, g .many); few = omega (arith, g .many); terms = g .good; differ = g .differ; least = k .0; most = k .1 }))
+
+      from : (q : Comparison) (fs : List Field) → Spelt (GoodComparison (ctx .ints)) comparisonFields q fs → Raw q fs
+      from q fs (spelt g) =
+          spelt (g .some, g .few) then
+          spelt (record { many = refl; good = g .terms; differ = g .differ; new = all-every (λ x. Unit {0}) (λ x. tt) (map (λ t. t .var) (q .terms)) }) then
+          image (spelt (g .least, g .most))
+
+  pub reads-boolean : Reads (boolean ctx) (Natural (FromTo 1 (ctx .bools)) 2)
+  unfolding boolean
+  reads-boolean = reads-tested 6 (reads-unsigned 2) (from-to 1 (ctx .bools))
+
+  abbrev OfKind : ℕ → Grammar Literal
+  OfKind zero = Image isTrue (Natural (FromTo 1 (ctx .bools)) 2)
+  OfKind (suc zero) = Image isFalse (Natural (FromTo 1 (ctx .bools)) 2)
+  OfKind (suc (suc k)) = Image atMost (Spelt (GoodComparison (ctx .ints)) comparisonFields)
+
+  reads-kind : (k : ℕ) → Reads (ofKind ctx k) (OfKind k)
+  unfolding ofKind
+  reads-kind zero = reads-mapped isTrue reads-boolean
+  reads-kind (suc zero) = reads-mapped isFalse reads-boolean
+  reads-kind (suc (suc k)) = reads-mapped atMost reads-comparison
+
+  pub reads-literal : Reads (readLiteral ctx) (Spelt (GoodLiteral (ctx .ints) (ctx .bools)) literalFields)
+  unfolding readLiteral
+  reads-literal = reads-as (reads-bind (reads-tested 6 (reads-unsigned 1) (λ k. at-most k 2)) reads-kind) to from
+    where
+      Raw : Grammar Literal
+      Raw = Then (Natural (λ k. k ≤ 2) 1) OfKind
+
+      to : (l : Literal) (fs : List Field) → Raw l fs → Spelt (GoodLiteral (ctx .ints) (ctx .bools)) literalFields l fs
+      to l fs (_then_ {a = zero} (spelt k) (image (spelt g))) = spelt g
+      to l fs (_then_ {a = suc zero} (spelt k) (image (spelt g))) = spelt g
+      to l fs (_then_ {a = suc (suc zero)} (spelt k) (image (spelt g))) = spelt g
+      to l fs (_then_ {a = suc (suc (suc n))} (spelt k) (image (spelt g))) = absurd (omega arith)
+
+      from : (l : Literal) (fs : List Field) → Spelt (GoodLiteral (ctx .ints) (ctx .bools)) literalFields l fs → Raw l fs
+      from (isTrue b) fs (spelt g) = _then_ {a = 0} (spelt (omega arith)) (image (spelt g))
+      from (isFalse b) fs (spelt g) = _then_ {a = 1} (spelt (omega arith)) (image (spelt g))
+      from (atMost q) fs (spelt g) = _then_ {a = 2} (spelt (omega arith)) (image (spelt g))
+
+  pub reads-clause : Reads (readClause ctx) (Spelt (GoodClause (ctx .ints) (ctx .bools)) clauseFields)
+  unfolding readClause
+  reads-clause = reads-as (reads-bind (reads-count 0 64 1) λ n. reads-times reads-literal n) to from
+    where
+      Raw : Grammar Clause
+      Raw = Then (Natural (FromTo 0 64) 1) λ n. Spelt (Many (GoodLiteral (ctx .ints) (ctx .bools)) n) (several literalFields)
+
+      to : (C : Clause) (fs : List Field) → Raw C fs → Spelt (GoodClause (ctx .ints) (ctx .bools)) clauseFields C fs
+      to C fs (spelt n then spelt g) = rw (← g .0) (spelt (record { few = omega (arith, g .0); literals = g .1 }))
+
+      from : (C : Clause) (fs : List Field) → Spelt (GoodClause (ctx .ints) (ctx .bools)) clauseFields C fs → Raw C fs
+      from C fs (spelt g) = spelt (zero-le, g .few) then spelt (refl, g .literals)
+
+-- ---- the board
+pub reads-body : (version : ℕ) → Reads (readBody version) (Spelt Admitted bodyFields)
+unfolding readBody
+reads-body version = reads-as (
+    reads-bind (reads-count 0 1024 2) λ v.
+    reads-bind (reads-count 0 4096 2) λ m.
+    reads-bind (reads-count 0 4096 2) λ c.
+    reads-bind (reads-times reads-bounds v) λ bs.
+    reads-mapped (λ cs. record { bounds = bs; bools = m; clauses = cs }) (reads-times (reads-clause (record { version = version; ints = v; bools = m })) c)) to from
+  where
+    Raw : Grammar Board
+    Raw =
+        Then (Natural (FromTo 0 1024) 2) λ v.
+        Then (Natural (FromTo 0 4096) 2) λ m.
+        Then (Natural (FromTo 0 4096) 2) λ c.
+        Then (Spelt (Many GoodBounds v) (several boundsFields)) λ bs.
+        Image (λ cs. record { bounds = bs; bools = m; clauses = cs }) (Spelt (Many (GoodClause v m) c) (several clauseFields))
+
+    to : (B : Board) (fs : List Field) → Raw B fs → Spelt Admitted bodyFields B fs
+    to B fs (spelt v then spelt m then spelt c then spelt bs then image (spelt cs)) =
+        rw (← bs .0, ← cs .0) (spelt (record { ints = omega (arith, bs .0); bools = m .1; rules = omega (arith, cs .0); bounds = bs .1; clauses = rw (bs .0) (cs .1) }))
+
+    from : (B : Board) (fs : List Field) → Spelt Admitted bodyFields B fs → Raw B fs
+    from B fs (spelt g) =
+        spelt (zero-le, g .ints) then spelt (zero-le, g .bools) then spelt (zero-le, g .rules) then
+        spelt (refl, g .bounds) then image (spelt (refl, g .clauses))

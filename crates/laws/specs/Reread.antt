@@ -1,0 +1,202 @@
+-- What the bytes of an accepted record hold, read plainly and without checks. Assumes nothing.
+use mathlib.Core.Path.{_≡_, refl, sym, ap, _∙_}
+use mathlib.Core.Logic.{_↔_}
+use mathlib.Core.Bool.{Bool, true, false}
+use mathlib.Core.List.{List, [], _∷_, map, flatten}
+use Prim.Native.Nat.{ℕ, zero, suc, _+_, _*_, _-_, _≤_, _<_}
+use native.Mathlib.Nat.{mul-suc}
+use native.Mathlib.Omega.{arith}
+use lib.ListN.{length, getD, drop, length-drop}
+use lib.Dec.{T, leb, eqb, leb→le, eqb→eq}
+use borrow.Author.Tests.{le-leb, eq-eqb}
+use lib.IntN.{pos}
+use Rattle.definitions.specs.Tools.{countUp}
+use Rattle.definitions.specs.Board.{Bounds, Term, Comparison, Board, boundsOf}
+use Rattle.definitions.specs.Result.{Result, done, refused, need}
+use Rattle.definitions.specs.Result as result
+use Rattle.definitions.specs.Reading.{Got, Context, times, big, twos, readComparison, readClause, readBody}
+use Rattle.definitions.specs.Encoding.{K}
+use Rattle.definitions.specs.Operations.{readBoard, accepted}
+use Rattle.laws.specs.Admitted.{Admitted, GoodComparison}
+use Rattle.laws.specs.Readings.{same, never, from-start}
+use Rattle.laws.specs.Spelling.{Field, several, integer, Stand, none, more, append-stand, stand-onward, boundsFields, termFields, comparisonFields, bodyFields}
+use Rattle.laws.specs.Grammar.{spelt, finds, found, reads-times}
+use Rattle.laws.specs.Reads.{reads-comparison, reads-clause, reads-body}
+
+-- ---- the record around its body
+pub record Wrapped (s : List ℕ) (B : Board) : Type 0 where
+  pub short : length s ≤ 65536
+  pub head : 5 ≤ length s
+  pub version : getD s 0 0 ≡ 1
+  pub stated : big s 1 4 ≡ length s - 5
+  pub body : readBody 1 s 5 ≡ finds B (length s)
+
+met : {A : Type 0} {a : A} (n d : ℕ) (t : Bool) (m : Result A) → result._>>_ (need n d t) m ≡ done a → T t × (m ≡ done a)
+met n d true m e = (tt, e)
+met n d false m e = never e
+
+ended : (s : List ℕ) (B : Board) (m : Result (Got Board))
+    → result._>>=_ m (λ g. result._>>_ (need 8 (g .next) (eqb (g .next) (length s))) (done (g .value))) ≡ done B → m ≡ finds B (length s)
+ended s B (done g) e =
+    let t = met 8 (g .next) (eqb (g .next) (length s)) (done (g .value)) e in
+    rw (← same (t .1), ← eqb→eq (g .next) (length s) (t .0))
+ended s B (refused n d) e = never e
+
+pub wrapped : (s : List ℕ) (B : Board) → readBoard s ≡ done B → Wrapped s B
+unfolding readBoard
+wrapped s B e =
+    let a = met 1 0 (leb (length s) 65536) _ e in
+    let b = met 2 0 (leb 5 (length s)) _ (a .1) in
+    let c = met 3 0 (eqb (getD s 0 0) 1) _ (b .1) in
+    let d = met 2 0 (eqb (big s 1 4) (length s - 5)) _ (c .1) in
+    let one : getD s 0 0 ≡ 1 = eqb→eq (getD s 0 0) 1 (c .0) in
+    record {
+      short = leb→le (length s) 65536 (a .0);
+      head = leb→le 5 (length s) (b .0);
+      version = one;
+      stated = eqb→eq (big s 1 4) (length s - 5) (d .0);
+      body = rw (← one) (ended s B (readBody (getD s 0 0) s 5) (d .1));
+    }
+
+pub unwrapped : (s : List ℕ) (B : Board) → Wrapped s B → readBoard s ≡ done B
+unfolding readBoard
+unwrapped s B w = rw (le-leb (length s) 65536 (w .short), le-leb 5 (length s) (w .head), w .version, eq-eqb (big s 1 4) (length s - 5) (w .stated), w .body, eq-eqb (length s) (length s) refl)
+
+-- all operations' checks
+pub accepted-parts : (s : List ℕ) (B : Board) → (accepted s ≡ done B) ↔ ((readBoard s ≡ done B) × (K B ≤ 2000000000))
+unfolding accepted
+accepted-parts s B = (to (readBoard s), λ h. rw (h .0, le-leb (K B) 2000000000 (h .1)))
+  where
+    to : (m : Result Board) → result._>>=_ m (λ C. result._>>_ (need 9 0 (leb (K C) 2000000000)) (done C)) ≡ done B → (m ≡ done B) × (K B ≤ 2000000000)
+    to (done C) e =
+        let t = met 9 0 (leb (K C) 2000000000) (done C) e in
+        (t .1, rw (same (t .1)) at (leb→le (K C) 2000000000 (t .0)))
+    to (refused n d) e = never e
+
+-- ---- n parts of k bytes, one after another
+module _ {A : Type 0} (f : ℕ → A) (k : ℕ) where
+  abbrev pub row : ℕ → ℕ → List A
+  row at n = map (λ i. f (at + k * i)) (countUp 0 n)
+
+  further : (at i : ℕ) → at + k * suc i ≡ at + k + k * i
+  further at i = omega (arith, mul-suc k i)
+
+  shift : (at i n : ℕ) → map (λ j. f (at + k * j)) (countUp (suc i) n) ≡ map (λ j. f (at + k + k * j)) (countUp i n)
+  shift at i zero = refl
+  shift at i (suc n) = rw (further at i, shift at (suc i) n)
+
+  row-cons : (at n : ℕ) → row at (suc n) ≡ f at ∷ row (at + k) n
+  row-cons at n =
+      let e : at + k * 0 ≡ at = omega arith in
+      rw (e, shift at 0 n)
+
+  pub row-at : (d : A) (at n i : ℕ) → i < n → getD (row at n) i d ≡ f (at + k * i)
+  row-at d at zero i h = absurd (omega arith)
+  row-at d at (suc n) zero h = refl
+  row-at d at (suc n) (suc i) h = rw (row-cons, further at i) (row-at d (at + k) n i (omega arith))
+
+  module _ (w : A → List Field) (s : List ℕ) (one : (at end : ℕ) (a : A) → Stand s at (w a) end → (a ≡ f at) × (end ≡ at + k)) where
+    pub stand-row : (at end : ℕ) (l : List A) → Stand s at (several w l) end → (l ≡ row at (length l)) × (end ≡ at + k * length l)
+    unfolding flatten
+    stand-row at end [] none = (refl, omega arith)
+    stand-row at end (a ∷ l) p =
+        let d = append-stand (w a) (several w l) p in
+        let h = one at (d .mid) a (d .front) in
+        let q = stand-row (d .mid) end l (d .back) in
+        (rw (row-cons, ← h .0, ← h .1) (ap (λ z. a ∷ z) (q .0)), omega (arith, h .1, q .1, further at (length l)))
+
+abbrev pub boundsAt : List ℕ → ℕ → Bounds
+boundsAt s at = record { lo = twos 2 (big s at 2); hi = twos 2 (big s (at + 2) 2) }
+
+abbrev pub termAt : List ℕ → ℕ → Term
+termAt s at = record { coef = twos 1 (big s at 1); var = big s (at + 1) 2 }
+
+one-bounds : (s : List ℕ) (at end : ℕ) (b : Bounds) → Stand s at (boundsFields b) end → (b ≡ boundsAt s at) × (end ≡ at + 4)
+one-bounds s at end b (more h l (more h′ u none)) = (rw (l, u), omega arith)
+
+one-term : (s : List ℕ) (at end : ℕ) (t : Term) → Stand s at (termFields t) end → (t ≡ termAt s at) × (end ≡ at + 3)
+one-term s at end t (more h a (more h′ x none)) = (rw (a, x), omega arith)
+
+-- ---- a comparison
+-- the terms of the comparison at a place
+unfoldable pub termsAt : List ℕ → ℕ → List Term
+termsAt s at = row (termAt s) 3 (at + 1) (big s at 1)
+
+pub record ComparisonRead (s : List ℕ) (at : ℕ) (q : Comparison) (end : ℕ) : Type 0 where
+  pub some : 1 ≤ big s at 1
+  pub few : big s at 1 ≤ 3
+  pub terms : q .terms ≡ termsAt s at
+  pub constant : q .constant ≡ twos 4 (big s (at + 1 + 3 * big s at 1) 4)
+  pub next : end ≡ at + 5 + 3 * big s at 1
+  pub room : end ≤ length s
+
+module _ (ints : ℕ) (s : List ℕ) (at : ℕ) (q : Comparison) where
+  comparison-end : (mid end : ℕ) → GoodComparison ints q → big s at 1 ≡ length (q .terms) → q .terms ≡ row (termAt s) 3 (at + 1) (length (q .terms))
+      → mid ≡ at + 1 + 3 * length (q .terms) → Stand s mid (integer 4 (q .constant) ∷ []) end → ComparisonRead s at q end
+  unfolding termsAt
+  comparison-end mid end g n t m (more h k none) = record {
+    some = omega (arith, n, g .some);
+    few = omega (arith, n, g .few);
+    terms = t ∙ ap (row (termAt s) 3 (at + 1)) (sym n);
+    constant = rw (n, ← m) (sym k);
+    next = omega (arith, n);
+    room = h;
+  }
+
+  comparison-stand : (end : ℕ) → GoodComparison ints q → Stand s at (comparisonFields q) end → ComparisonRead s at q end
+  comparison-stand end g (more h n p) =
+      let d = append-stand (several termFields (q .terms)) _ p in
+      let r = stand-row (termAt s) 3 termFields s (one-term s) (at + 1) (d .mid) (q .terms) (d .front) in
+      comparison-end (d .mid) end g n (r .0) (r .1) (d .back)
+
+pub comparison-read : (ctx : Context) (s : List ℕ) (at : ℕ) (g : Got Comparison) → readComparison ctx s at ≡ done g → ComparisonRead s at (g .value) (g .next)
+comparison-read ctx s at g e =
+    let d = found (reads-comparison ctx .told s at (g .value) (g .next) e) in
+    comparison-stand (ctx .ints) s at (g .value) (g .next) (d .0) (d .1)
+
+-- ---- the board
+abbrev pub contextOf : Board → Context
+contextOf B = record { version = 1; ints = length (B .bounds); bools = B .bools }
+
+-- where the variable table ends
+abbrev pub tableEnd : Board → ℕ
+tableEnd B = 11 + 4 * length (B .bounds)
+
+pub record BoardRead (s : List ℕ) (B : Board) : Type 0 where
+  pub admitted : Admitted B
+  pub ints : length (B .bounds) ≡ big s 5 2
+  pub bools : B .bools ≡ big s 7 2
+  pub rules : length (B .clauses) ≡ big s 9 2
+  pub room : tableEnd B ≤ length s
+  pub bounds : (x : ℕ) → x < length (B .bounds) → boundsOf B x ≡ boundsAt s (11 + 4 * x)
+  pub clauses : times (length (B .clauses)) (readClause (contextOf B)) (drop (tableEnd B) s) 0 ≡ finds (B .clauses) (length (drop (tableEnd B) s))
+
+bounds-read : (s : List ℕ) (B : Board) → B .bounds ≡ row (boundsAt s) 4 11 (length (B .bounds)) → (x : ℕ) → x < length (B .bounds) → boundsOf B x ≡ boundsAt s (11 + 4 * x)
+unfolding boundsOf
+bounds-read s B e x h = ap (λ bs. getD bs x zeros) e ∙ row-at (boundsAt s) 4 zeros 11 (length (B .bounds)) x h
+  where
+    zeros : Bounds
+    zeros = record { lo = pos 0; hi = pos 0 }
+
+board-stand : (s : List ℕ) (B : Board) (end : ℕ) → end ≡ length s → Admitted B → Stand s 5 (bodyFields B) end → BoardRead s B
+board-stand s B end e g (more h v (more h′ m (more h″ c p))) =
+    let d = append-stand (several boundsFields (B .bounds)) _ p in
+    let r = stand-row (boundsAt s) 4 boundsFields s (one-bounds s) 11 (d .mid) (B .bounds) (d .front) in
+    let i : tableEnd B ≤ length s = omega (arith, stand-onward (d .back)) in
+    let c′ = reads-times (reads-clause (contextOf B)) (length (B .clauses)) in
+    let k = c′ .read s (d .mid) (B .clauses) end _ (spelt (refl, g .clauses)) (d .back) in
+    record {
+      admitted = g;
+      ints = sym v;
+      bools = sym m;
+      rules = sym c;
+      room = i;
+      bounds = bounds-read s B (r .0);
+      clauses = rw (length-drop, ← e) (from-start (c′ .orderly) s (tableEnd B) i (rw (r .1) at k));
+    }
+
+pub board-read : (s : List ℕ) (B : Board) → readBoard s ≡ done B → BoardRead s B
+board-read s B e = let d = found (reads-body 1 .told s 5 B (length s) (wrapped s B e .body)) in board-stand s B (length s) refl (d .0) (d .1)
+
+pub reading-admitted : (s : List ℕ) (B : Board) → readBoard s ≡ done B → Admitted B
+reading-admitted s B e = board-read s B e .admitted
