@@ -9,26 +9,21 @@ use mir.Syntax.{w32}
 use mir.Val.{SFits, toZ}
 use mir.Facts.{toZ-ofZ, toZ-pos}
 use Rattle.definitions.specs.Tools.{floor, ceil, neg}
-use Rattle.laws.specs.Whole.{whole, sfits, mag-law, add-law, sub-law, part-law, abs-law, abs-le, abs-fits, abs-mul-le, abs-sub, lt-test, ge-test, le-or-lt}
+use Rattle.laws.specs.Whole.{whole, add-law, sub-law, part-law, abs-law, abs-le, abs-fits, abs-mul-le, abs-sub, lt-test, ge-test, le-or-lt}
 use Rattle.laws.specs.Division.{floor-within, ceil-within}
 use Rattle.walk.specs.declared.Slot.{Slot}
+use Rattle.walk.proofs.Fits.{small}
 use Rattle.walk.specs.Slots.{FairSlot, valueBounds, slotBounds, orderNumber, slotLiteral}
-
-pub small : {a : ℤ} → natAbs a ≤ 2000000 → SFits w32 a
-small h = abs-fits (omega arith)
-
-pub minus-fits : {z : ℤ} {n : ℕ} → z ≡ pos n → SFits w32 z → SFits w32 (pos 0 -ℤ z)
-minus-fits {z} e f = sfits (omega (whole, sub-law (pos 0) z, mag-law z, f .sfits))
 
 module _ (s : Slot) (f : FairSlot s) where
   pub coefficient-fits : SFits w32 (s .coefficient)
-  coefficient-fits = small (omega arith)
+  coefficient-fits = small _ (omega arith)
 
   pub lower-fits : SFits w32 (s .lower)
-  lower-fits = small (omega arith)
+  lower-fits = small _ (omega arith)
 
   pub upper-fits : SFits w32 (s .upper)
-  upper-fits = small (omega arith)
+  upper-fits = small _ (omega arith)
 
   pub first-is : toZ w32 (s .first) ≡ pos (s .first)
   first-is = toZ-pos w32 (omega arith)
@@ -40,16 +35,16 @@ module _ (s : Slot) (f : FairSlot s) where
   at-upper = abs-mul-le (s .coefficient) (s .upper) 64 4096 (f .few) (f .highest)
 
   pub at-lower-fits : SFits w32 (s .coefficient *ℤ s .lower)
-  at-lower-fits = small (omega (arith, at-lower))
+  at-lower-fits = small _ (omega (arith, at-lower))
 
   pub at-upper-fits : SFits w32 (s .coefficient *ℤ s .upper)
-  at-upper-fits = small (omega (arith, at-upper))
+  at-upper-fits = small _ (omega (arith, at-upper))
 
   pub below-lower-fits : SFits w32 (s .coefficient *ℤ s .lower -ℤ pos 1)
-  below-lower-fits = small (omega (arith, at-lower, abs-sub (s .coefficient *ℤ s .lower) (pos 1)))
+  below-lower-fits = small _ (omega (arith, at-lower, abs-sub (s .coefficient *ℤ s .lower) (pos 1)))
 
   pub below-upper-fits : SFits w32 (s .coefficient *ℤ s .upper -ℤ pos 1)
-  below-upper-fits = small (omega (arith, at-upper, abs-sub (s .coefficient *ℤ s .upper) (pos 1)))
+  below-upper-fits = small _ (omega (arith, at-upper, abs-sub (s .coefficient *ℤ s .upper) (pos 1)))
 
 pub ruleset slot-fits = (toZ-ofZ, coefficient-fits, lower-fits, upper-fits, at-lower-fits, at-upper-fits, below-lower-fits, below-upper-fits)
 
@@ -66,13 +61,13 @@ falling s h = rw (ge-test (pos 0) (s .coefficient) h) (refl, refl)
 -- ---- the number of p(x,c)
 module _ (s : Slot) (c : ℤ) (f : FairSlot s) (low : (s .lower -ℤ pos 1) ≤ℤ c) (high : c ≤ℤ s .upper) where
   pub inside-fits : SFits w32 c
-  inside-fits = small (abs-le c (omega (whole, sub-law (s .lower) (pos 1), abs-law (s .lower), abs-law (s .upper))))
+  inside-fits = small _ (abs-le c (omega (whole, sub-law (s .lower) (pos 1), abs-law (s .lower), abs-law (s .upper))))
 
   pub from-lower-fits : SFits w32 (c -ℤ s .lower)
-  from-lower-fits = small (abs-le (c -ℤ s .lower) (omega (whole, sub-law c (s .lower), sub-law (s .lower) (pos 1), abs-law (s .lower), abs-law (s .upper))))
+  from-lower-fits = small _ (abs-le (c -ℤ s .lower) (omega (whole, sub-law c (s .lower), sub-law (s .lower) (pos 1), abs-law (s .lower), abs-law (s .upper))))
 
   pub index-fits : SFits w32 (c -ℤ s .lower +ℤ pos 1)
-  index-fits = small (abs-le (c -ℤ s .lower +ℤ pos 1) (omega (whole, sub-law c (s .lower), add-law (c -ℤ s .lower) (pos 1), sub-law (s .lower) (pos 1), abs-law (s .lower), abs-law (s .upper))))
+  index-fits = small _ (abs-le (c -ℤ s .lower +ℤ pos 1) (omega (whole, sub-law c (s .lower), add-law (c -ℤ s .lower) (pos 1), sub-law (s .lower) (pos 1), abs-law (s .lower), abs-law (s .upper))))
 
   pub number-is : pos (s .first) +ℤ (c -ℤ s .lower +ℤ pos 1) ≡ pos (orderNumber s c)
   unfolding orderNumber

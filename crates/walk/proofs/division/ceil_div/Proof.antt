@@ -5,46 +5,44 @@ use mir.Syntax.{w32}
 use mir.Val.{SFits}
 use mir.Facts.{toZ-ofZ}
 use Rattle.definitions.specs.Tools.{floor}
-use Rattle.laws.specs.Whole.{abs-fits, abs-sub}
+use Rattle.laws.specs.Whole.{abs-sub}
 use Rattle.laws.specs.Division.{ceil-is, abs-floor}
+use Rattle.walk.proofs.Fits.{minus-small}
 use Rattle.walk.proofs.division.ceil_div.Statement.{statement}
 use Rattle.walk.proofs.division.ceil_div.Tie as tie
 
-minus-b : (s : tie.Start) → SFits w32 (pos 0 -ℤ s .args .b)
-minus-b s = abs-fits (omega (arith, abs-sub (pos 0) (s .args .b)))
-
 sub-floor-div : tie.Need-sub-floor-div
-sub-floor-div c = let fb = c .fits .b in simp toZ-ofZ (minus-b c)
+sub-floor-div c = let fb = c .fits .b in simp toZ-ofZ (minus-small (c .args .b) (omega arith))
 
 floor-div-requires : tie.Need-floor-div-requires
 floor-div-requires c κs =
     let fa = c .fits .a in
     let fb = c .fits .b in
-    let mb = minus-b c in
+    let mb = minus-small (c .args .b) (omega arith) in
     simp toZ-ofZ (omega (arith, abs-sub (pos 0) (c .args .b)))
 
--- what the call returned, read back
+-- what the call returned
 got : (c : tie.After-floor-div) → c .floor-div .result ≡ floor (pos 0 -ℤ c .before .args .b) (c .before .args .a)
 got c =
     let fa = c .before .fits .a in
     let fb = c .before .fits .b in
-    let mb = minus-b (c .before) in
+    let mb = minus-small (c .before .args .b) (omega arith) in
     simp toZ-ofZ at (c .floor-div .ensures)
 
-minus-r : (c : tie.After-floor-div) → SFits w32 (pos 0 -ℤ c .floor-div .result)
-minus-r c =
-    let s = c .before in
-    abs-fits (omega (arith, abs-sub (pos 0) (c .floor-div .result), ap natAbs (got c), abs-floor (pos 0 -ℤ s .args .b) (s .args .a), abs-sub (pos 0) (s .args .b)))
+minus : (c : tie.After-floor-div) → SFits w32 (pos 0 -ℤ c .floor-div .result)
+minus c =
+    let b = c .before .args .b in
+    minus-small (c .floor-div .result) (omega (arith, ap natAbs (got c), abs-floor (pos 0 -ℤ b) (c .before .args .a), abs-sub (pos 0) b))
 
 sub-result : tie.Need-sub-result
 sub-result c =
-    let o : SFits w32 (c .floor-div .result) = record { sfits = c .floor-div .ok } in
-    simp toZ-ofZ (minus-r c)
+    let f : SFits w32 (c .floor-div .result) = record { sfits = c .floor-div .ok } in
+    simp toZ-ofZ (minus c)
 
 returns : tie.Need-returns
 returns c =
-    let o : SFits w32 (c .floor-div .result) = record { sfits = c .floor-div .ok } in
-    let m = minus-r c in
+    let f : SFits w32 (c .floor-div .result) = record { sfits = c .floor-div .ok } in
+    let m = minus c in
     simp toZ-ofZ (ap (λ (z : ℤ). pos 0 -ℤ z) (got c) ∙ ceil-is (c .before .args .b) (c .before .args .a))
 
 pub ceil-div-spec : {M : Type 1} → statement M

@@ -1,6 +1,6 @@
 use mathlib.Core.Path.{_≡_, sym, ap, _∙_}
 use native.Mathlib.Omega.{arith}
-use lib.IntN.{pos, negℤ, _-ℤ_}
+use lib.IntN.{pos, negℤ, natAbs, _-ℤ_}
 use lib.Signed.{_≤ℤ_, _<ℤ_}
 use mir.Syntax.{w32}
 use mir.Val.{SFits}
@@ -8,7 +8,8 @@ use mir.Facts.{toZ-ofZ}
 use Rattle.definitions.specs.Tools.{floor, ceil}
 use Rattle.laws.specs.Whole.{whole, back, abs-law, part-law, zero-sub}
 use Rattle.walk.specs.Slots.{orderNumber}
-use Rattle.walk.proofs.Slots.{coefficient-fits, bound-near, floor-inside, ceil-inside, inside-fits, minus-fits, literal-rising, literal-falling}
+use Rattle.walk.proofs.Fits.{minus-small}
+use Rattle.walk.proofs.Slots.{coefficient-fits, bound-near, floor-inside, ceil-inside, inside-fits, number-below, literal-rising, literal-falling}
 use Rattle.walk.proofs.terms.literal.Statement.{statement}
 use Rattle.walk.proofs.terms.literal.Tie as tie
 
@@ -97,7 +98,9 @@ numbered c =
     simp toZ-ofZ at (c .order-number2 .ensures)
 
 minus : (c : tie.After-order-number2) → SFits w32 (pos 0 -ℤ c .order-number2 .result)
-minus c = minus-fits (numbered c) (record { sfits = c .order-number2 .ok })
+minus c =
+    let d = c .before in
+    minus-small (c .order-number2 .result) (omega (arith, ap natAbs (numbered c), number-below (s′ d .args .s) (d .ceil-div .result -ℤ pos 1) (s′ d .pre .0) (in-order′ d .0) (in-order′ d .1)))
 
 sub-result : tie.Need-sub-result
 sub-result c =
