@@ -8,3 +8,5 @@ pub mod Entries
 pub mod Bytes
 pub mod Clauses
 pub mod Pairing
+pub mod Flat
+pub mod Foretold
