@@ -74,7 +74,9 @@ module _ (B : Board) (g : Admitted B) where
   list-numbers =
       rw rows-list
       (all-flatten small (map ended rows) (all-map (All small) ended rows
-      (all-impl (All (InList (N B))) (λ c. All small (ended c)) (λ c h. all-append small c (pos 0 ∷ []) (all-impl (InList (N B)) small (λ z h. h .1) c h) (omega arith, tt)) rows rows-numbered)))
+      (all-impl (All (InList (N B))) (λ c. All small (ended c))
+      (λ c h. all-append small c (pos 0 ∷ []) (all-impl (InList (N B)) small (λ z h. h .1) c h) (omega arith, tt))
+      rows rows-numbered)))
 
 -- ---- a literal as a number: v says that byte v, from 1, is 1, and -v that it is 0
 abbrev pub TrueIn : List ℕ → ℤ → Type 0
