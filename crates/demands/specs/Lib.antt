@@ -9,3 +9,5 @@ pub mod Bytes
 pub mod Clauses
 pub mod Pairing
 pub mod Records
+pub mod Flat
+pub mod Foretold

@@ -5,16 +5,16 @@ use mathlib.Core.List.{List, [], _∷_, _++_, map}
 use Prim.Native.Nat.{ℕ, suc, _+_, _*_, _^_, _≤_, _<_}
 use native.Mathlib.Nat.{mul-le-mul}
 use native.Mathlib.Omega.{arith}
-use lib.ListN.{length, length-append, length-map}
+use lib.ListN.{length, length-append}
 use lib.IntN.{pos, natAbs, _+ℤ_, _-ℤ_}
 use lib.Signed.{leZ, _≤ℤ_}
-use Rattle.definitions.specs.Tools.{All, if_then_else_, sum, size}
+use Rattle.definitions.specs.Tools.{All, if_then_else_, sum}
 use Rattle.definitions.specs.Board.{Board, Bounds, Term, Comparison, Clause, isTrue, isFalse, atMost, boundsOf}
 use Rattle.definitions.specs.Encoding.{termBounds, least, tuplesOf, comparisons, selected, axioms, rules, SatClause, places, width, N, M, K}
 use Rattle.laws.specs.Whole.{whole, add-law, sub-law, part-law, abs-law, abs-add}
-use Rattle.laws.specs.Lists.{all-impl, all-at, sum-most}
+use Rattle.laws.specs.Lists.{all-impl, sum-most}
 use Rattle.laws.specs.Admitted.{Admitted, GoodBounds, GoodTerm, GoodComparison, GoodClause}
-use Rattle.laws.specs.Terms.{ranges, term-size}
+use Rattle.laws.specs.Terms.{good-bounds, ranges, term-size}
 use Rattle.laws.specs.Tuples.{widths}
 use Rattle.laws.specs.Counting.{above, ways-most, tri-fits, tuples-count}
 use Rattle.laws.specs.Pieces.{Piece, line, under, compared, lone, opening, piecesFrom, used}
@@ -23,49 +23,61 @@ use Rattle.laws.specs.Sizes.{piecePlaces, K-sum}
 
 pub width-most : (b : Bounds) → GoodBounds b → width b ≤ 8193
 unfolding width
-width-most b g = omega (whole, g .lowest, g .ordered, g .highest, add-law (b .hi -ℤ b .lo) (pos 2), sub-law (b .hi) (b .lo), part-law (b .hi -ℤ b .lo +ℤ pos 2))
+width-most b g =
+    let d = b .hi -ℤ b .lo in
+    omega (whole, g .lowest, g .ordered, g .highest, add-law d (pos 2), sub-law (b .hi) (b .lo), part-law (d +ℤ pos 2))
+
+widths-length : (of : ℕ → Bounds) (ts : List Term) → length (widths (ranges of ts)) ≡ length ts
+widths-length of [] = refl
+widths-length of (t ∷ ts) = ap suc (widths-length of ts)
 
 module _ (B : Board) (g : Admitted B) where
-  good-bounds : (x : ℕ) → x < length (B .bounds) → GoodBounds (boundsOf B x)
-  unfolding boundsOf
-  good-bounds x h = all-at GoodBounds (record { lo = pos 0; hi = pos 0 }) (B .bounds) (g .bounds) x h
+  abbrev of : ℕ → Bounds
+  of = boundsOf B
 
-  least-size : (ts : List Term) → All (GoodTerm (length (B .bounds))) ts → natAbs (least (boundsOf B) ts) ≤ length ts * 262144
+  abbrev ints : ℕ
+  ints = length (B .bounds)
+
+  least-size : (ts : List Term) → All (GoodTerm ints) ts → natAbs (least of ts) ≤ length ts * 262144
   unfolding least
   least-size [] h = omega arith
   least-size (t ∷ ts) h =
-      let s = term-size (boundsOf B) (length (B .bounds)) t (h .0) (good-bounds (t .var) (h .0 .known)) in
-      omega (arith, s .0, least-size ts (h .1), abs-add (termBounds (boundsOf B) t .lo) (least (boundsOf B) ts))
+      let s = term-size of ints t (h .0) (good-bounds B (g .bounds) (t .var) (h .0 .known)) in
+      omega (arith, s .0, least-size ts (h .1), abs-add (termBounds of t .lo) (least of ts))
 
   -- ---- a comparison's tuples
-  pub above-fits : (q : Comparison) → GoodComparison (length (B .bounds)) q → suc (above (boundsOf B) q) < 2 ^ 21
+  pub above-fits : (q : Comparison) → GoodComparison ints q → suc (above of q) < 2 ^ 21
   above-fits q h =
-      let L = least (boundsOf B) (q .terms) in
+      let L = least of (q .terms) in
       let k = q .constant in
       let s = least-size (q .terms) (h .terms) in
       omega (whole, s, abs-law L, h .few, h .most, add-law (k -ℤ L) (pos 1), sub-law k L, part-law (k -ℤ L +ℤ pos 1))
 
-  pub tuples-fit : (q : Comparison) → GoodComparison (length (B .bounds)) q → least (boundsOf B) (q .terms) ≤ℤ q .constant → length (tuplesOf (boundsOf B) q) < 2 ^ 41
+  pub tuples-fit : (q : Comparison) → GoodComparison ints q → least of (q .terms) ≤ℤ q .constant → length (tuplesOf of q) < 2 ^ 41
   tuples-fit q h l =
-      let of = boundsOf B in
-      let rs = ranges of (q .terms) in
-      let ordered = all-impl (GoodTerm (length (B .bounds))) (λ t. of (t .var) .lo ≤ℤ of (t .var) .hi) (λ t g. good-bounds (t .var) (g .known) .ordered) (q .terms) (h .terms) in
-      let n : length (widths rs) ≤ 3 = omega (arith, h .few, length-map rs (λ r. size (r .hi -ℤ r .lo)), length-map {B = Bounds} (q .terms) (λ t. record { lo = termBounds of t .lo -ℤ pos 1; hi = termBounds of t .hi })) in
-      omega (arith, tuples-count of q ordered l, ways-most (widths rs) (above of q) n, tri-fits (suc (above of q)) (above-fits q h))
+      let ws = widths (ranges of (q .terms)) in
+      let few : length ws ≤ 3 = omega (arith, h .few, widths-length of (q .terms)) in
+      let ordered =
+      all-impl (GoodTerm ints) (λ t. of (t .var) .lo ≤ℤ of (t .var) .hi)
+      (λ t k. good-bounds B (g .bounds) (t .var) (k .known) .ordered) (q .terms) (h .terms)
+      in
+      omega (arith, tuples-count of q ordered l, ways-most ws (above of q) few, tri-fits (suc (above of q)) (above-fits q h))
 
   -- ---- the list
-  pub piece-most : (p : Piece) → Sound B p → piecePlaces (boundsOf B) p ≤ 2 ^ 41 * 5
+  piece-most : (p : Piece) → Sound B p → piecePlaces of p ≤ 2 ^ 41 * 5
   unfolding piecePlaces
   piece-most (line c) h = omega (arith, h .0)
-  piece-most (under lead q) h = go (leZ (least (boundsOf B) (q .terms)) (q .constant)) refl
+  piece-most (under lead q) h = go (leZ (least of (q .terms)) (q .constant)) refl
     where
-      go : (b : Bool) → leZ (least (boundsOf B) (q .terms)) (q .constant) ≡ b
-          → (if b then length (tuplesOf (boundsOf B) q) * (length lead + length (q .terms) + 1) else length lead + 1) ≤ 2 ^ 41 * 5
+      n : ℕ
+      n = length lead + length (q .terms) + 1
+
+      go : (b : Bool) → leZ (least of (q .terms)) (q .constant) ≡ b → (if b then length (tuplesOf of q) * n else length lead + 1) ≤ 2 ^ 41 * 5
       go true e =
           let t = tuples-fit q (h .2) (omega whole) in
-          let t′ : length (tuplesOf (boundsOf B) q) ≤ 2 ^ 41 = omega arith in
-          let n : length lead + length (q .terms) + 1 ≤ 5 = omega (arith, h .0, h .2 .few) in
-          mul-le-mul t′ n
+          let most : length (tuplesOf of q) ≤ 2 ^ 41 = omega arith in
+          let few : n ≤ 5 = omega (arith, h .0, h .2 .few) in
+          mul-le-mul most few
       go false e = omega (arith, h .0)
 
 comparisons-few : (C : Clause) → length (comparisons C) ≤ length C
@@ -90,15 +102,31 @@ unfolding piecesFrom
 pieces-few ints m j [] h = omega arith
 pieces-few ints m j (C ∷ Cs) h =
     let qs = compared (not (lone C)) j (comparisons C) in
-    let rest = piecesFrom (j + used (not (lone C)) (length (comparisons C))) Cs in
-    omega (arith, length-append (opening (lone C) j C) (qs ++ rest), length-append qs rest, opening-few (lone C) j C, compared-length (not (lone C)) j (comparisons C), comparisons-few C, h .0 .few, pieces-few ints m (j + used (not (lone C)) (length (comparisons C))) Cs (h .1))
+    let n = used (not (lone C)) (length (comparisons C)) in
+    let rest = piecesFrom (j + n) Cs in
+    omega (
+      arith,
+      length-append (opening (lone C) j C) (qs ++ rest),
+      length-append qs rest,
+      opening-few (lone C) j C,
+      compared-length (not (lone C)) j (comparisons C),
+      comparisons-few C,
+      h .0 .few,
+      pieces-few ints m (j + n) Cs (h .1),
+    )
 
 pub K-fits : (B : Board) → Admitted B → K B < 2 ^ 63
 K-fits B g =
     let ps = piecesFrom 0 (B .clauses) in
-    let a = sum-most (λ b. 3 * width b + 1) 24580 (B .bounds) (all-impl GoodBounds (λ b. 3 * width b + 1 ≤ 24580) (λ b h. omega (arith, width-most b h)) (B .bounds) (g .bounds)) in
-    let r = sum-most (piecePlaces (boundsOf B)) (2 ^ 41 * 5) ps (all-impl (Sound B) (λ p. piecePlaces (boundsOf B) p ≤ 2 ^ 41 * 5) (piece-most B g) ps (pieces-sound B g)) in
-    omega (arith, K-sum B (g .bounds), a, r, g .ints, g .rules, pieces-few (length (B .bounds)) (B .bools) 0 (B .clauses) (g .clauses))
+    omega (
+      arith,
+      K-sum B (g .bounds),
+      g .ints,
+      g .rules,
+      sum-most (λ b. 3 * width b + 1) GoodBounds 24580 (λ b h. omega (arith, width-most b h)) (B .bounds) (g .bounds),
+      sum-most (piecePlaces (boundsOf B)) (Sound B) (2 ^ 41 * 5) (piece-most B g) ps (pieces-sound B g),
+      pieces-few (length (B .bounds)) (B .bools) 0 (B .clauses) (g .clauses),
+    )
 
 -- a clause has a place for its end
 places-most : (cs : List SatClause) → length cs ≤ places cs
@@ -129,6 +157,6 @@ N-fits B g =
       g .ints,
       g .bools,
       g .rules,
-      sum-most width 8193 (B .bounds) (all-impl GoodBounds (λ b. width b ≤ 8193) width-most (B .bounds) (g .bounds)),
-      sum-most (λ C. length (selected C)) 64 (B .clauses) (all-impl (GoodClause (length (B .bounds)) (B .bools)) (λ C. length (selected C) ≤ 64) (λ C h. omega (arith, selected-few C, h .few)) (B .clauses) (g .clauses)),
+      sum-most width GoodBounds 8193 width-most (B .bounds) (g .bounds),
+      sum-most (λ C. length (selected C)) (GoodClause (length (B .bounds)) (B .bools)) 64 (λ C h. omega (arith, selected-few C, h .few)) (B .clauses) (g .clauses),
     )

@@ -50,7 +50,8 @@ orders-numbered B x =
     ∙ simp (offset (b .lo)) (countUp-shift (first B x) 0 n)
     ∙ ap (λ k. countUp k n) (add-zero (first B x))
 
-orders-from : (B : Board) (n x : ℕ) → x + n ≡ length (B .bounds) → map (number B) (flatten (map (orders (boundsOf B)) (countUp x n))) ≡ countUp (first B x) (sum (map width (drop x (B .bounds))))
+orders-from : (B : Board) (n x : ℕ) → x + n ≡ length (B .bounds)
+    → map (number B) (flatten (map (orders (boundsOf B)) (countUp x n))) ≡ countUp (first B x) (sum (map width (drop x (B .bounds))))
 unfolding flatten boundsOf
 orders-from B zero x e = ap (λ l. countUp (first B x) (sum (map width l))) (sym (drop-of-length-le (B .bounds) {i = x} (omega arith)))
 orders-from B (suc n) x e =
@@ -114,7 +115,16 @@ unfolding width
 within-width b c h k =
     let z = c -ℤ b .lo +ℤ pos 1 in
     let w = b .hi -ℤ b .lo +ℤ pos 2 in
-    omega (whole, sub-law (b .lo) (pos 1), add-law (c -ℤ b .lo) (pos 1), sub-law c (b .lo), part-law z, add-law (b .hi -ℤ b .lo) (pos 2), sub-law (b .hi) (b .lo), part-law w)
+    omega (
+      whole,
+      sub-law (b .lo) (pos 1),
+      add-law (c -ℤ b .lo) (pos 1),
+      sub-law c (b .lo),
+      part-law z,
+      add-law (b .hi -ℤ b .lo) (pos 2),
+      sub-law (b .hi) (b .lo),
+      part-law w,
+    )
 
 -- each stands in the list
 order-listed : (B : Board) (x : ℕ) (c : ℤ) → Has B (order x c) → Any (λ v. v ≡ order x c) (orders (boundsOf B) x)
@@ -158,7 +168,8 @@ listed B a h = go a h
         (any-map is selector (countUp 0 n) (any-countUp (λ i. selector i ≡ selector j) 0 n j (omega arith) (omega arith) refl))
 
 -- an entry whose numbers are counted up stands where its number says
-counted-at : {A : Type 0} (f : A → ℕ) (d : A) (l : List A) (i n : ℕ) → map f l ≡ countUp i n → (a : A) → Any (λ v. v ≡ a) l → (i ≤ f a) × (f a < i + n) × (getD l (f a - i) d ≡ a)
+counted-at : {A : Type 0} (f : A → ℕ) (d : A) (l : List A) (i n : ℕ) → map f l ≡ countUp i n → (a : A) → Any (λ v. v ≡ a) l
+    → (i ≤ f a) × (f a < i + n) × (getD l (f a - i) d ≡ a)
 counted-at f d (x ∷ l) i zero e a h = absurd (cons≢nil e)
 counted-at f d (x ∷ l) i (suc n) e a (inl h) =
     let k : f a ≡ i = ap f (sym h) ∙ head-eq-of-cons-eq e in

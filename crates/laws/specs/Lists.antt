@@ -132,9 +132,9 @@ module _ {A : Type 0} (f : A → ℕ) where
   sum-same m (x ∷ l) a = omega (arith, a .0, sum-same m l (a .1))
 
   -- each entry at most m
-  pub sum-most : (m : ℕ) (l : List A) → All (λ x. f x ≤ m) l → sum (map f l) ≤ length l * m
-  sum-most m [] a = omega arith
-  sum-most m (x ∷ l) a = omega (arith, a .0, sum-most m l (a .1))
+  pub sum-most : (P : A → Type 0) (m : ℕ) → ((x : A) → P x → f x ≤ m) → (l : List A) → All P l → sum (map f l) ≤ length l * m
+  sum-most P m h [] a = omega arith
+  sum-most P m h (x ∷ l) a = omega (arith, h x (a .0), sum-most P m h l (a .1))
 
 -- ---- counting up
 pub length-countUp : (i n : ℕ) → length (countUp i n) ≡ n

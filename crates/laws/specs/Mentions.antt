@@ -11,11 +11,11 @@ use Rattle.definitions.specs.Tools.{All, if_then_else_, floor, ceil, countUp, r
 use Rattle.definitions.specs.Board.{Board, Bounds, Term, Comparison, Clause, isTrue, isFalse, atMost, boundsOf, variables}
 use Rattle.definitions.specs.Encoding.{Atom, order, SatLiteral, SatClause, plus, minus, termBounds, least, tuplesOf, sharp, clausesUnder, axiomsOf, comparisons, selected, axioms, rules, clauses, selections, number, literalNumber, N}
 use Rattle.laws.specs.Whole.{whole, sub-law, abs-neg, ne-in}
-use Rattle.laws.specs.Lists.{all-append, all-flatten, all-impl, all-map, all-at, all-countUp}
+use Rattle.laws.specs.Lists.{all-append, all-flatten, all-impl, all-map, all-countUp}
 use Rattle.laws.specs.Ranges.{all-range}
 use Rattle.laws.specs.Division.{floor-within, ceil-within}
-use Rattle.laws.specs.Admitted.{Admitted, GoodBounds, GoodTerm, GoodLiteral, GoodComparison, GoodClause}
-use Rattle.laws.specs.Terms.{ranges, Within, tuples-within}
+use Rattle.laws.specs.Admitted.{Admitted, GoodTerm, GoodLiteral, GoodComparison, GoodClause}
+use Rattle.laws.specs.Terms.{good-bounds, ranges, Within, tuples-within}
 use Rattle.laws.specs.Pieces.{Piece, line, under, pieceClauses, compared, lineFrom, lone, opening, piecesFrom, used, selected-count, rules-pieces}
 use Rattle.laws.specs.Layout.{Has, number-range}
 
@@ -27,7 +27,8 @@ module _ (B : Board) where
   abbrev pub Mentions : SatLiteral → Type 0
   Mentions l = Has B (atomOf l)
 
-  sharp-mentions : (t : Term) (b : ℤ) → GoodTerm (length (B .bounds)) t → (termBounds (boundsOf B) t .lo -ℤ pos 1) ≤ℤ b → b ≤ℤ termBounds (boundsOf B) t .hi → Mentions (sharp t b)
+  sharp-mentions : (t : Term) (b : ℤ) → GoodTerm (length (B .bounds)) t → (termBounds (boundsOf B) t .lo -ℤ pos 1) ≤ℤ b
+      → b ≤ℤ termBounds (boundsOf B) t .hi → Mentions (sharp t b)
   unfolding termBounds sharp
   sharp-mentions t b g = go (ltZ (pos 0) (t .coef)) refl
     where
@@ -44,13 +45,15 @@ module _ (B : Board) where
           let w = ceil-within (t .coef) (r .lo) (r .hi) b (omega (whole, ne-in (t .coef) (pos 0) (g .some))) l u in
           (g .known, w .0, w .1)
 
-  tuple-mentions : (ts : List Term) (bs : List ℤ) → All (GoodTerm (length (B .bounds))) ts → Within (ranges (boundsOf B) ts) bs → All Mentions (zipWith sharp ts bs)
+  tuple-mentions : (ts : List Term) (bs : List ℤ) → All (GoodTerm (length (B .bounds))) ts → Within (ranges (boundsOf B) ts) bs
+      → All Mentions (zipWith sharp ts bs)
   unfolding zipWith
   tuple-mentions [] bs g w = tt
   tuple-mentions (t ∷ ts) [] g w = tt
   tuple-mentions (t ∷ ts) (b ∷ bs) g w = (sharp-mentions t b (g .0) (w .0) (w .1), tuple-mentions ts bs (g .1) (w .2))
 
-  under-mentions : (lead : SatClause) (q : Comparison) → All Mentions lead → GoodComparison (length (B .bounds)) q → All (All Mentions) (clausesUnder lead (boundsOf B) q)
+  under-mentions : (lead : SatClause) (q : Comparison) → All Mentions lead → GoodComparison (length (B .bounds)) q
+      → All (All Mentions) (clausesUnder lead (boundsOf B) q)
   unfolding clausesUnder tuplesOf
   under-mentions lead q a g = go (leZ (least (boundsOf B) (q .terms)) (q .constant))
     where
@@ -90,7 +93,8 @@ module _ (B : Board) where
   line-mentions j (isFalse b ∷ C) g h = (g .0, line-mentions j C (g .1) h)
   line-mentions j (atMost q ∷ C) g h = (omega arith, line-mentions (suc j) C (g .1) (omega arith))
 
-  compared-sound : (led : Bool) (j : ℕ) (C : Clause) → Good C → Fits j (used led (length (comparisons C))) → All Sound (compared led j (comparisons C))
+  compared-sound : (led : Bool) (j : ℕ) (C : Clause) → Good C → Fits j (used led (length (comparisons C)))
+      → All Sound (compared led j (comparisons C))
   unfolding compared comparisons
   compared-sound led j [] g h = tt
   compared-sound led j (isTrue b ∷ C) g h = compared-sound led j C (g .1) h
@@ -99,11 +103,13 @@ module _ (B : Board) where
       ((omega arith, (omega arith, tt), g .0), compared-sound true (suc j) C (g .1) (omega arith))
   compared-sound false j (atMost q ∷ C) g h = ((omega arith, tt, g .0), compared-sound false j C (g .1) h)
 
-  opening-sound : (alone : Bool) (j : ℕ) (C : Clause) → GoodClause (length (B .bounds)) (B .bools) C → Fits j (used (not alone) (length (comparisons C))) → All Sound (opening alone j C)
+  opening-sound : (alone : Bool) (j : ℕ) (C : Clause) → GoodClause (length (B .bounds)) (B .bools) C
+      → Fits j (used (not alone) (length (comparisons C))) → All Sound (opening alone j C)
   opening-sound true j C g h = tt
   opening-sound false j C g h = ((omega (arith, line-length j C, g .few), line-mentions j C (g .literals) h), tt)
 
-  sound-from : (j : ℕ) (Cs : List Clause) → All (GoodClause (length (B .bounds)) (B .bools)) Cs → Fits j (length (flatten (map selected Cs))) → All Sound (piecesFrom j Cs)
+  sound-from : (j : ℕ) (Cs : List Clause) → All (GoodClause (length (B .bounds)) (B .bools)) Cs
+      → Fits j (length (flatten (map selected Cs))) → All Sound (piecesFrom j Cs)
   unfolding piecesFrom flatten
   sound-from j [] g h = tt
   sound-from j (C ∷ Cs) g h =
@@ -143,14 +149,14 @@ module _ (B : Board) where
 
 -- ---- all of them
 pub clauses-mention : (B : Board) → Admitted B → All (All (Mentions B)) (clauses B)
-unfolding clauses axioms rules variables boundsOf
+unfolding clauses axioms rules variables
 clauses-mention B g =
     let n = length (B .bounds) in
     let ps = piecesFrom 0 (B .clauses) in
     all-append (All (Mentions B)) (flatten (axioms B)) (flatten (rules B))
     (all-flatten (All (Mentions B)) (axioms B) (all-map (All (All (Mentions B))) (axiomsOf (boundsOf B)) (countUp 0 n)
     (all-countUp (λ x. All (All (Mentions B)) (axiomsOf (boundsOf B) x)) 0 n (λ x l u.
-    axioms-mention B x (omega arith) (all-at GoodBounds (record { lo = pos 0; hi = pos 0 }) (B .bounds) (g .bounds) x (omega arith) .ordered)))))
+    axioms-mention B x (omega arith) (good-bounds B (g .bounds) x (omega arith) .ordered)))))
     (rw (rules-pieces (boundsOf B) 0 (B .clauses))
     (all-flatten (All (Mentions B)) (map (pieceClauses (boundsOf B)) ps)
     (all-map (All (All (Mentions B))) (pieceClauses (boundsOf B)) ps

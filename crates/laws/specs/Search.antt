@@ -38,7 +38,8 @@ module _ {A : Type 0} (n : ℕ) (test : A → Bool) where
   unfolding flatten
   seek-pieces i l ls = seek-append i l (flatten ls)
 
-  seek-step : (d : A) (l : List A) (i : ℕ) → i < length l → seek i (drop i l) ≡ (if test (getD l i d) then seek (suc i) (drop (suc i) l) else refused n i)
+  seek-step : (d : A) (l : List A) (i : ℕ) → i < length l
+      → seek i (drop i l) ≡ (if test (getD l i d) then seek (suc i) (drop (suc i) l) else refused n i)
   seek-step d l i h = ap (seek i) (drop-cons l i d h)
 
   pub seek-fails : (d : A) (l : List A) (i : ℕ) → i < length l → test (getD l i d) ≡ false → seek i (drop i l) ≡ refused n i

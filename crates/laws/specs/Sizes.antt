@@ -11,10 +11,10 @@ use Rattle.definitions.specs.Tools.{All, if_then_else_, countUp, sum, size, ran
 use Rattle.definitions.specs.Board.{Board, Bounds, Term, Comparison, Clause, boundsOf, variables}
 use Rattle.definitions.specs.Encoding.{SatClause, order, plus, minus, least, tuplesOf, sharp, clausesUnder, axiomsOf, comparisons, selected, axioms, rules, clauses, width, literalNumber, clauseList, N, M, places, K}
 use Rattle.laws.specs.Whole.{whole, add-law, sub-law, suc-law, part-law}
-use Rattle.laws.specs.Lists.{all-impl, all-map, all-every, all-at, all-countUp, map-same, map-at, length-flatten, length-flat-map, sum-append, sum-flatten, sum-same}
+use Rattle.laws.specs.Lists.{all-impl, all-map, all-every, all-countUp, map-same, map-at, length-flatten, length-flat-map, sum-append, sum-flatten, sum-same}
 use Rattle.laws.specs.Ranges.{length-range}
 use Rattle.laws.specs.Admitted.{GoodBounds}
-use Rattle.laws.specs.Terms.{ranges, Within, tuples-within}
+use Rattle.laws.specs.Terms.{good-bounds, ranges, Within, tuples-within}
 use Rattle.laws.specs.Pieces.{Piece, line, under, pieceClauses, compared, lone, opening, piecesFrom, used, selected-count, rules-count, rules-places}
 
 -- ---- the lists' lengths
@@ -25,7 +25,13 @@ M-is B = omega (arith, length-append (flatten (axioms B)) (flatten (rules B)), l
 pub K-is : (B : Board) → K B ≡ length (clauseList B)
 unfolding K places clauses clauseList
 K-is B =
-    omega (arith, length-flat-map ended weight (λ c. length-append (map (literalNumber B) c) (pos 0 ∷ []) ∙ ap (λ n. n + 1) (length-map c (literalNumber B))) (clauses B), sum-append weight (flatten (axioms B)) (flatten (rules B)), sum-flatten weight (axioms B), sum-flatten weight (rules B))
+    omega (
+      arith,
+      length-flat-map ended weight ended-length (clauses B),
+      sum-append weight (flatten (axioms B)) (flatten (rules B)),
+      sum-flatten weight (axioms B),
+      sum-flatten weight (rules B),
+    )
   where
     weight : SatClause → ℕ
     weight c = length c + 1
@@ -33,10 +39,16 @@ K-is B =
     ended : SatClause → List ℤ
     ended c = map (literalNumber B) c ++ (pos 0 ∷ [])
 
+    ended-length : (c : SatClause) → length (ended c) ≡ weight c
+    ended-length c = omega (arith, length-append (map (literalNumber B) c) (pos 0 ∷ []), length-map c (literalNumber B))
+
 -- ---- a variable's axioms
 widened : (b : Bounds) → b .lo ≤ℤ b .hi → width b ≡ suc (size (sucℤ (b .hi) -ℤ b .lo))
 unfolding width
-widened b h = omega (whole, add-law (b .hi -ℤ b .lo) (pos 2), sub-law (b .hi) (b .lo), sub-law (sucℤ (b .hi)) (b .lo), suc-law (b .hi), part-law (b .hi -ℤ b .lo +ℤ pos 2), part-law (sucℤ (b .hi) -ℤ b .lo))
+widened b h =
+    let l = b .lo in
+    let u = b .hi in
+    omega (whole, add-law (u -ℤ l) (pos 2), sub-law u l, sub-law (sucℤ u) l, suc-law u, part-law (u -ℤ l +ℤ pos 2), part-law (sucℤ u -ℤ l))
 
 module _ (of : ℕ → Bounds) (x : ℕ) (h : of x .lo ≤ℤ of x .hi) where
   abbrev step : ℤ → SatClause
@@ -50,7 +62,8 @@ module _ (of : ℕ → Bounds) (x : ℕ) (h : of x .lo ≤ℤ of x .hi) where
   unfolding axiomsOf places
   axioms-places =
       let cs = range (of x .lo) (of x .hi) in
-      omega (arith, widened (of x) h, sum-same (λ c. length c + 1) 3 (map step cs) (all-map (λ c. length c + 1 ≡ 3) step cs (all-every (λ c. length (step c) + 1 ≡ 3) (λ c. refl) cs)), length-map cs step, length-range (of x .lo) (of x .hi))
+      let three = all-map (λ c. length c + 1 ≡ 3) step cs (all-every (λ c. length (step c) + 1 ≡ 3) (λ c. refl) cs) in
+      omega (arith, widened (of x) h, sum-same (λ c. length c + 1) 3 (map step cs) three, length-map cs step, length-range (of x .lo) (of x .hi))
 
 -- ---- a piece of the rules: a clause's line, or a comparison's clauses
 unfoldable pub pieceCount : (ℕ → Bounds) → Piece → ℕ
@@ -139,25 +152,35 @@ pieces-selectors j (C ∷ Cs) =
     let o = opening (lone C) j C in
     let qs = compared (not (lone C)) j (comparisons C) in
     let n = used (not (lone C)) (length (comparisons C)) in
-    omega (arith, sum-append pieceSelectors o (qs ++ piecesFrom (j + n) Cs), sum-append pieceSelectors qs (piecesFrom (j + n) Cs), opening-selectors (lone C) j C, compared-selectors (not (lone C)) j (comparisons C), selected-count C, pieces-selectors (j + n) Cs)
+    let rest = piecesFrom (j + n) Cs in
+    omega (
+      arith,
+      sum-append pieceSelectors o (qs ++ rest),
+      sum-append pieceSelectors qs rest,
+      opening-selectors (lone C) j C,
+      compared-selectors (not (lone C)) j (comparisons C),
+      selected-count C,
+      pieces-selectors (j + n) Cs,
+    )
 
 -- ---- the sums
 module _ (B : Board) where
   abbrev pieces : List Piece
   pieces = piecesFrom 0 (B .clauses)
 
-  axioms-sum : (g : List SatClause → ℕ) (f : Bounds → ℕ) → ((x : ℕ) → boundsOf B x .lo ≤ℤ boundsOf B x .hi → g (axiomsOf (boundsOf B) x) ≡ f (boundsOf B x))
+  axioms-sum : (g : List SatClause → ℕ) (f : Bounds → ℕ)
+      → ((x : ℕ) → boundsOf B x .lo ≤ℤ boundsOf B x .hi → g (axiomsOf (boundsOf B) x) ≡ f (boundsOf B x))
       → All GoodBounds (B .bounds) → sum (map g (axioms B)) ≡ sum (map f (B .bounds))
   unfolding axioms variables boundsOf
   axioms-sum g f e h =
-      let none : Bounds = record { lo = pos 0; hi = pos 0 } in
-      let xs = countUp 0 (length (B .bounds)) in
+      let n = length (B .bounds) in
+      let xs = countUp 0 n in
       ap sum
       (map-map g (axiomsOf (boundsOf B)) xs
       ∙ map-same (λ x. g (axiomsOf (boundsOf B) x)) (λ x. f (boundsOf B x)) xs
-      (all-countUp (λ x. g (axiomsOf (boundsOf B) x) ≡ f (boundsOf B x)) 0 (length (B .bounds)) (λ x l u. e x (all-at GoodBounds none (B .bounds) h x (omega arith) .ordered)))
+      (all-countUp (λ x. g (axiomsOf (boundsOf B) x) ≡ f (boundsOf B x)) 0 n (λ x l u. e x (good-bounds B h x (omega arith) .ordered)))
       ∙ sym (map-map f (boundsOf B) xs)
-      ∙ ap (map f) (map-at none (B .bounds)))
+      ∙ ap (map f) (map-at (record { lo = pos 0; hi = pos 0 }) (B .bounds)))
 
   pub N-sum : N B ≡ B .bools + sum (map width (B .bounds)) + sum (map pieceSelectors pieces)
   unfolding N

@@ -2,19 +2,23 @@
 use mathlib.Core.Path.{_≡_, refl}
 use mathlib.Core.Bool.{Bool, true, false}
 use mathlib.Core.List.{List, [], _∷_, map, flatten}
-use Prim.Native.Nat.{ℕ, suc, _≤_}
+use Prim.Native.Nat.{ℕ, suc, _≤_, _<_}
 use native.Mathlib.Omega.{arith}
 use lib.ListN.{length}
 use lib.IntN.{ℤ, pos, natAbs, _+ℤ_, _-ℤ_, _*ℤ_}
 use lib.Signed.{ltZ, _≤ℤ_}
 use Rattle.definitions.specs.Tools.{All, if_then_else_, sumZ, eqZ, range}
-use Rattle.definitions.specs.Board.{Bounds, Term}
+use Rattle.definitions.specs.Board.{Board, Bounds, Term, boundsOf}
 use Rattle.definitions.specs.Encoding.{termBounds, least, tuples}
-use Rattle.laws.specs.Lists.{all-flatten, all-map, all-impl}
+use Rattle.laws.specs.Lists.{all-at, all-flatten, all-map, all-impl}
 use Rattle.laws.specs.Ranges.{all-range}
 use Rattle.laws.specs.Whole.{whole, add-law, sub-law, abs-le, abs-mul-le, mul-rises, mul-falls}
 use Rattle.laws.specs.Admitted.{GoodBounds, GoodTerm}
 use Rattle.laws.specs.Tuples.{Ordered, lows}
+
+pub good-bounds : (B : Board) → All GoodBounds (B .bounds) → (x : ℕ) → x < length (B .bounds) → GoodBounds (boundsOf B x)
+unfolding boundsOf
+good-bounds B g x h = all-at GoodBounds _ (B .bounds) g x h
 
 -- the ranges of b₁ .. bₙ
 abbrev pub ranges : (ℕ → Bounds) → List Term → List Bounds
@@ -45,7 +49,8 @@ ranges-least of (t ∷ ts) =
     let l = termBounds of t .lo in
     let r = ranges-least of ts in
     let k = least of ts in
-    omega (whole, add-law (l -ℤ pos 1) (sumZ (lows (ranges of ts))), sub-law l (pos 1), sub-law k (pos (length ts)), add-law l k, sub-law (l +ℤ k) (pos (suc (length ts))))
+    let n = length ts in
+    omega (whole, add-law (l -ℤ pos 1) (sumZ (lows (ranges of ts))), sub-law l (pos 1), sub-law k (pos n), add-law l k, sub-law (l +ℤ k) (pos (suc n)))
 
 -- ---- the tuples lie within their ranges
 -- one entry for each range, within it
@@ -70,7 +75,8 @@ tuples-within (r ∷ rs) s =
     (all-impl (Within rs) (λ bs. Within (r ∷ rs) (b ∷ bs)) (λ bs w. (l, u, w)) (tuples rs (s -ℤ b)) (tuples-within rs (s -ℤ b))))))
 
 -- ---- sizes
-pub term-size : (of : ℕ → Bounds) (n : ℕ) (t : Term) → GoodTerm n t → GoodBounds (of (t .var)) → (natAbs (termBounds of t .lo) ≤ 262144) × (natAbs (termBounds of t .hi) ≤ 262144)
+pub term-size : (of : ℕ → Bounds) (n : ℕ) (t : Term) → GoodTerm n t → GoodBounds (of (t .var))
+    → (natAbs (termBounds of t .lo) ≤ 262144) × (natAbs (termBounds of t .hi) ≤ 262144)
 unfolding termBounds
 term-size of n t g h = go (ltZ (pos 0) (t .coef))
   where
