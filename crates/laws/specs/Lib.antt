@@ -23,3 +23,4 @@ pub mod Spelling
 pub mod Grammar
 pub mod Reads
 pub mod Reread
+pub mod Boards
