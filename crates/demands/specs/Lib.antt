@@ -8,3 +8,4 @@ pub mod Entries
 pub mod Bytes
 pub mod Clauses
 pub mod Pairing
+pub mod Accepts
