@@ -16,9 +16,15 @@ pub fn slot_range(s: Slot) -> Range
     let at_lower = s.coefficient * s.lower;
     let at_upper = s.coefficient * s.upper;
     if 0 < s.coefficient {
-        return Range { lo: at_lower - 1, hi: at_upper };
+        return Range {
+            lo: at_lower - 1,
+            hi: at_upper,
+        };
     }
-    Range { lo: at_upper - 1, hi: at_lower }
+    Range {
+        lo: at_upper - 1,
+        hi: at_lower,
+    }
 }
 
 // The number of p(x, c).
