@@ -33,9 +33,9 @@ bit-most : (b : Bool) → bit b ≤ 1
 bit-most true = omega arith
 bit-most false = omega arith
 
-pub bytes-are : (l : List ℕ) → All (λ b. b ≤ 1) l → map (λ i. bit (on l i)) (countUp 1 (length l)) ≡ l
+pub truth-bytes : (l : List ℕ) → All (λ b. b ≤ 1) l → map (λ i. bit (on l i)) (countUp 1 (length l)) ≡ l
 unfolding on
-bytes-are l a = counted (λ i. bit (on l i)) 0 l 1 (λ j h. let e : 1 + j - 1 ≡ j = omega arith in rw e (on-bit (getD l j 0) (all-at (λ b. b ≤ 1) 0 l a j h)))
+truth-bytes l a = counted (λ i. bit (on l i)) 0 l 1 (λ j h. let e : 1 + j - 1 ≡ j = omega arith in rw e (on-bit (getD l j 0) (all-at (λ b. b ≤ 1) 0 l a j h)))
 
 module _ (B : Board) where
   all-atoms : (P : Atom → Type 0) → ((x : Atom) → Has B x → P x) → All P (atoms B)
@@ -56,18 +56,18 @@ module _ (B : Board) where
       (all-map P selector (countUp 0 s) (all-countUp (λ j. P (selector j)) 0 s (λ j l u. f (selector j) (omega arith))))
 
   -- each atom's truth in turn
-  abbrev pub told : (Atom → Bool) → List ℕ
-  told v = map (λ x. bit (v x)) (atoms B)
+  abbrev pub bytesOf : (Atom → Bool) → List ℕ
+  bytesOf v = map (λ x. bit (v x)) (atoms B)
 
-  pub told-length : (v : Atom → Bool) → length (told v) ≡ N B
-  told-length v = length-map (atoms B) (λ x. bit (v x)) ∙ sym (N-is B)
+  pub bytes-length : (v : Atom → Bool) → length (bytesOf v) ≡ N B
+  bytes-length v = length-map (atoms B) (λ x. bit (v x)) ∙ sym (N-is B)
 
-  pub told-bytes : (v : Atom → Bool) → All (λ b. b ≤ 1) (told v)
-  told-bytes v = all-map (λ b. b ≤ 1) (λ x. bit (v x)) (atoms B) (all-every (λ x. bit (v x) ≤ 1) (λ x. bit-most (v x)) (atoms B))
+  pub bytes-small : (v : Atom → Bool) → All (λ b. b ≤ 1) (bytesOf v)
+  bytes-small v = all-map (λ b. b ≤ 1) (λ x. bit (v x)) (atoms B) (all-every (λ x. bit (v x) ≤ 1) (λ x. bit-most (v x)) (atoms B))
 
-  pub told-bools : (v : Atom → Bool) → take (B .bools) (told v) ≡ map (λ i. bit (v (bool i))) (countUp 1 (B .bools))
+  pub bytes-bools : (v : Atom → Bool) → take (B .bools) (bytesOf v) ≡ map (λ i. bit (v (bool i))) (countUp 1 (B .bools))
   unfolding atoms
-  told-bools v =
+  bytes-bools v =
       let f : Atom → ℕ = λ x. bit (v x) in
       let is = countUp 1 (B .bools) in
       let os = flatten (map (orders (boundsOf B)) (variables B)) in
@@ -77,19 +77,19 @@ module _ (B : Board) where
       ∙ take-at (map f (map bool is)) (map f (os ++ ss)) (B .bools) (length-map (map bool is) f ∙ length-map is bool ∙ length-countUp 1 (B .bools))
       ∙ map-map f bool is
 
-  pub told-reads : (v : Atom → Bool) (x : Atom) → Has B x → inModel B (told v) x ≡ v x
+  pub bytes-read : (v : Atom → Bool) (x : Atom) → Has B x → inModel B (bytesOf v) x ≡ v x
   unfolding inModel on
-  told-reads v x h =
+  bytes-read v x h =
       let r = number-range B x h in
-      let e : getD (told v) (number B x - 1) 0 ≡ bit (v x) = map-at (λ x. bit (v x)) x 0 (atoms B) (number B x - 1) (omega (arith, N-is B)) ∙ ap (λ y. bit (v y)) (atom-at B x x h) in
+      let e : getD (bytesOf v) (number B x - 1) 0 ≡ bit (v x) = map-at (λ x. bit (v x)) x 0 (atoms B) (number B x - 1) (omega (arith, N-is B)) ∙ ap (λ y. bit (v y)) (atom-at B x x h) in
       rw e (bit-on (v x))
 
-  pub reads-told : (model : List ℕ) → length model ≡ N B → All (λ b. b ≤ 1) model → told (inModel B model) ≡ model
+  pub read-bytes : (model : List ℕ) → length model ≡ N B → All (λ b. b ≤ 1) model → bytesOf (inModel B model) ≡ model
   unfolding inModel
-  reads-told model e a =
+  read-bytes model e a =
       sym (map-map (λ i. bit (on model i)) (number B) (atoms B))
       ∙ ap (map (λ i. bit (on model i))) (numbers-are B ∙ ap (countUp 1) (sym e))
-      ∙ bytes-are model a
+      ∙ truth-bytes model a
 
-  pub told-alike : (v w : Atom → Bool) → ((x : Atom) → Has B x → v x ≡ w x) → told v ≡ told w
-  told-alike v w f = map-alike (λ x. bit (v x)) (λ x. bit (w x)) (atoms B) (all-atoms (λ x. bit (v x) ≡ bit (w x)) (λ x h. ap bit (f x h)))
+  pub bytes-alike : (v w : Atom → Bool) → ((x : Atom) → Has B x → v x ≡ w x) → bytesOf v ≡ bytesOf w
+  bytes-alike v w f = map-alike (λ x. bit (v x)) (λ x. bit (w x)) (atoms B) (all-atoms (λ x. bit (v x) ≡ bit (w x)) (λ x h. ap bit (f x h)))

@@ -16,8 +16,8 @@ use Rattle.definitions.specs.Meaning.{Assignment, satisfies, compares, holds, s
 use Rattle.laws.specs.Lists.{all-append, append-all, all-flatten, flatten-all, all-impl, all-map, map-all, all-countUp, countUp-all}
 use Rattle.laws.specs.Admitted.{Admitted, GoodTerm, GoodLiteral, GoodClause}
 use Rattle.demands.specs.Truth.{Holds, Satisfied, Tells, only}
-use Rattle.demands.specs.Rule.{Told, proposition-1}
-use Rattle.demands.specs.Order.{told-axioms}
+use Rattle.demands.specs.Rule.{KnownTerm, proposition-1}
+use Rattle.demands.specs.Order.{tells-axioms}
 use Rattle.demands.specs.Selectors.{Means, plainly, rules-sound, rules-full}
 
 -- v tells each value of a, and has its Booleans
@@ -54,7 +54,7 @@ module _ (B : Board) (v : Atom → Bool) where
     means (isFalse b) g = let e = tells .bools b (g .0) (g .1) in (λ h. rw e at (only (h .0)), λ h. (inl (rw e h), tt))
     means (atMost q) g =
         proposition-1 (boundsOf B) v a q
-        (all-impl (GoodTerm (length (B .bounds))) (Told (boundsOf B) v a) (λ t k. (k .some, tells .ints (t .var) (k .known))) (q .terms) (g .terms))
+        (all-impl (GoodTerm (length (B .bounds))) (KnownTerm (boundsOf B) v a) (λ t k. (k .some, tells .ints (t .var) (k .known))) (q .terms) (g .terms))
 
     all-mean : All (All (Means (boundsOf B) v Mean)) (B .clauses)
     all-mean =
@@ -71,5 +71,5 @@ module _ (B : Board) (v : Atom → Bool) where
     pub satisfied : ((j : ℕ) → j < length (selections B) → T (v (selector j)) ↔ T (compares a (selection B j))) → All (Any (λ l. T (holds a l))) (B .clauses) → Satisfied v (clauses B)
     unfolding rules selections selection holds
     satisfied plain s =
-        joined (λ x h. told-axioms (boundsOf B) v x (a .α x) (tells .ints x h))
+        joined (λ x h. tells-axioms (boundsOf B) v x (a .α x) (tells .ints x h))
         (rules-full (boundsOf B) v Mean 0 (B .clauses) all-mean (plainly (boundsOf B) v Mean 0 (selections B) (record { terms = []; constant = pos 0 }) (λ i h. rw zero-add (plain i h))) s)

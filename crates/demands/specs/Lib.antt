@@ -1,6 +1,6 @@
 pub mod Ranges
 pub mod Truth
-pub mod Tuples
+pub mod TupleRule
 pub mod Rule
 pub mod Order
 pub mod Selectors
@@ -11,3 +11,4 @@ pub mod Pairing
 pub mod Records
 pub mod Flat
 pub mod Foretold
+pub mod Accepts

@@ -122,8 +122,8 @@ module _ (of : ℕ → Bounds) (v : Atom → Bool) (x : ℕ) where
           let e : d +ℤ pos n ≡ c = omega (whole, add-law d (pos n), sub-law c d, part-law (c -ℤ d)) in
           rw e at (stays r d n (omega (whole, z .least, sub-law lo (pos 1))) (rw e u) (z .there))
 
-  pub told-axioms : (z : ℤ) → Tells of v x z → Satisfied v (axiomsOf of x)
-  told-axioms z t =
+  pub tells-axioms : (z : ℤ) → Tells of v x z → Satisfied v (axiomsOf of x)
+  tells-axioms z t =
       axioms-rise .1 (record {
         before = λ u. (let k = t .says (lo -ℤ pos 1) (omega whole) (omega (whole, sub-law lo (pos 1))) .0 u in omega (whole, k, sub-law lo (pos 1)));
         last = t .says hi (omega (whole, sub-law lo (pos 1))) (omega whole) .1 (t .most);
@@ -137,9 +137,9 @@ module _ (of : ℕ → Bounds) (v : Atom → Bool) (x : ℕ) where
   once y z s t = s .says z (omega (whole, sub-law lo (pos 1))) (t .most) .0 (t .says z (omega (whole, sub-law lo (pos 1))) (t .most) .1 (omega whole))
 
   pub proposition-2 : lo ≤ℤ hi → Satisfied v (axiomsOf of x) ↔ Tells of v x (leastTrue p hi (range lo hi))
-  proposition-2 h = (axioms-tell h, told-axioms (leastTrue p hi (range lo hi)))
+  proposition-2 h = (axioms-tell h, tells-axioms (leastTrue p hi (range lo hi)))
 
-  pub told-least : (z : ℤ) → Tells of v x z → leastTrue p hi (range lo hi) ≡ z
-  told-least z t =
-      let s = axioms-tell (omega (whole, t .most)) (told-axioms z t) in
+  pub tells-least : (z : ℤ) → Tells of v x z → leastTrue p hi (range lo hi) ≡ z
+  tells-least z t =
+      let s = axioms-tell (omega (whole, t .most)) (tells-axioms z t) in
       omega (whole, once _ z s t, once z _ t s)

@@ -18,9 +18,9 @@ use Rattle.definitions.specs.Meaning.{Assignment, on, assigned, inBounds, compa
 use Rattle.laws.specs.Lists.{append-all, all-at, length-countUp, all-countUp, countUp-all}
 use Rattle.laws.specs.Layout.{Has}
 use Rattle.laws.specs.Admitted.{Admitted, GoodBounds}
-use Rattle.demands.specs.Order.{proposition-2, told-least}
+use Rattle.demands.specs.Order.{proposition-2, tells-least}
 use Rattle.demands.specs.Entries.{counted, counted-at}
-use Rattle.demands.specs.Bytes.{bit, bytes-are, told-length, told-bytes, told-bools, told-reads, reads-told, told-alike}
+use Rattle.demands.specs.Bytes.{bit, truth-bytes, bytes-length, bytes-small, bytes-bools, bytes-read, read-bytes, bytes-alike}
 use Rattle.demands.specs.Clauses.{TellsAll, axioms-in, solves, satisfied}
 
 both : (b c : Bool) → T (b && c) ↔ (T b × T c)
@@ -59,9 +59,9 @@ module _ (B : Board) (good : Admitted B) where
     unfolding Model N
     bools-fit = omega (arith, m .0)
 
-    told-by : TellsAll B (inModel B model) decoded
+    model-tells : TellsAll B (inModel B model) decoded
     unfolding Model valueOf inModel number assigned on
-    told-by = record {
+    model-tells = record {
       ints = λ x h. rw (value-is x h) (proposition-2 (boundsOf B) (inModel B model) x (ordered x h) .0 (axioms-in B (inModel B model) (m .2) x h));
       bools = λ i l u. ap (λ n. eqb n 1) (sym (getD-take (B .bools) model (i - 1) 0 (omega arith)));
     }
@@ -73,16 +73,16 @@ module _ (B : Board) (good : Admitted B) where
           length-map (variables B) (valueOf B model) ∙ length-countUp 0 ints,
           length-take-le (B .bools) model bools-fit,
           bytes .0,
-          all-countUp (λ x. T (inBounds B decoded x)) 0 ints (λ x l u. let t = told-by .ints x (omega arith) in is-within (boundsOf B x .lo) (boundsOf B x .hi) (decoded .α x) .1 (t .least, t .most)),
-          solves B (inModel B model) decoded good told-by (m .2),
+          all-countUp (λ x. T (inBounds B decoded x)) 0 ints (λ x l u. let t = model-tells .ints x (omega arith) in is-within (boundsOf B x .lo) (boundsOf B x .hi) (decoded .α x) .1 (t .least, t .most)),
+          solves B (inModel B model) decoded good model-tells (m .2),
         )
 
     -- where it is plain, it is the plain model of what it decodes to
     agrees : Plain B model → (v : Atom) → Has B v → truth B decoded v ≡ inModel B model v
     unfolding Plain truth compares assigned
-    agrees p (bool i) h = sym (told-by .bools i (h .0) (h .1))
+    agrees p (bool i) h = sym (model-tells .bools i (h .0) (h .1))
     agrees p (order x c) h =
-        let t = told-by .ints x (h .0) .says c (h .1) (h .2) in
+        let t = model-tells .ints x (h .0) .says c (h .1) (h .2) in
         alike _ _ (λ l. t .1 (record { le = l }), λ l. t .0 l .le)
     agrees p (selector j) h =
         let e = countUp-all _ 0 (length (selections B)) p j (omega arith) (omega arith) in
@@ -90,7 +90,7 @@ module _ (B : Board) (good : Admitted B) where
 
     pub plain-image : Plain B model → plainModel B (assigned (valuesOf B model) (take (B .bools) model)) ≡ model
     unfolding plainModel Model
-    plain-image p = told-alike B (truth B decoded) (inModel B model) (agrees p) ∙ reads-told B model (m .0) (m .1)
+    plain-image p = bytes-alike B (truth B decoded) (inModel B model) (agrees p) ∙ read-bytes B model (m .0) (m .1)
 
   -- ---- a solution
   module _ (values : List ℤ) (bools : List ℕ) (s : Solution B values bools) where
@@ -102,7 +102,7 @@ module _ (B : Board) (good : Admitted B) where
 
     reads : (v : Atom) → Has B v → inModel B model v ≡ truth B a v
     unfolding plainModel
-    reads v h = told-reads B (truth B a) v h
+    reads v h = bytes-read B (truth B a) v h
 
     image-tells : TellsAll B (inModel B model) a
     unfolding Solution variables inBounds truth
@@ -116,8 +116,8 @@ module _ (B : Board) (good : Admitted B) where
     pub image-model : Model B (plainModel B (assigned values bools))
     unfolding Model plainModel Solution truth
     image-model = (
-      told-length B (truth B a),
-      told-bytes B (truth B a),
+      bytes-length B (truth B a),
+      bytes-small B (truth B a),
       satisfied B (inModel B model) a good image-tells (λ j h. rw (reads (selector j) h) (λ t. t, λ t. t)) (s .4),
     )
 
@@ -125,11 +125,11 @@ module _ (B : Board) (good : Admitted B) where
     unfolding valuesOf valueOf variables Solution assigned
     image-values =
         ap (λ n. map (valueOf B model) (countUp 0 n)) (sym (s .0))
-        ∙ counted (valueOf B model) (pos 0) values 0 (λ x h. rw (zero-add x) (told-least (boundsOf B) (inModel B model) x (a .α x) (image-tells .ints x (omega (arith, s .0)))))
+        ∙ counted (valueOf B model) (pos 0) values 0 (λ x h. rw (zero-add x) (tells-least (boundsOf B) (inModel B model) x (a .α x) (image-tells .ints x (omega (arith, s .0)))))
 
     pub image-bools : take (B .bools) (plainModel B (assigned values bools)) ≡ bools
     unfolding plainModel Solution truth assigned
-    image-bools = told-bools B (truth B a) ∙ ap (λ n. map (λ i. bit (on bools i)) (countUp 1 n)) (sym (s .1)) ∙ bytes-are bools (s .2)
+    image-bools = bytes-bools B (truth B a) ∙ ap (λ n. map (λ i. bit (on bools i)) (countUp 1 n)) (sym (s .1)) ∙ truth-bytes bools (s .2)
 
     pub image-plain : Plain B (plainModel B (assigned values bools))
     unfolding Plain truth compares assigned

@@ -16,7 +16,7 @@ use Rattle.laws.specs.Whole.{whole, mul-law, mul-mono, le-in, ne-in, part-law}
 use Rattle.laws.specs.Division.{below-floor, not-below-ceil, floor-within, ceil-within}
 use Rattle.laws.specs.Lists.{all-every, all-impl, all-map, map-all}
 use Rattle.demands.specs.Truth.{Holds, Satisfied, Tells}
-use Rattle.demands.specs.Tuples.{Bounded, tuple-rule, low-sum}
+use Rattle.demands.specs.TupleRule.{Bounded, tuple-rule, low-sum}
 
 -- ---- (ax ≤ b)^#: the term lies within its bounds, and its literal says ax ≤ b
 falls : (a x y : ℤ) → a <ℤ pos 0 → x ≤ℤ y → (a *ℤ y) ≤ℤ (a *ℤ x)
@@ -29,8 +29,8 @@ rises (negsuc n) x y s h = absurd (omega whole)
 
 module _ (of : ℕ → Bounds) (v : Atom → Bool) (a : Assignment) where
   -- a coefficient that is not 0, of a variable whose value v tells
-  abbrev pub Told : Term → Type 0
-  Told t = (t .coef ≢ pos 0) × Tells of v (t .var) (a .α (t .var))
+  abbrev pub KnownTerm : Term → Type 0
+  KnownTerm t = (t .coef ≢ pos 0) × Tells of v (t .var) (a .α (t .var))
 
   abbrev value : Term → ℤ
   value t = t .coef *ℤ a .α (t .var)
@@ -41,7 +41,7 @@ module _ (of : ℕ → Bounds) (v : Atom → Bool) (a : Assignment) where
   abbrev Says : Term → Type 0
   Says = Bounded (λ t. termBounds of t .lo) (λ t. termBounds of t .hi) value True sharp
 
-  says : (t : Term) → Told t → Says t
+  says : (t : Term) → KnownTerm t → Says t
   unfolding termBounds sharp satisfies
   says t h = go (ltZ (pos 0) n) refl
     where
@@ -80,7 +80,7 @@ module _ (of : ℕ → Bounds) (v : Atom → Bool) (a : Assignment) where
           }
 
   -- all clauses hold exactly if the comparison does
-  pub proposition-1 : (q : Comparison) → All Told (q .terms) → Satisfied v (clausesUnder [] of q) ↔ T (compares a q)
+  pub proposition-1 : (q : Comparison) → All KnownTerm (q .terms) → Satisfied v (clausesUnder [] of q) ↔ T (compares a q)
   unfolding clausesUnder tuplesOf least compares
   proposition-1 q h = go (leZ (least of ts) (q .constant)) refl
     where
@@ -91,7 +91,7 @@ module _ (of : ℕ → Bounds) (v : Atom → Bool) (a : Assignment) where
       sum = sumZ (map value ts)
 
       said : All Says ts
-      said = all-impl Told Says says ts h
+      said = all-impl KnownTerm Says says ts h
 
       go : (s : Bool) → leZ (least of ts) (q .constant) ≡ s → Satisfied v (clausesUnder [] of q) ↔ T (leZ sum (q .constant))
       go true e =
