@@ -8,6 +8,7 @@ pub mod Entries
 pub mod Bytes
 pub mod Clauses
 pub mod Pairing
+pub mod FieldBytes
 pub mod Records
 pub mod Flat
 pub mod Foretold

@@ -16,8 +16,8 @@ use Rattle.laws.specs.Whole.{whole}
 use Rattle.laws.specs.Lists.{all-impl, all-both, all-every}
 use Rattle.laws.specs.Decide.{Decides, equals, both}
 use Rattle.laws.specs.Admitted.{Differ, GoodBounds, GoodTerm, GoodComparison, GoodLiteral, GoodClause, Admitted}
-use Rattle.laws.specs.Spelling.{Field, several, natural, integer, boundsFields, termFields, comparisonFields, literalFields, clauseFields, bodyFields}
-use Rattle.laws.specs.Grammar.{Grammar, Just, just, Spelt, spelt, Then, _then_, Image, image, Reads, reads-as, reads-give, reads-asked, reads-bind, reads-mapped, reads-times, reads-unsigned, reads-signed, reads-tested, Many}
+use Rattle.laws.specs.Spelling.{several, natural, integer, boundsFields, termFields, comparisonFields, literalFields, clauseFields, bodyFields}
+use Rattle.laws.specs.Grammar.{Grammar, _⇒_, Just, just, Spelt, spelt, Then, _then_, Image, image, Reads, reads-as, reads-give, reads-asked, reads-bind, reads-mapped, reads-times, reads-unsigned, reads-signed, reads-tested, Many}
 
 -- ---- tests
 at-most : (m n : ℕ) → Decides (leb m n) (m ≤ n)
@@ -73,7 +73,7 @@ unfolding bound
 reads-bound = reads-tested 5 (reads-signed 2) (is-within (neg 4096) (pos 4095))
 
 -- ---- bounds
-pub reads-bounds : Reads readBounds (Spelt GoodBounds boundsFields)
+reads-bounds : Reads readBounds (Spelt GoodBounds boundsFields)
 unfolding readBounds
 reads-bounds = reads-as (reads-bind reads-bound λ l. reads-mapped (λ u. record { lo = l; hi = u }) (reads-asked 5 reads-bound (at-mostZ l))) to from
   where
@@ -82,10 +82,10 @@ reads-bounds = reads-as (reads-bind reads-bound λ l. reads-mapped (λ u. record
         Then (Signed (Within (neg 4096) (pos 4095)) 2) λ l.
         Image (λ u. record { lo = l; hi = u }) (Signed (λ u. Within (neg 4096) (pos 4095) u × (l ≤ℤ u)) 2)
 
-    to : (b : Bounds) (fs : List Field) → Raw b fs → Spelt GoodBounds boundsFields b fs
+    to : Raw ⇒ Spelt GoodBounds boundsFields
     to b fs (spelt l then image (spelt u)) = spelt (record { lowest = l .0; ordered = u .1; highest = u .0 .1 })
 
-    from : (b : Bounds) (fs : List Field) → Spelt GoodBounds boundsFields b fs → Raw b fs
+    from : Spelt GoodBounds boundsFields ⇒ Raw
     from b fs (spelt g) = spelt (g .lowest, omega whole) then image {a = b .hi} (spelt ((omega whole, g .highest), g .ordered))
 
 -- ---- clauses
@@ -99,6 +99,7 @@ apart-cons x seen xs a = (all-impl _ _ (λ y h e. h .0 (sym e)) xs a, all-impl _
 cons-apart : (x : ℕ) (seen xs : List ℕ) → All (λ y. x ≢ y) xs → Apart seen xs → Apart (x ∷ seen) xs
 cons-apart x seen xs h a = all-both _ _ _ (λ y d k. ((λ e. d (sym e)), k)) xs h a
 
+-- n terms whose variables differ, also from those seen
 pub record GoodTerms (ints : ℕ) (seen : List ℕ) (n : ℕ) (ts : List Term) : Type 0 where
   pub many : length ts ≡ n
   pub good : All (GoodTerm ints) ts
@@ -110,10 +111,10 @@ module _ (ctx : Context) where
   unfolding readTerms flatten
   reads-terms seen zero = reads-as (reads-give []) to from
     where
-      to : (ts : List Term) (fs : List Field) → Just [] ts fs → Spelt (GoodTerms (ctx .ints) seen 0) (several termFields) ts fs
+      to : Just [] ⇒ Spelt (GoodTerms (ctx .ints) seen 0) (several termFields)
       to ts fs just = spelt (record { many = refl; good = tt; differ = tt; new = tt })
 
-      from : (ts : List Term) (fs : List Field) → Spelt (GoodTerms (ctx .ints) seen 0) (several termFields) ts fs → Just [] ts fs
+      from : Spelt (GoodTerms (ctx .ints) seen 0) (several termFields) ⇒ Just []
       from [] fs (spelt g) = just
       from (t ∷ ts) fs (spelt g) = absurd (omega (arith, g .many))
   reads-terms seen (suc n) = reads-as (
@@ -127,7 +128,7 @@ module _ (ctx : Context) where
           Then (Natural (λ x. (x < ctx .ints) × All (λ y. x ≢ y) seen) 2) λ x.
           Image (λ ts. record { coef = a; var = x } ∷ ts) (Spelt (GoodTerms (ctx .ints) (x ∷ seen) n) (several termFields))
 
-      to : (ts : List Term) (fs : List Field) → Raw ts fs → Spelt (GoodTerms (ctx .ints) seen (suc n)) (several termFields) ts fs
+      to : Raw ⇒ Spelt (GoodTerms (ctx .ints) seen (suc n)) (several termFields)
       to ts fs (spelt a then _then_ {a = v} (spelt x) (image {a = us} (spelt g))) =
           let p = apart-cons v seen (map (λ t. t .var) us) (g .new) in
           spelt (record {
@@ -137,7 +138,7 @@ module _ (ctx : Context) where
             new = (x .1, p .1);
           })
 
-      from : (ts : List Term) (fs : List Field) → Spelt (GoodTerms (ctx .ints) seen (suc n)) (several termFields) ts fs → Raw ts fs
+      from : Spelt (GoodTerms (ctx .ints) seen (suc n)) (several termFields) ⇒ Raw
       from [] fs (spelt g) = absurd (omega (arith, g .many))
       from (t ∷ ts) fs (spelt g) =
           spelt ((g .good .0 .least, g .good .0 .most), g .good .0 .some) then
@@ -157,17 +158,17 @@ module _ (ctx : Context) where
           Then (Spelt (GoodTerms (ctx .ints) [] n) (several termFields)) λ ts.
           Image (λ k. record { terms = ts; constant = k }) (Signed (Within (neg 1000000) (pos 1000000)) 4)
 
-      to : (q : Comparison) (fs : List Field) → Raw q fs → Spelt (GoodComparison (ctx .ints)) comparisonFields q fs
+      to : Raw ⇒ Spelt (GoodComparison (ctx .ints)) comparisonFields
       to q fs (spelt n then spelt g then image (spelt k)) =
           rw (← g .many) (spelt (record { some = omega (arith, g .many); few = omega (arith, g .many); terms = g .good; differ = g .differ; least = k .0; most = k .1 }))
 
-      from : (q : Comparison) (fs : List Field) → Spelt (GoodComparison (ctx .ints)) comparisonFields q fs → Raw q fs
+      from : Spelt (GoodComparison (ctx .ints)) comparisonFields ⇒ Raw
       from q fs (spelt g) =
           spelt (g .some, g .few) then
           spelt (record { many = refl; good = g .terms; differ = g .differ; new = all-every (λ x. Unit {0}) (λ x. tt) (map (λ t. t .var) (q .terms)) }) then
           image (spelt (g .least, g .most))
 
-  pub reads-boolean : Reads (boolean ctx) (Natural (FromTo 1 (ctx .bools)) 2)
+  reads-boolean : Reads (boolean ctx) (Natural (FromTo 1 (ctx .bools)) 2)
   unfolding boolean
   reads-boolean = reads-tested 6 (reads-unsigned 2) (from-to 1 (ctx .bools))
 
@@ -189,13 +190,13 @@ module _ (ctx : Context) where
       Raw : Grammar Literal
       Raw = Then (Natural (λ k. k ≤ 2) 1) OfKind
 
-      to : (l : Literal) (fs : List Field) → Raw l fs → Spelt (GoodLiteral (ctx .ints) (ctx .bools)) literalFields l fs
+      to : Raw ⇒ Spelt (GoodLiteral (ctx .ints) (ctx .bools)) literalFields
       to l fs (_then_ {a = zero} (spelt k) (image (spelt g))) = spelt g
       to l fs (_then_ {a = suc zero} (spelt k) (image (spelt g))) = spelt g
       to l fs (_then_ {a = suc (suc zero)} (spelt k) (image (spelt g))) = spelt g
       to l fs (_then_ {a = suc (suc (suc n))} (spelt k) (image (spelt g))) = absurd (omega arith)
 
-      from : (l : Literal) (fs : List Field) → Spelt (GoodLiteral (ctx .ints) (ctx .bools)) literalFields l fs → Raw l fs
+      from : Spelt (GoodLiteral (ctx .ints) (ctx .bools)) literalFields ⇒ Raw
       from (isTrue b) fs (spelt g) = _then_ {a = 0} (spelt (omega arith)) (image (spelt g))
       from (isFalse b) fs (spelt g) = _then_ {a = 1} (spelt (omega arith)) (image (spelt g))
       from (atMost q) fs (spelt g) = _then_ {a = 2} (spelt (omega arith)) (image (spelt g))
@@ -207,10 +208,10 @@ module _ (ctx : Context) where
       Raw : Grammar Clause
       Raw = Then (Natural (FromTo 0 64) 1) λ n. Spelt (Many (GoodLiteral (ctx .ints) (ctx .bools)) n) (several literalFields)
 
-      to : (C : Clause) (fs : List Field) → Raw C fs → Spelt (GoodClause (ctx .ints) (ctx .bools)) clauseFields C fs
+      to : Raw ⇒ Spelt (GoodClause (ctx .ints) (ctx .bools)) clauseFields
       to C fs (spelt n then spelt g) = rw (← g .0) (spelt (record { few = omega (arith, g .0); literals = g .1 }))
 
-      from : (C : Clause) (fs : List Field) → Spelt (GoodClause (ctx .ints) (ctx .bools)) clauseFields C fs → Raw C fs
+      from : Spelt (GoodClause (ctx .ints) (ctx .bools)) clauseFields ⇒ Raw
       from C fs (spelt g) = spelt (zero-le, g .few) then spelt (refl, g .literals)
 
 -- ---- the board
@@ -231,11 +232,11 @@ reads-body version = reads-as (
         Then (Spelt (Many GoodBounds v) (several boundsFields)) λ bs.
         Image (λ cs. record { bounds = bs; bools = m; clauses = cs }) (Spelt (Many (GoodClause v m) c) (several clauseFields))
 
-    to : (B : Board) (fs : List Field) → Raw B fs → Spelt Admitted bodyFields B fs
+    to : Raw ⇒ Spelt Admitted bodyFields
     to B fs (spelt v then spelt m then spelt c then spelt bs then image (spelt cs)) =
         rw (← bs .0, ← cs .0) (spelt (record { ints = omega (arith, bs .0); bools = m .1; rules = omega (arith, cs .0); bounds = bs .1; clauses = rw (bs .0) (cs .1) }))
 
-    from : (B : Board) (fs : List Field) → Spelt Admitted bodyFields B fs → Raw B fs
+    from : Spelt Admitted bodyFields ⇒ Raw
     from B fs (spelt g) =
         spelt (zero-le, g .ints) then spelt (zero-le, g .bools) then spelt (zero-le, g .rules) then
         spelt (refl, g .bounds) then image (spelt (refl, g .clauses))

@@ -62,6 +62,10 @@ pub unwrapped : (s : List ℕ) (B : Board) → Wrapped s B → readBoard s ≡ d
 unfolding readBoard
 unwrapped s B w = rw (le-leb (length s) 65536 (w .short), le-leb 5 (length s) (w .head), w .version, eq-eqb (big s 1 4) (length s - 5) (w .stated), w .body, eq-eqb (length s) (length s) refl)
 
+-- the board is good, and its fields stand after the first 5 bytes
+pub body-read : (s : List ℕ) (B : Board) → readBoard s ≡ done B → Admitted B × Stand s 5 (bodyFields B) (length s)
+body-read s B e = found (reads-body 1 .told s 5 B (length s) (wrapped s B e .body))
+
 -- all operations' checks
 pub accepted-parts : (s : List ℕ) (B : Board) → (accepted s ≡ done B) ↔ ((readBoard s ≡ done B) × (K B ≤ 2000000000))
 unfolding accepted
@@ -163,7 +167,6 @@ abbrev pub tableEnd : Board → ℕ
 tableEnd B = 11 + 4 * length (B .bounds)
 
 pub record BoardRead (s : List ℕ) (B : Board) : Type 0 where
-  pub admitted : Admitted B
   pub ints : length (B .bounds) ≡ big s 5 2
   pub bools : B .bools ≡ big s 7 2
   pub rules : length (B .clauses) ≡ big s 9 2
@@ -186,7 +189,6 @@ board-stand s B end e g (more h v (more h′ m (more h″ c p))) =
     let c′ = reads-times (reads-clause (contextOf B)) (length (B .clauses)) in
     let k = c′ .read s (d .mid) (B .clauses) end _ (spelt (refl, g .clauses)) (d .back) in
     record {
-      admitted = g;
       ints = sym v;
       bools = sym m;
       rules = sym c;
@@ -195,8 +197,8 @@ board-stand s B end e g (more h v (more h′ m (more h″ c p))) =
       clauses = rw (length-drop, ← e) (from-start (c′ .orderly) s (tableEnd B) i (rw (r .1) at k));
     }
 
-pub board-read : (s : List ℕ) (B : Board) → readBoard s ≡ done B → BoardRead s B
-board-read s B e = let d = found (reads-body 1 .told s 5 B (length s) (wrapped s B e .body)) in board-stand s B (length s) refl (d .0) (d .1)
-
 pub reading-admitted : (s : List ℕ) (B : Board) → readBoard s ≡ done B → Admitted B
-reading-admitted s B e = board-read s B e .admitted
+reading-admitted s B e = body-read s B e .0
+
+pub board-read : (s : List ℕ) (B : Board) → readBoard s ≡ done B → BoardRead s B
+board-read s B e = board-stand s B (length s) refl (body-read s B e .0) (body-read s B e .1)
