@@ -1,0 +1,42 @@
+//! The second program's results in the form of the C interface's answers.
+
+use crate::first::Answer;
+use second::{Refusal, Sizes};
+
+pub fn size(record: &[u8]) -> Answer {
+    with_sizes(second::size(record))
+}
+
+pub fn compile(record: &[u8], list: &mut [i32]) -> Answer {
+    with_sizes(second::compile(record, list))
+}
+
+pub fn decode(record: &[u8], model: &[u8], values: &mut [i32], booleans: &mut [u8]) -> Answer {
+    with_zeros(second::decode(record, model, values, booleans))
+}
+
+pub fn judge(record: &[u8], values: &[i32], booleans: &[u8]) -> Answer {
+    with_zeros(second::judge(record, values, booleans))
+}
+
+pub fn image(record: &[u8], values: &[i32], booleans: &[u8], model: &mut [u8]) -> Answer {
+    with_zeros(second::image(record, values, booleans, model))
+}
+
+fn with_sizes(result: Result<Sizes, Refusal>) -> Answer {
+    match result {
+        Ok(sizes) => [0, sizes.variables, sizes.clauses, sizes.numbers],
+        Err(refusal) => refused(refusal),
+    }
+}
+
+fn with_zeros(result: Result<(), Refusal>) -> Answer {
+    match result {
+        Ok(()) => [0; 4],
+        Err(refusal) => refused(refusal),
+    }
+}
+
+fn refused(refusal: Refusal) -> Answer {
+    [refusal.number as u64, refusal.detail, 0, 0]
+}
