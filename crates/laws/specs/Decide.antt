@@ -6,8 +6,9 @@ use mathlib.Core.List.{List, [], _∷_}
 use Prim.Native.Nat.{ℕ, _≤_}
 use lib.ListN.{length}
 use lib.IntN.{ℤ}
+use lib.Signed.{leZ, _≤ℤ_}
 use lib.Dec.{T, leb, eqb, eqb→eq, eqb-refl, leb→le, le→leb}
-use Rattle.definitions.specs.Tools.{All, Any, all, any, same, countUp}
+use Rattle.definitions.specs.Tools.{All, Any, all, any, same, within, countUp}
 use Rattle.definitions.specs.Board.{Board, variables}
 use Rattle.definitions.specs.Encoding.{clauses, selections, N, selector}
 use Rattle.definitions.specs.Meaning.{Solution, isSolution, Model, isModel, Plain, isPlain, assigned, inBounds, compares, holds, satisfies, inModel, valuesOf, selection}
@@ -23,6 +24,12 @@ itself b = record { sound = λ t. t; full = λ t. t }
 pub equals : (m n : ℕ) → Decides (eqb m n) (m ≡ n)
 equals m n = record { sound = eqb→eq m n; full = λ e. subst (λ k. T (eqb m k)) e (eqb-refl m) }
 
+pub at-most : (m n : ℕ) → Decides (leb m n) (m ≤ n)
+at-most m n = record { sound = leb→le m n; full = le→leb m n }
+
+pub at-mostZ : (a b : ℤ) → Decides (leZ a b) (a ≤ℤ b)
+at-mostZ a b = record { sound = λ t. record { le = t }; full = λ h. h .le }
+
 pub both : (b c : Bool) {P Q : Type 0} → Decides b P → Decides c Q → Decides (b && c) (P × Q)
 both true c d e = record { sound = λ t. (d .sound tt, e .sound t); full = λ h. e .full (h .1) }
 both false c d e = record { sound = λ t. absurd t; full = λ h. d .full (h .0) }
@@ -37,6 +44,9 @@ iff true c = record { sound = λ t. ((λ u. t), (λ u. tt)); full = λ h. h .0 t
 iff false true = record { sound = λ t. absurd t; full = λ h. h .1 tt }
 iff false false = record { sound = λ t. ((λ u. u), (λ u. u)); full = λ h. tt }
 
+pub is-within : (lo hi z : ℤ) → Decides (within lo hi z) ((lo ≤ℤ z) × (z ≤ℤ hi))
+is-within lo hi z = both (leZ lo z) (leZ z hi) (at-mostZ lo z) (at-mostZ z hi)
+
 module _ {A : Type 0} {f : A → Bool} {P : A → Type 0} (d : (x : A) → Decides (f x) (P x)) where
   pub every : (l : List A) → Decides (all f l) (All P l)
   every [] = record { sound = λ t. tt; full = λ t. tt }
@@ -47,7 +57,7 @@ module _ {A : Type 0} {f : A → Bool} {P : A → Type 0} (d : (x : A) → Decid
   some (x ∷ l) = either (f x) (any f l) (d x) (some l)
 
 pub bytes : (l : List ℕ) → Decides (all (λ b. leb b 1) l) (All (λ b. b ≤ 1) l)
-bytes = every (λ b. record { sound = leb→le b 1; full = le→leb b 1 })
+bytes = every (λ b. at-most b 1)
 
 pub lines : {A : Type 0} (f : A → Bool) (l : List (List A)) → Decides (all (any f) l) (All (Any (λ x. T (f x))) l)
 lines f = every (some (λ x. itself (f x)))

@@ -6,26 +6,20 @@ use mathlib.Core.List.{List, [], _∷_, map, flatten}
 use Prim.Native.Nat.{ℕ, zero, suc, _≤_, _<_, zero-le}
 use native.Mathlib.Omega.{arith}
 use lib.ListN.{length}
-use lib.Dec.{leb, eqb, leb→le, le→leb, T-not, not-T}
+use lib.Dec.{leb, eqb, T-not, not-T}
 use lib.IntN.{ℤ, pos}
 use lib.Signed.{_≤ℤ_, leZ}
-use Rattle.definitions.specs.Tools.{All, any, neg, eqZ, within}
+use Rattle.definitions.specs.Tools.{All, any, neg, eqZ}
 use Rattle.definitions.specs.Board.{Bounds, Term, Comparison, Literal, Clause, Board, isTrue, isFalse, atMost}
 use Rattle.definitions.specs.Reading.{Context, count, bound, readBounds, boolean, readTerms, readComparison, ofKind, readLiteral, readClause, readBody}
 use Rattle.laws.specs.Whole.{whole}
 use Rattle.laws.specs.Lists.{all-impl, all-both, all-every}
-use Rattle.laws.specs.Decide.{Decides, equals, both}
+use Rattle.laws.specs.Decide.{Decides, equals, both, at-most, at-mostZ, is-within}
 use Rattle.laws.specs.Admitted.{Differ, GoodBounds, GoodTerm, GoodComparison, GoodLiteral, GoodClause, Admitted}
 use Rattle.laws.specs.Spelling.{several, natural, integer, boundsFields, termFields, comparisonFields, literalFields, clauseFields, bodyFields}
 use Rattle.laws.specs.Grammar.{Grammar, _⇒_, Just, just, Spelt, spelt, Then, _then_, Image, image, Reads, reads-as, reads-give, reads-asked, reads-bind, reads-mapped, reads-times, reads-unsigned, reads-signed, reads-tested, Many}
 
 -- ---- tests
-at-most : (m n : ℕ) → Decides (leb m n) (m ≤ n)
-at-most m n = record { sound = leb→le m n; full = le→leb m n }
-
-at-mostZ : (a b : ℤ) → Decides (leZ a b) (a ≤ℤ b)
-at-mostZ a b = record { sound = λ t. record { le = t }; full = λ h. h .le }
-
 apart : (b : Bool) {P : Type 0} → Decides b P → Decides (not b) (¬ P)
 apart b d = record { sound = λ t p. T-not b t (d .full p); full = λ n. not-T b (λ t. n (d .sound t)) }
 
@@ -54,9 +48,6 @@ Within lo hi z = (lo ≤ℤ z) × (z ≤ℤ hi)
 
 from-to : (least most n : ℕ) → Decides (leb least n && leb n most) (FromTo least most n)
 from-to least most n = both (leb least n) (leb n most) (at-most least n) (at-most n most)
-
-is-within : (lo hi z : ℤ) → Decides (within lo hi z) (Within lo hi z)
-is-within lo hi z = both (leZ lo z) (leZ z hi) (at-mostZ lo z) (at-mostZ z hi)
 
 abbrev Natural : (ℕ → Type 0) → ℕ → Grammar ℕ
 Natural Good n = Spelt Good (λ v. natural n v ∷ [])
