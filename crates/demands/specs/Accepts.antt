@@ -1,36 +1,27 @@
 -- What Decode accepts is a model, and what Judge and Image accept a solution (01, "Five operations"). Assumes nothing.
-use mathlib.Core.Path.{_≡_, refl, subst}
+use mathlib.Core.Path.{_≡_, refl}
 use mathlib.Core.Logic.{_↔_}
 use mathlib.Core.Bool.{Bool, true, false}
 use mathlib.Core.List.{List, map}
-use Prim.Native.Nat.{ℕ, _≤_}
-use native.Mathlib.Omega.{arith}
-use lib.Dec.{T, leb, eqb, leb→le, le→leb, eqb→eq, eqb-refl}
+use Prim.Native.Nat.{ℕ}
+use lib.Dec.{leb, eqb}
 use lib.ListN.{length, take}
 use lib.IntN.{ℤ}
 use Rattle.definitions.specs.Tools.{All, any}
 use Rattle.definitions.specs.Board.{Board, variables}
-use Rattle.definitions.specs.Result.{Result, done, refused, _>>_, need, each}
-use Rattle.definitions.specs.Encoding.{N, clauses}
+use Rattle.definitions.specs.Result.{Result, done, refused, _>>=_, _>>_, need, each}
+use Rattle.definitions.specs.Encoding.{N, K, clauses}
 use Rattle.definitions.specs.Meaning.{assigned, inBounds, holds, Solution, satisfies, inModel, Model, valuesOf, plainModel}
-use Rattle.definitions.specs.Operations.{accepted, _leaves_, lending, long, Decode, judged, Judge, Image}
-use Rattle.laws.specs.Decide.{Decides, every, some, itself}
+use Rattle.definitions.specs.Operations.{readBoard, accepted, _leaves_, lending, long, Decode, judged, Judge, Image}
+use Rattle.laws.specs.Decide.{Decides, every, some, itself, equals, at-most}
+use Rattle.laws.specs.Readings.{never}
 use Rattle.laws.specs.Search.{seek-all}
 use Rattle.demands.specs.Truth.{Satisfied}
 
 -- ---- a check that is passed
-never : {A : Type 0} {n d : ℕ} {a : A} → refused n d ≡ done a → ⊥
-never h = let z : _≡_ {A = ℕ} 0 1 = cc in omega arith
-
 needed : (n d : ℕ) (b : Bool) {P : Type 0} → Decides b P → (need n d b ≡ done tt) ↔ P
 needed n d true t = (λ h. t .sound tt, λ h. refl)
-needed n d false t = (λ h. absurd (never h), λ h. absurd (t .full h))
-
-equals : (m n : ℕ) → Decides (eqb m n) (m ≡ n)
-equals m n = record { sound = eqb→eq m n; full = λ e. subst (λ k. T (eqb m k)) e (eqb-refl m) }
-
-byte : (b : ℕ) → Decides (leb b 1) (b ≤ 1)
-byte b = record { sound = leb→le b 1; full = le→leb b 1 }
+needed n d false t = (λ h. never h, λ h. absurd (t .full h))
 
 module _ {A : Type 0} where
   of-length : (n : ℕ) (l : List A) → (long n l ≡ done tt) ↔ (length l ≡ n)
@@ -44,18 +35,26 @@ module _ {A : Type 0} where
 
   and-then : (c : Result (Unit {0})) (r : Result A) {a : A} → ((c >> r) ≡ done a) ↔ ((c ≡ done tt) × (r ≡ done a))
   and-then (done u) r = (λ h. (refl, h), λ h. h .1)
-  and-then (refused n d) r = (λ h. absurd (never h), λ h. absurd (never (h .0)))
+  and-then (refused n d) r = (λ h. never h, λ h. never (h .0))
 
 module _ {A L : Type 0} where
   some-answer : (r : Result A) {b : L} → (r >> done b) ≡ done b → (a : A) × (r ≡ done a)
   some-answer (done a) h = (a, refl)
-  some-answer (refused n d) h = absurd (never h)
+  some-answer (refused n d) h = never h
 
   answered : (l : L) (c : Result (Unit {0})) (r : Result (A × L)) {a : A} → (lending l (c >> r) .answer ≡ done a) ↔ ((c ≡ done tt) × (lending l r .answer ≡ done a))
   answered l (done u) r = (λ h. (refl, h), λ h. h .1)
-  answered l (refused n d) r = (λ h. absurd (never h), λ h. absurd (never (h .0)))
+  answered l (refused n d) r = (λ h. never h, λ h. never (h .0))
 
 -- ---- of an accepted record
+pub accepted-read : (s : List ℕ) (B : Board) → accepted s ≡ done B → readBoard s ≡ done B
+unfolding accepted
+accepted-read s B e = go (readBoard s) e
+  where
+    go : (r : Result Board) → (r >>= λ B. need 9 0 (leb (K B) 2000000000) >> done B) ≡ done B → r ≡ done B
+    go (done B′) h = and-then (need 9 0 (leb (K B′) 2000000000)) (done B′) .0 h .1
+    go (refused n d) h = never h
+
 module _ (s : List ℕ) (B : Board) (e : accepted s ≡ done B) where
   judged-is : (values : List ℤ) (bools : List ℕ) (also : Board → Result (Unit {0})) (B′ : Board) →
       (judged s values bools also ≡ done B′) ↔ (Solution B values bools × (also B ≡ done tt) × (_≡_ {A = Result Board} (done B) (done B′)))
@@ -64,7 +63,7 @@ module _ (s : List ℕ) (B : Board) (e : accepted s ≡ done B) where
       let a = assigned values bools in
       let ints = of-length (length (B .bounds)) values in
       let booleans = of-length (B .bools) bools in
-      let bytes = for-each 12 (λ b. leb b 1) byte bools in
+      let bytes = for-each 12 (λ b. leb b 1) (λ b. at-most b 1) bools in
       let inside = for-each 14 (inBounds B a) (λ x. itself (inBounds B a x)) (variables B) in
       let lines = for-each 13 (any (holds a)) (some (λ l. itself (holds a l))) (B .clauses) in
       rw e (simp and-then (
@@ -95,7 +94,7 @@ module _ (s : List ℕ) (B : Board) (e : accepted s ≡ done B) where
     decode-is =
         let ints = of-length (length (B .bounds)) values in
         let booleans = of-length (B .bools) bools in
-        let bytes = for-each 12 (λ b. leb b 1) byte model in
+        let bytes = for-each 12 (λ b. leb b 1) (λ b. at-most b 1) model in
         rw e (simp answered (
           λ h. ((sized .0 (h .0), bytes .0 (h .1 .1 .1 .0), lines .0 (h .1 .1 .1 .1 .0)), ints .0 (h .1 .0), booleans .0 (h .1 .1 .0)),
           λ h. (sized .1 (h .0 .0), (ints .1 (h .1), (booleans .1 (h .2), (bytes .1 (h .0 .1), (lines .1 (h .0 .2), refl))))),
@@ -103,4 +102,4 @@ module _ (s : List ℕ) (B : Board) (e : accepted s ≡ done B) where
 
     pub decode-gives : Model B model → length values ≡ length (B .bounds) → length bools ≡ B .bools → Decode s model values bools ≡ (done tt leaves (valuesOf B model, take (B .bools) model))
     unfolding Decode Model
-    decode-gives m i b = rw (e, sized .1 (m .0), of-length (length (B .bounds)) values .1 i, of-length (B .bools) bools .1 b, for-each 12 (λ b. leb b 1) byte model .1 (m .1), lines .1 (m .2))
+    decode-gives m i b = rw (e, sized .1 (m .0), of-length (length (B .bounds)) values .1 i, of-length (B .bools) bools .1 b, for-each 12 (λ b. leb b 1) (λ b. at-most b 1) model .1 (m .1), lines .1 (m .2))

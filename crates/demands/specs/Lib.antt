@@ -13,3 +13,4 @@ pub mod Records
 pub mod Flat
 pub mod Foretold
 pub mod Accepts
+pub mod Demands

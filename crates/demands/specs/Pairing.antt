@@ -1,7 +1,7 @@
 -- A model decodes to a solution, and plain models and solutions pair one to one: decode and plain model undo each other. Assumes nothing.
 use mathlib.Core.Path.{_≡_, refl, sym, ap, _∙_}
 use mathlib.Core.Logic.{_↔_}
-use mathlib.Core.Bool.{Bool, true, false, _&&_}
+use mathlib.Core.Bool.{Bool, true, false}
 use mathlib.Core.List.{List, map}
 use Prim.Native.Nat.{ℕ, _-_, _≤_, _<_}
 use native.Mathlib.Nat.{zero-add}
@@ -10,27 +10,19 @@ use lib.Dec.{T, eqb}
 use lib.ListN.{length, take, drop, length-map, take-append-drop}
 use lib.Seq.{length-take-le, getD-take}
 use lib.IntN.{ℤ, pos}
-use lib.Signed.{leZ, _≤ℤ_}
-use Rattle.definitions.specs.Tools.{countUp, within}
+use lib.Signed.{_≤ℤ_}
+use Rattle.definitions.specs.Tools.{countUp}
 use Rattle.definitions.specs.Board.{Board, boundsOf, variables}
 use Rattle.definitions.specs.Encoding.{Atom, bool, order, selector, selections, number, N}
 use Rattle.definitions.specs.Meaning.{Assignment, on, assigned, inBounds, compares, Solution, inModel, Model, valueOf, valuesOf, Plain, truth, plainModel}
 use Rattle.laws.specs.Lists.{append-all, all-at, length-countUp, all-countUp, countUp-all}
+use Rattle.laws.specs.Decide.{is-within}
 use Rattle.laws.specs.Layout.{Has}
 use Rattle.laws.specs.Admitted.{Admitted, GoodBounds}
 use Rattle.demands.specs.Order.{proposition-2, tells-least}
 use Rattle.demands.specs.Entries.{counted, counted-at}
 use Rattle.demands.specs.Bytes.{bit, truth-bytes, bytes-length, bytes-small, bytes-bools, bytes-read, read-bytes, bytes-alike}
 use Rattle.demands.specs.Clauses.{TellsAll, axioms-in, solves, satisfied}
-
-both : (b c : Bool) → T (b && c) ↔ (T b × T c)
-both true c = (λ t. (tt, t), λ t. t .1)
-both false c = (λ t. absurd t, λ t. absurd (t .0))
-
-is-within : (lo hi z : ℤ) → T (within lo hi z) ↔ ((lo ≤ℤ z) × (z ≤ℤ hi))
-is-within lo hi z =
-    let e = both (leZ lo z) (leZ z hi) in
-    (λ t. (record { le = e .0 t .0 }, record { le = e .0 t .1 }), λ h. e .1 (h .0 .le, h .1 .le))
 
 alike : (b c : Bool) → T b ↔ T c → b ≡ c
 alike true true h = refl
@@ -73,7 +65,7 @@ module _ (B : Board) (good : Admitted B) where
           length-map (variables B) (valueOf B model) ∙ length-countUp 0 ints,
           length-take-le (B .bools) model bools-fit,
           bytes .0,
-          all-countUp (λ x. T (inBounds B decoded x)) 0 ints (λ x l u. let t = model-tells .ints x (omega arith) in is-within (boundsOf B x .lo) (boundsOf B x .hi) (decoded .α x) .1 (t .least, t .most)),
+          all-countUp (λ x. T (inBounds B decoded x)) 0 ints (λ x l u. let t = model-tells .ints x (omega arith) in is-within (boundsOf B x .lo) (boundsOf B x .hi) (decoded .α x) .full (t .least, t .most)),
           solves B (inModel B model) decoded good model-tells (m .2),
         )
 
@@ -108,7 +100,7 @@ module _ (B : Board) (good : Admitted B) where
     unfolding Solution variables inBounds truth
     image-tells = record {
       ints = λ x h.
-          let w = is-within (boundsOf B x .lo) (boundsOf B x .hi) (a .α x) .0 (countUp-all (λ x. T (inBounds B a x)) 0 ints (s .3) x (omega arith) (omega arith)) in
+          let w = is-within (boundsOf B x .lo) (boundsOf B x .hi) (a .α x) .sound (countUp-all (λ x. T (inBounds B a x)) 0 ints (s .3) x (omega arith) (omega arith)) in
           record { least = w .0; most = w .1; says = λ c l u. rw (reads (order x c) (h, l, u)) (λ t. record { le = t }, λ t. t .le) };
       bools = λ i l u. reads (bool i) (l, u);
     }
