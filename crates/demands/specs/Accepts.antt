@@ -9,17 +9,17 @@ use lib.ListN.{length, take}
 use lib.IntN.{ℤ}
 use Rattle.definitions.specs.Tools.{All, any}
 use Rattle.definitions.specs.Board.{Board, variables}
-use Rattle.definitions.specs.Result.{Result, done, refused, _>>=_, _>>_, need, each}
-use Rattle.definitions.specs.Encoding.{N, K, clauses}
+use Rattle.definitions.specs.Result.{Result, done, refused, _>>_, need, each}
+use Rattle.definitions.specs.Encoding.{N, clauses}
 use Rattle.definitions.specs.Meaning.{assigned, inBounds, holds, Solution, satisfies, inModel, Model, valuesOf, plainModel}
-use Rattle.definitions.specs.Operations.{readBoard, accepted, _leaves_, lending, long, Decode, judged, Judge, Image}
+use Rattle.definitions.specs.Operations.{accepted, _leaves_, lending, long, Decode, judged, Judge, Image}
 use Rattle.laws.specs.Decide.{Decides, every, some, itself, equals, at-most}
 use Rattle.laws.specs.Readings.{never}
 use Rattle.laws.specs.Search.{seek-all}
 use Rattle.demands.specs.Truth.{Satisfied}
 
 -- ---- a check that is passed
-needed : (n d : ℕ) (b : Bool) {P : Type 0} → Decides b P → (need n d b ≡ done tt) ↔ P
+pub needed : (n d : ℕ) (b : Bool) {P : Type 0} → Decides b P → (need n d b ≡ done tt) ↔ P
 needed n d true t = (λ h. t .sound tt, λ h. refl)
 needed n d false t = (λ h. never h, λ h. absurd (t .full h))
 
@@ -47,14 +47,6 @@ module _ {A L : Type 0} where
   answered l (refused n d) r = (λ h. never h, λ h. never (h .0))
 
 -- ---- of an accepted record
-pub accepted-read : (s : List ℕ) (B : Board) → accepted s ≡ done B → readBoard s ≡ done B
-unfolding accepted
-accepted-read s B e = go (readBoard s) e
-  where
-    go : (r : Result Board) → (r >>= λ B. need 9 0 (leb (K B) 2000000000) >> done B) ≡ done B → r ≡ done B
-    go (done B′) h = and-then (need 9 0 (leb (K B′) 2000000000)) (done B′) .0 h .1
-    go (refused n d) h = never h
-
 module _ (s : List ℕ) (B : Board) (e : accepted s ≡ done B) where
   judged-is : (values : List ℤ) (bools : List ℕ) (also : Board → Result (Unit {0})) (B′ : Board) →
       (judged s values bools also ≡ done B′) ↔ (Solution B values bools × (also B ≡ done tt) × (_≡_ {A = Result Board} (done B) (done B′)))

@@ -2,21 +2,23 @@
 use mathlib.Core.Path.{_≡_, refl, sym, ap, ap₂, _∙_}
 use mathlib.Core.Logic.{_↔_}
 use mathlib.Core.List.{List}
-use Prim.Native.Nat.{ℕ, _<_}
+use Prim.Native.Nat.{ℕ, _≤_, _<_}
 use native.Mathlib.Omega.{arith}
 use lib.Dec.{T}
 use lib.ListN.{length, take}
 use lib.IntN.{ℤ}
+use Rattle.definitions.specs.Tools.{All}
 use Rattle.definitions.specs.Board.{Board}
 use Rattle.definitions.specs.Result.{done}
-use Rattle.definitions.specs.Encoding.{selector, selections, N}
+use Rattle.definitions.specs.Encoding.{selector, selections, clauseList, N}
 use Rattle.definitions.specs.Meaning.{assigned, compares, Solution, inModel, Model, valuesOf, selection, Plain, plainModel}
 use Rattle.definitions.specs.Operations.{accepted, _leaves_, Decode, Judge, Image}
 use Rattle.laws.specs.Lists.{all-countUp, countUp-all}
 use Rattle.laws.specs.Admitted.{Admitted}
-use Rattle.laws.specs.Reread.{reading-admitted}
+use Rattle.laws.specs.Reread.{reading-admitted, accepted-parts}
+use Rattle.demands.specs.Flat.{Satisfies, model-of-list}
 use Rattle.demands.specs.Pairing as pairing
-use Rattle.demands.specs.Accepts.{accepted-read, judge-is, image-gives, decode-is, decode-gives}
+use Rattle.demands.specs.Accepts.{judge-is, image-gives, decode-is, decode-gives}
 
 -- a plain model, and the solution that it decodes to
 pub record Paired (B : Board) (model : List ℕ) (values : List ℤ) (bools : List ℕ) : Type 0 where
@@ -28,11 +30,11 @@ pub record Paired (B : Board) (model : List ℕ) (values : List ℤ) (bools : Li
 
 module _ (s : List ℕ) (B : Board) (e : accepted s ≡ done B) where
   good : Admitted B
-  good = reading-admitted s B (accepted-read s B e)
+  good = reading-admitted s B (accepted-parts s B .0 e .0)
 
   -- "each model of that list decodes to a solution: integers within bounds and Booleans under which all clauses hold"
-  pub each-model-decodes-to-a-solution : (model : List ℕ) → Model B model → Solution B (valuesOf B model) (take (B .bools) model)
-  each-model-decodes-to-a-solution model m = pairing.decodes B good model m
+  pub each-model-of-the-list-decodes-to-a-solution : (model : List ℕ) → length model ≡ N B → All (λ b. b ≤ 1) model → Satisfies model (clauseList B) → Solution B (valuesOf B model) (take (B .bools) model)
+  each-model-of-the-list-decodes-to-a-solution model l b h = pairing.decodes B good model (model-of-list B good model .1 (l, b, h))
 
   -- "a model is plain if each selector is true exactly when its comparison holds at the decoded values"
   pub plain-means : (model : List ℕ) →
@@ -69,7 +71,7 @@ module _ (s : List ℕ) (B : Board) (e : accepted s ≡ done B) where
       Judge s (Decode s model values bools .left .0) (Decode s model values bools .left .1) ≡ done tt
   judge-accepts-what-decode-leaves model values bools h =
       let m = decode-is s B e model values bools .0 h in
-      rw (decode-gives s B e model values bools (m .0) (m .1) (m .2)) (judge-is s B e (valuesOf B model) (take (B .bools) model) .1 (each-model-decodes-to-a-solution model (m .0)))
+      rw (decode-gives s B e model values bools (m .0) (m .1) (m .2)) (judge-is s B e (valuesOf B model) (take (B .bools) model) .1 (pairing.decodes B good model (m .0)))
 
   module _ (model : List ℕ) (values : List ℤ) (bools : List ℕ) (p : Paired B model values bools) where
     pub decode-gives-the-solution : (ints : List ℤ) (booleans : List ℕ) → length ints ≡ length (B .bounds) → length booleans ≡ B .bools → Decode s model ints booleans ≡ (done tt leaves (values, bools))

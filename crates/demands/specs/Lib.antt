@@ -10,7 +10,7 @@ pub mod Clauses
 pub mod Pairing
 pub mod FieldBytes
 pub mod Records
+pub mod Accepts
 pub mod Flat
 pub mod Foretold
-pub mod Accepts
 pub mod Demands
