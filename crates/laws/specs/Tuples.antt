@@ -1,9 +1,10 @@
 -- Tuples of bounds as offsets from the least bounds. Assumes nothing.
 use mathlib.Core.Path.{_≡_, refl, sym, ap, _∙_}
-use mathlib.Core.List.{List, [], _∷_, map, flatten, zipWith, map-map, append-nil}
+use mathlib.Core.List.{List, [], _∷_, _++_, map, flatten, zipWith, map-map, map-id, append-nil}
 use Prim.Native.Nat.{ℕ, zero, suc, min, _-_, _≤_, _<_}
 use native.Mathlib.Omega.{arith}
 use lib.Dec.{leb, leb·suc-zero}
+use lib.ListN.{replicate}
 use lib.IntN.{ℤ, pos, negsuc, sucℤ, _+ℤ_, _-ℤ_, +ℤ-idl}
 use lib.Signed.{_≤ℤ_, _<ℤ_}
 use Rattle.definitions.specs.Tools.{if_then_else_, _&&_, All, countUp, sumZ, size}
@@ -75,12 +76,27 @@ tuples-offsets (r ∷ rs) o s t e =
     ∙ sym (map-map (shift (lows (r ∷ rs))) (λ ks. k ∷ ks) (offsets (widths rs) (t - k))))
     ∙ sym (map-over (shift (lows (r ∷ rs))) (beginning (widths rs) t) 0 (suc (min w t)))
 
--- ---- a place in front that stands for no term
+-- ---- places in front that stand for no term
 abbrev pub no-term : Bounds
 no-term = record { lo = pos 0; hi = pos 0 }
 
-pub tuples-padded : (rs : List Bounds) (s : ℤ) → tuples (no-term ∷ rs) s ≡ map (λ bs. pos 0 ∷ bs) (tuples rs s)
+one-padded : (rs : List Bounds) (s : ℤ) → tuples (no-term ∷ rs) s ≡ map (λ bs. pos 0 ∷ bs) (tuples rs s)
 unfolding tuples flatten
-tuples-padded rs s =
+one-padded rs s =
     let e : s -ℤ pos 0 ≡ s = omega (whole, sub-law s (pos 0)) in
     append-nil (map (λ bs. pos 0 ∷ bs) (tuples rs (s -ℤ pos 0))) ∙ ap (λ z. map (λ bs. pos 0 ∷ bs) (tuples rs z)) e
+
+pub tuples-padded : (m : ℕ) (rs : List Bounds) (s : ℤ) → tuples (replicate m no-term ++ rs) s ≡ map (λ bs. replicate m (pos 0) ++ bs) (tuples rs s)
+tuples-padded zero rs s = sym (map-id (tuples rs s))
+tuples-padded (suc m) rs s =
+    one-padded (replicate m no-term ++ rs) s
+    ∙ ap (map (λ bs. pos 0 ∷ bs)) (tuples-padded m rs s)
+    ∙ map-map (λ bs. pos 0 ∷ bs) (λ bs. replicate m (pos 0) ++ bs) (tuples rs s)
+
+pub lows-padded : (m : ℕ) (rs : List Bounds) → sumZ (lows (replicate m no-term ++ rs)) ≡ sumZ (lows rs)
+lows-padded zero rs = refl
+lows-padded (suc m) rs = +ℤ-idl (sumZ (lows (replicate m no-term ++ rs))) ∙ lows-padded m rs
+
+pub ordered-padded : (m : ℕ) (rs : List Bounds) → All Ordered rs → All Ordered (replicate m no-term ++ rs)
+ordered-padded zero rs o = o
+ordered-padded (suc m) rs o = (omega whole, ordered-padded m rs o)

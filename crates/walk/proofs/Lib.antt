@@ -1,2 +1,4 @@
 pub mod Fits
 pub mod Slots
+pub mod Three
+pub mod Moves

@@ -41,3 +41,4 @@ pub enum At {
 
 pub mod division;
 pub mod terms;
+pub mod tuples;

@@ -1,0 +1,131 @@
+-- A comparison as the code has it: the literals of its tuples, and what they are of a board's comparison. Assumes nothing.
+use mathlib.Core.Path.{_≡_, refl, sym, ap, ap₂, _∙_}
+use mathlib.Core.List.{List, [], _∷_, _++_, map, zipWith, map-map}
+use Prim.Native.Nat.{ℕ, suc, _+_, _-_, _≤_, _<_}
+use native.Mathlib.Omega.{arith}
+use lib.ListN.{length, take, drop, replicate, length-map, length-drop}
+use lib.IntN.{ℤ, pos, natAbs, _+ℤ_, _-ℤ_}
+use Rattle.definitions.specs.Tools.{All, sumZ, size}
+use Rattle.definitions.specs.Board.{Bounds, Term, Board, boundsOf}
+use Rattle.definitions.specs.Board as board
+use Rattle.definitions.specs.Encoding.{least, tuples, tuplesOf, sharp, literalNumber}
+use Rattle.laws.specs.Lists.{all-every, map-same}
+use Rattle.laws.specs.Tuples.{no-term}
+use Rattle.laws.specs.Terms.{ranges}
+use Rattle.walk.specs.declared.Slot.{Slot}
+use Rattle.walk.specs.declared.Comparison.{Comparison}
+use Rattle.walk.specs.declared.Place.{Place}
+use Rattle.walk.specs.declared.Walk.{Walk}
+use Rattle.walk.specs.declared.At.{At}
+use Rattle.walk.specs.declared.At.the-variants.{Tuple, End}
+use Rattle.walk.specs.Slots.{FairSlot, valueBounds, slotBounds, slotLiteral, slotOf, value-bounds, slot-literal}
+use Rattle.walk.specs.Walks.{places, blank, seen, left, Fine, Over}
+
+abbrev pub slotsOf : Comparison → List Slot
+slotsOf c = take (c .n) (c .slots)
+
+-- L
+unfoldable pub leastOf : Comparison → ℤ
+leastOf c = sumZ (map (λ s. valueBounds s .lo) (slotsOf c))
+
+abbrev pub rangesOf : Comparison → List Bounds
+rangesOf c = map slotBounds (slotsOf c)
+
+-- the literals of each tuple
+unfoldable pub literalsOf : Comparison → List (List ℤ)
+literalsOf c = map (zipWith slotLiteral (slotsOf c)) (tuples (rangesOf c) (c .constant -ℤ pos (c .n) +ℤ pos 1))
+
+-- what 01 admits
+pub record FairComparison (c : Comparison) : Type 0 where
+  pub few : c .n ≤ 3
+  pub counted : length (slotsOf c) ≡ c .n
+  pub slots : All FairSlot (slotsOf c)
+  pub near : natAbs (c .constant) ≤ 1000000
+
+-- ---- a walk over it: in front of the terms' ranges stands 0 .. 0 for each that it lacks
+unfoldable pub paddedRanges : Comparison → List Bounds
+paddedRanges c = replicate (3 - c .n) no-term ++ rangesOf c
+
+abbrev pub placed : Bounds → Place
+placed r = record { lo = r .lo; k = 0; w = size (r .hi -ℤ r .lo) }
+
+unfoldable pub Walking : Comparison → At → Type 0
+Walking c cur = Over (map placed (paddedRanges c)) cur
+
+-- the literals of a padded tuple, of the present one, and of each to come
+unfoldable pub literalsAt : Comparison → List ℤ → List ℤ
+literalsAt c bs = zipWith slotLiteral (slotsOf c) (drop (3 - c .n) bs)
+
+unfoldable pub present : Comparison → Walk → List ℤ
+present c w = literalsAt c (seen w)
+
+unfoldable pub toCome : Comparison → At → List (List ℤ)
+toCome c cur = map (literalsAt c) (left cur)
+
+-- ---- what a step shows
+module _ (c : Comparison) (w : Walk) where
+  pub walking-fine : Walking c (Tuple w) → All Fine (places w)
+  unfolding Walking Over
+  walking-fine o = o .0
+
+  pub walking-next : (r : At) → Walking c (Tuple w) → Over (places w) r → Walking c r
+  unfolding Walking Over
+  walking-next (Tuple v) o k = (k .0, k .1 ∙ o .1)
+  walking-next End o k = tt
+
+  pub come-next : (r : At) → left (Tuple w) ≡ seen w ∷ left r → toCome c (Tuple w) ≡ present c w ∷ toCome c r
+  unfolding toCome present
+  come-next r e = ap (map (literalsAt c)) e
+
+  pub come-end : toCome c End ≡ []
+  unfolding toCome left
+  come-end = refl
+
+  pub present-length : FairComparison c → length (present c w) ≡ c .n
+  unfolding present literalsAt seen zipWith
+  present-length f = zip-length (slotsOf c) (drop (3 - c .n) (seen w)) (omega (arith, f .counted, f .few, length-drop (3 - c .n) (seen w)))
+      ∙ f .counted
+    where
+      zip-length : (ss : List Slot) (bs : List ℤ) → length ss ≡ length bs → length (zipWith slotLiteral ss bs) ≡ length ss
+      zip-length [] bs h = refl
+      zip-length (s ∷ ss) [] h = absurd (omega arith)
+      zip-length (s ∷ ss) (b ∷ bs) h = ap suc (zip-length ss bs (omega arith))
+
+-- ---- what it is of a board's comparison
+pub record Shows (B : Board) (q : board.Comparison) (c : Comparison) : Type 0 where
+  pub counted : c .n ≡ length (q .terms)
+  pub terms : slotsOf c ≡ map (slotOf B) (q .terms)
+  pub constant : c .constant ≡ q .constant
+
+module _ (B : Board) where
+  slots-ranges : (ts : List Term) → map slotBounds (map (slotOf B) ts) ≡ ranges (boundsOf B) ts
+  unfolding slotBounds
+  slots-ranges [] = refl
+  slots-ranges (t ∷ ts) = ap₂ _∷_ (ap (λ r. record { lo = r .lo -ℤ pos 1; hi = r .hi }) (value-bounds B t)) (slots-ranges ts)
+
+  slots-least : (ts : List Term) → sumZ (map (λ s. valueBounds s .lo) (map (slotOf B) ts)) ≡ least (boundsOf B) ts
+  unfolding least
+  slots-least [] = refl
+  slots-least (t ∷ ts) = ap₂ _+ℤ_ (ap (λ r. r .lo) (value-bounds B t)) (slots-least ts)
+
+  slots-literals : (ts : List Term) (bs : List ℤ) → zipWith slotLiteral (map (slotOf B) ts) bs ≡ map (literalNumber B) (zipWith sharp ts bs)
+  unfolding zipWith
+  slots-literals [] bs = refl
+  slots-literals (t ∷ ts) [] = refl
+  slots-literals (t ∷ ts) (b ∷ bs) = ap₂ _∷_ (slot-literal B t b) (slots-literals ts bs)
+
+  module _ (q : board.Comparison) (c : Comparison) (h : Shows B q c) where
+    pub shows-least : leastOf c ≡ least (boundsOf B) (q .terms)
+    unfolding leastOf
+    shows-least = ap (λ ss. sumZ (map (λ s. valueBounds s .lo) ss)) (h .terms) ∙ slots-least (q .terms)
+
+    pub shows-literals : literalsOf c ≡ map (λ bs. map (literalNumber B) (zipWith sharp (q .terms) bs)) (tuplesOf (boundsOf B) q)
+    unfolding literalsOf tuplesOf
+    shows-literals =
+        let ts = q .terms in
+        let bss = tuplesOf (boundsOf B) q in
+        ap (λ ss. map (zipWith slotLiteral ss) (tuples (map slotBounds ss) (c .constant -ℤ pos (c .n) +ℤ pos 1))) (h .terms)
+        ∙ ap (λ rs. map (zipWith slotLiteral (map (slotOf B) ts)) (tuples rs (c .constant -ℤ pos (c .n) +ℤ pos 1))) (slots-ranges ts)
+        ∙ ap₂ (λ k n. map (zipWith slotLiteral (map (slotOf B) ts)) (tuples (ranges (boundsOf B) ts) (k -ℤ pos n +ℤ pos 1))) (h .constant) (h .counted)
+        ∙ map-same (zipWith slotLiteral (map (slotOf B) ts)) (λ bs. map (literalNumber B) (zipWith sharp ts bs)) bss
+        (all-every (λ bs. zipWith slotLiteral (map (slotOf B) ts) bs ≡ map (literalNumber B) (zipWith sharp ts bs)) (slots-literals ts) bss)
