@@ -4,7 +4,7 @@ use Prim.Native.Nat.{_≤_, _-_}
 use mathlib.Core.Path.{_≡_, sym}
 use native.Mathlib.Omega.{arith}
 use Rattle.definitions.specs.Reading.{big}
-use Rattle.fields.specs.Laws.{big-none, big-more, big-room}
+use Rattle.fields.proofs.Laws.{big-none, big-more, big-room}
 use Rattle.fields.proofs.plain.Statement.{statement}
 use Rattle.fields.proofs.plain.Tie as tie
 

@@ -2,7 +2,7 @@
 use borrow.Author.Needs.{needs}
 use native.Mathlib.Omega.{arith}
 use mir.Facts.{toZ-ofZ}
-use Rattle.fields.specs.Laws.{big-below}
+use Rattle.fields.proofs.Laws.{big-below}
 use Rattle.fields.proofs.plain_signed.Statement.{statement}
 use Rattle.fields.proofs.plain_signed.Tie as tie
 

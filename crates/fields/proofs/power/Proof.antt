@@ -3,7 +3,7 @@ use borrow.Author.Needs.{needs}
 use Prim.Native.Nat.{_≤_, _-_, _^_}
 use mathlib.Core.Path.{_≡_, refl}
 use native.Mathlib.Omega.{arith}
-use Rattle.fields.specs.Laws.{power-more, power-most}
+use Rattle.fields.proofs.Laws.{power-more, power-most}
 use Rattle.fields.proofs.power.Statement.{statement}
 use Rattle.fields.proofs.power.Tie as tie
 

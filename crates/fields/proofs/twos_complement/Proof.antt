@@ -2,7 +2,7 @@
 use borrow.Author.Needs.{needs}
 use mir.Facts.{toZ-ofZ, sfits-widen}
 use native.Mathlib.Omega.{arith}
-use Rattle.fields.specs.Laws.{low-fits, twos-low, twos-high, twos-fits}
+use Rattle.fields.proofs.Laws.{low-fits, twos-low, twos-high, twos-fits}
 use Rattle.fields.proofs.twos_complement.Statement.{statement}
 use Rattle.fields.proofs.twos_complement.Tie as tie
 

@@ -1,7 +1,7 @@
 -- The field is there exactly where its last byte is.
 use borrow.Author.Needs.{needs}
 use native.Mathlib.Omega.{arith}
-use Rattle.fields.specs.Laws.{unsigned-there, unsigned-missing}
+use Rattle.fields.proofs.Laws.{unsigned-there, unsigned-missing}
 use Rattle.fields.proofs.unsigned_at.Statement.{statement}
 use Rattle.fields.proofs.unsigned_at.Tie as tie
 

@@ -8,13 +8,15 @@ use native.Mathlib.Numerals.{add-one}
 use native.Mathlib.Omega.{arith}
 use lib.ListN.{length, getD}
 use lib.Dec.{leb, ltb, lit<}
-use lib.IntN.{pos, _-ℤ_}
+use lib.IntN.{ℤ, pos, _-ℤ_}
 use mir.Syntax.{w8, w32, w64}
 use mir.Val.{Fits, SFits, toZ}
 use mir.Facts.{toZ-pos}
 use borrow.Author.Tests.{leb-true, le-leb, lt-leb, ltb-true, ltb-false, lt-ltb, le-ltb}
-use Rattle.definitions.specs.Result.{done, refused}
-use Rattle.definitions.specs.Reading.{Got, big, twos, unsigned}
+use Rattle.definitions.specs.Tools.{if_then_else_}
+use Rattle.definitions.specs.Result.{Result, done, refused}
+use Rattle.definitions.specs.Result as result
+use Rattle.definitions.specs.Reading.{Got, big, twos, unsigned, signed}
 use Rattle.laws.specs.Whole.{whole, sub-law, sfits}
 
 -- what a call ensures of its result, where a match has told which case the result is
@@ -56,13 +58,23 @@ module _ (n : ℕ) (s : List ℕ) (at : ℕ) where
   unfolding unsigned
   unsigned-missing h = rw (lt-leb _ _ h)
 
-  pub unsigned-got : {g : Got ℕ} → unsigned n s at ≡ done g → (g .value ≡ big s at n) × ((g .next ≡ at + n) × (at + n ≤ length s))
+  pub unsigned-got : {g : Got ℕ} → unsigned n s at ≡ done g → (g ≡ record { value = big s at n; next = at + n }) × (at + n ≤ length s)
   unfolding unsigned
   unsigned-got {g} = go (leb (at + n) (length s)) refl
     where
-      go : (b : Bool) → leb (at + n) (length s) ≡ b → unsigned n s at ≡ done g → (g .value ≡ big s at n) × ((g .next ≡ at + n) × (at + n ≤ length s))
-      go true e d = let d′ : done (record { value = big s at n; next = at + n }) ≡ done g = (rw e at d) in (cc, (cc, leb-true _ _ e))
-      go false e d = let d′ : refused 8 at ≡ done g = (rw e at d) in let z : _≡_ {A = ℕ} 0 1 = cc in absurd (omega arith)
+      go : (t : Bool) → leb (at + n) (length s) ≡ t → (if t then done (record { value = big s at n; next = at + n }) else refused 8 at) ≡ done g
+          → (g ≡ record { value = big s at n; next = at + n }) × (at + n ≤ length s)
+      go true e d = (cc, leb-true _ _ e)
+      go false e d = let z : _≡_ {A = ℕ} 0 1 = cc in absurd (omega arith)
+
+  pub signed-got : {g : Got ℤ} → signed n s at ≡ done g → (g ≡ record { value = twos n (big s at n); next = at + n }) × (at + n ≤ length s)
+  unfolding signed
+  signed-got {g} = go (unsigned n s at) refl
+    where
+      go : (m : Result (Got ℕ)) → unsigned n s at ≡ m → result._>>=_ m (λ h. done (record { value = twos n (h .value); next = h .next })) ≡ done g
+          → (g ≡ record { value = twos n (big s at n); next = at + n }) × (at + n ≤ length s)
+      go (done h) e d = let u = unsigned-got e in (cc (ap {B = Got ℤ} (λ h. record { value = twos n (h .value); next = h .next }) (u .0)), u .1)
+      go (refused why p) e d = let z : _≡_ {A = ℕ} 0 1 = cc in absurd (omega arith)
 
 -- two's complement, as it is computed
 module _ (n v : ℕ) (few : n ≤ 4) (below : v < 256 ^ n) where

@@ -1,0 +1,4 @@
+pub mod Tests
+pub mod Fields
+pub mod Steps
+pub mod Terms

@@ -1,0 +1,58 @@
+-- Results one after another: what was read where the last of them is done. Assumes nothing.
+use mathlib.Core.Path.{_≡_, refl, sym, ap, _∙_}
+use mathlib.Core.Bool.{Bool, true, false}
+use Prim.Native.Nat.{ℕ}
+use native.Mathlib.Omega.{arith}
+use Rattle.definitions.specs.Tools.{if_then_else_}
+use Rattle.definitions.specs.Result.{Result, done, refused}
+use Rattle.definitions.specs.Result as result
+use Rattle.definitions.specs.Reading.{Got}
+use Rattle.reader.specs.Parts.{past}
+
+never : {A B : Type 0} {a : A} {n d : ℕ} → refused n d ≡ done a → B
+never e = absurd (let z : _≡_ {A = ℕ} 0 1 = cc in omega arith)
+
+pub same : {A : Type 0} {a b : A} → done a ≡ done b → a ≡ b
+same e = cc
+
+-- the first of two was done, and the second
+pub record Passed {A B : Type 0} (m : Result A) (f : A → Result B) (b : B) : Type 0 where
+  pub got : A
+  pub read : m ≡ done got
+  pub rest : f got ≡ done b
+
+module _ {A B : Type 0} where
+  pub passed : (m : Result A) (f : A → Result B) {b : B} → result._>>=_ m f ≡ done b → Passed m f b
+  passed (done a) f e = record { got = a; read = refl; rest = e }
+  passed (refused n d) f e = never e
+
+-- two results and then a third: as one part made of the two, and then the third
+module _ {A B C D : Type 0} (r : A → Result B) (made : A → B → C) (k : C → Result D) where
+  inner : (a : A) (m : Result B) → result._>>=_ m (λ b. k (made a b)) ≡ result._>>=_ (result._>>=_ m λ b. done (made a b)) k
+  inner a (done b) = refl
+  inner a (refused n d) = refl
+
+  pub bind-bind : (m : Result A) → result._>>=_ m (λ a. result._>>=_ (r a) (λ b. k (made a b))) ≡ result._>>=_ (result._>>=_ m λ a. result._>>=_ (r a) λ b. done (made a b)) k
+  bind-bind (done a) = inner a (r a)
+  bind-bind (refused n d) = refl
+
+module _ {A : Type 0} where
+  -- a part that was passed was read
+  pub past-done : (m : Result (Got A)) {p : ℕ} → past m ≡ done p → Passed m (λ g. done (g .next)) p
+  past-done (done g) e = record { got = g; read = refl; rest = e }
+  past-done (refused n d) e = never e
+
+  pub past-refused : (m : Result (Got A)) {n d : ℕ} → past m ≡ refused n d → m ≡ refused n d
+  past-refused (done g) e = never (sym e)
+  past-refused (refused n d) e = cc
+
+  -- a test that holds changes nothing
+  pub asked-got : (why at : ℕ) (good : A → Bool) {m : Result (Got A)} {g : Got A} → result._>>=_ m (λ g. if good (g .value) then done g else refused why at) ≡ done g → m ≡ done g
+  asked-got why at good {m} {g} e = go (good (p .got .value)) (p .rest)
+    where
+      p : Passed m (λ g. if good (g .value) then done g else refused why at) g
+      p = passed m _ e
+
+      go : (t : Bool) → (if t then done (p .got) else refused why at) ≡ done g → m ≡ done g
+      go true d = p .read ∙ d
+      go false d = never d

@@ -1,0 +1,35 @@
+-- The definitions' readers in the parts that the code has: fields with a range, and a term. Laws.antt puts them together again.
+use Rattle.definitions.specs.Tools.{ℕ, ℤ, pos, not, _&&_, List, leb, ltb, eqb, any, neg, eqZ, within, if_then_else_}
+use Rattle.definitions.specs.Board.{Term}
+use Rattle.definitions.specs.Result.{Result, done, refused}
+use Rattle.definitions.specs.Result as result
+use Rattle.definitions.specs.Reading.{Got, Reader, Context, asked, _>>=_, give, unsigned, signed}
+use Rattle.definitions.specs.declared.Refusal.{Refusal}
+use Rattle.reader.specs.Said.{refusal}
+
+-- of what is read, only the place after it
+abbrev pub past : {A : Type 0} → Result (Got A) → Result ℕ
+past (done g) = done (g .next)
+past (refused n d) = refused n d
+
+-- fields with a range; `wrong` is the refusal of a value outside it
+unfoldable pub numberFrom : Refusal → ℕ → ℕ → ℕ → Reader ℕ
+numberFrom wrong least most n s at =
+    result._>>=_ (unsigned n s at) λ g. if leb least (g .value) && leb (g .value) most then done g else refusal wrong
+
+unfoldable pub wholeFrom : Refusal → ℤ → ℤ → ℕ → Reader ℤ
+wholeFrom wrong least most n s at =
+    result._>>=_ (signed n s at) λ g. if within least most (g .value) then done g else refusal wrong
+
+-- a term; seen: the variables of the terms before
+unfoldable pub coefficient : Reader ℤ
+coefficient = asked 7 (λ a. within (neg 64) (pos 64) a && not (eqZ a (pos 0))) (signed 1)
+
+unfoldable pub variable : Context → List ℕ → Reader ℕ
+variable ctx seen = asked 7 (λ x. not (any (eqb x) seen)) (asked 7 (λ x. ltb x (ctx .ints)) (unsigned 2))
+
+unfoldable pub readTerm : Context → List ℕ → Reader Term
+readTerm ctx seen = do
+  a ← coefficient
+  x ← variable ctx seen
+  give (record { coef = a; var = x })
