@@ -1,4 +1,6 @@
 pub mod Tests
-pub mod Fields
 pub mod Steps
+pub mod Fields
 pub mod Terms
+pub mod Literals
+pub mod Loops

@@ -1,0 +1,39 @@
+-- The number, then its sign by the kind.
+use borrow.Author.Needs.{needs}
+use borrow.Author.Tests.{eq-eqb, ne-eqb}
+use Rattle.definitions.specs.Reading.{boolean}
+use Rattle.fields.proofs.Laws.{told}
+use Rattle.reader.specs.Said.{saidNumber}
+use Rattle.reader.specs.Parts.{numberFrom}
+use Rattle.reader.proofs.Literals.{kind-boolean}
+use Rattle.reader.proofs.clauses.boolean_at.Statement.{statement}
+use Rattle.reader.proofs.clauses.boolean_at.Tie as tie
+
+number-at-requires : tie.Need-number-at-requires
+number-at-requires c κs = search needs
+
+enum-known-value : tie.Need-enum-known-value
+enum-known-value c = search needs
+
+enum-known-r : tie.Need-enum-known-r
+enum-known-r c = search needs
+
+returns : tie.Need-returns
+unfolding boolean numberFrom
+returns c =
+    rw (kind-boolean _ _ _ _ (c .before .before .before .before .before .before .pre), told saidNumber (c .before .before .before .before .number-at .ensures) (c .before .before .value .given .1), eq-eqb _ _ (c .if1 .taken))
+
+returns-2 : tie.Need-returns-2
+unfolding boolean numberFrom
+returns-2 c =
+    rw (kind-boolean _ _ _ _ (c .before .before .before .before .before .before .pre), told saidNumber (c .before .before .before .before .number-at .ensures) (c .before .before .value .given .1), ne-eqb _ _ (c .if1 .left))
+
+returns-3 : tie.Need-returns-3
+unfolding boolean numberFrom
+returns-3 c =
+    rw (kind-boolean _ _ _ _ (c .before .before .before .before .before .pre), told saidNumber (c .before .before .before .number-at .ensures) (c .before .r .given .1))
+
+pub boolean-at-spec : {M : Type 1} → statement M
+boolean-at-spec =
+    tie.close
+    (tie.spec number-at-requires enum-known-value enum-known-r returns returns-2 returns-3)

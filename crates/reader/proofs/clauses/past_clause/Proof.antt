@@ -1,0 +1,40 @@
+-- The count, then so many literals.
+use borrow.Author.Needs.{needs}
+use Rattle.definitions.specs.Reading.{readClause}
+use Rattle.fields.proofs.Laws.{told}
+use Rattle.reader.specs.Said.{saidNumber}
+use Rattle.reader.proofs.clauses.past_clause.Statement.{statement}
+use Rattle.reader.proofs.clauses.past_clause.Tie as tie
+
+literal-count-at-requires : tie.Need-literal-count-at-requires
+literal-count-at-requires c κs = search needs
+
+enum-known-value : tie.Need-enum-known-value
+enum-known-value c = search needs
+
+past-literals-requires : tie.Need-past-literals-requires
+past-literals-requires c κs = search needs
+
+enum-known-r : tie.Need-enum-known-r
+enum-known-r c = search needs
+
+returns : tie.Need-returns
+unfolding readClause
+returns c =
+    rw (told saidNumber (c .before .before .before .before .literal-count-at .ensures) (c .before .before .value .given .1)) (c .past-literals .ensures)
+
+returns-2 : tie.Need-returns-2
+unfolding readClause
+returns-2 c =
+    rw (told saidNumber (c .before .before .before .literal-count-at .ensures) (c .before .r .given .1))
+
+pub past-clause-spec : {M : Type 1} → statement M
+past-clause-spec =
+    tie.close
+    (tie.spec
+    literal-count-at-requires
+    enum-known-value
+    past-literals-requires
+    enum-known-r
+    returns
+    returns-2)
