@@ -1,5 +1,5 @@
 -- The reader's answers as the definitions have them.
-use Rattle.definitions.specs.Tools.{ℕ, ℤ, List}
+use Rattle.definitions.specs.Tools.{_≡_, ℕ, ℤ, List}
 use Rattle.definitions.specs.Board.{Literal, isTrue, isFalse, atMost}
 use Rattle.definitions.specs.Result.{Result, done, refused}
 use Rattle.definitions.specs.Reading.{Got, Context}
@@ -36,6 +36,13 @@ abbrev pub literalOf : List ℕ → code.Literal → Literal
 literalOf rules (code.Literal.Boolean b) = isTrue b
 literalOf rules (code.Literal.Negated b) = isFalse b
 literalOf rules (code.Literal.Comparison place constant) = atMost (record { terms = termsAt rules place; constant = constant })
+
+-- a comparison's place is that of its term count
+abbrev pub Placed : ℕ → LiteralRead → Type 0
+Placed at (LiteralRead.Got (code.Literal.Comparison place constant) next) = place ≡ at
+Placed at (LiteralRead.Got (code.Literal.Boolean b) next) = Unit {0}
+Placed at (LiteralRead.Got (code.Literal.Negated b) next) = Unit {0}
+Placed at (LiteralRead.Refused r) = Unit {0}
 
 abbrev pub saidLiteral : List ℕ → LiteralRead → Result (Got Literal)
 saidLiteral rules (LiteralRead.Got l next) = done (record { value = literalOf rules l; next = next })

@@ -1,8 +1,8 @@
 // Literals, and clauses: a count and so many literals.
 ghost use mathlib.Core.Path.{_≡_};
-ghost use Prim.Native.Nat.{_≤_};
+ghost use Prim.Native.Nat.{_+_, _≤_};
 ghost use Rattle.definitions.specs.Reading.{times, count, ofKind, readLiteral, readClause};
-ghost use Rattle.reader.specs.Said.{contextOf, saidNumber, saidStep, saidLiteral};
+ghost use Rattle.reader.specs.Said.{contextOf, saidNumber, saidStep, saidLiteral, Placed};
 ghost use Rattle.reader.specs.Parts.{past};
 use super::Context;
 use super::Literal;
@@ -16,7 +16,7 @@ use definitions::Refusal;
 // Kind 0 is the Boolean, kind 1 its negation.
 fn boolean_at(rules: &[u8], known: Context, kind: u32, at: usize) -> LiteralRead
     requires { ⌜ kind ≤ 1 ⌝ }
-    ensures { λ r. ⌜ saidLiteral (now (rules .entry)) r ≡ ofKind (contextOf known) kind (now (rules .entry)) at ⌝ }
+    ensures { λ r. ⌜ (saidLiteral (now (rules .entry)) r ≡ ofKind (contextOf known) kind (now (rules .entry)) at) × Placed at r ⌝ }
 {
     match number_at(
         rules,
@@ -38,7 +38,7 @@ fn boolean_at(rules: &[u8], known: Context, kind: u32, at: usize) -> LiteralRead
 }
 
 pub fn literal_at(rules: &[u8], known: Context, at: usize) -> LiteralRead
-    ensures { λ r. ⌜ saidLiteral (now (rules .entry)) r ≡ readLiteral (contextOf known) (now (rules .entry)) at ⌝ }
+    ensures { λ r. ⌜ (saidLiteral (now (rules .entry)) r ≡ readLiteral (contextOf known) (now (rules .entry)) at) × Placed (at + 1) r ⌝ }
 {
     match number_at(rules, at, 1, 0, 2, Refusal::LiteralWrong { place: at }) {
         Number::Value { value, next } => {

@@ -5,7 +5,7 @@ ghost use lib.ListN.{length};
 ghost use Rattle.definitions.specs.Tools.{[], any, eqb};
 ghost use Rattle.definitions.specs.Board.{atMost};
 ghost use Rattle.definitions.specs.Reading.{mapped, readTerms, readComparison};
-ghost use Rattle.reader.specs.Said.{contextOf, saidStep, saidLiteral};
+ghost use Rattle.reader.specs.Said.{contextOf, saidStep, saidLiteral, Placed};
 ghost use Rattle.reader.specs.Parts.{past, coefficient, variable, readTerm};
 ghost use Rattle.reader.specs.Plain.{seenAt};
 use super::Context;
@@ -96,7 +96,7 @@ fn past_terms(rules: &[u8], known: Context, first: usize, n: usize) -> Step
 }
 
 pub fn comparison_at(rules: &[u8], known: Context, at: usize) -> LiteralRead
-    ensures { λ r. ⌜ saidLiteral (now (rules .entry)) r ≡ mapped atMost (readComparison (contextOf known)) (now (rules .entry)) at ⌝ }
+    ensures { λ r. ⌜ (saidLiteral (now (rules .entry)) r ≡ mapped atMost (readComparison (contextOf known)) (now (rules .entry)) at) × Placed at r ⌝ }
 {
     match number_at(rules, at, 1, 1, 3, Refusal::CountWrong { place: at }) {
         Number::Value { value, next } => match past_terms(rules, known, next, value as usize) {

@@ -21,17 +21,17 @@ enum-known-r c = search needs
 returns : tie.Need-returns
 unfolding boolean numberFrom
 returns c =
-    rw (kind-boolean _ _ _ _ (c .before .before .before .before .before .before .pre), told saidNumber (c .before .before .before .before .number-at .ensures) (c .before .before .value .given .1), eq-eqb _ _ (c .if1 .taken))
+    (rw (kind-boolean _ _ _ _ (c .before .before .before .before .before .before .pre), told saidNumber (c .before .before .before .before .number-at .ensures) (c .before .before .value .given .1), eq-eqb _ _ (c .if1 .taken)), tt)
 
 returns-2 : tie.Need-returns-2
 unfolding boolean numberFrom
 returns-2 c =
-    rw (kind-boolean _ _ _ _ (c .before .before .before .before .before .before .pre), told saidNumber (c .before .before .before .before .number-at .ensures) (c .before .before .value .given .1), ne-eqb _ _ (c .if1 .left))
+    (rw (kind-boolean _ _ _ _ (c .before .before .before .before .before .before .pre), told saidNumber (c .before .before .before .before .number-at .ensures) (c .before .before .value .given .1), ne-eqb _ _ (c .if1 .left)), tt)
 
 returns-3 : tie.Need-returns-3
 unfolding boolean numberFrom
 returns-3 c =
-    rw (kind-boolean _ _ _ _ (c .before .before .before .before .before .pre), told saidNumber (c .before .before .before .number-at .ensures) (c .before .r .given .1))
+    (rw (kind-boolean _ _ _ _ (c .before .before .before .before .before .pre), told saidNumber (c .before .before .before .number-at .ensures) (c .before .r .given .1)), tt)
 
 pub boolean-at-spec : {M : Type 1} → statement M
 boolean-at-spec =

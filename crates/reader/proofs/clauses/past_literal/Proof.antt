@@ -16,11 +16,11 @@ enum-known-r c = search needs
 
 returns : tie.Need-returns
 returns c =
-    rw (told (saidLiteral (c .before .before .before .before .before .args .rules .now)) (c .before .before .before .literal-at .ensures) (c .before .next .given .1))
+    rw (told (saidLiteral (c .before .before .before .before .before .args .rules .now)) (c .before .before .before .literal-at .ensures .0) (c .before .next .given .1))
 
 returns-2 : tie.Need-returns-2
 returns-2 c =
-    rw (told (saidLiteral (c .before .before .before .before .before .args .rules .now)) (c .before .before .before .literal-at .ensures) (c .before .r .given .1))
+    rw (told (saidLiteral (c .before .before .before .before .before .args .rules .now)) (c .before .before .before .literal-at .ensures .0) (c .before .r .given .1))
 
 pub past-literal-spec : {M : Type 1} → statement M
 past-literal-spec =

@@ -1,6 +1,6 @@
 -- The count, the terms and the constant, each where the one before it ends.
 use borrow.Author.Needs.{needs}
-use mathlib.Core.Path.{ap}
+use mathlib.Core.Path.{refl, ap}
 use native.Mathlib.Omega.{arith}
 use Rattle.definitions.specs.Tools.{[]}
 use mir.Facts.{toZ-ofZ}
@@ -52,23 +52,23 @@ returns : tie.Need-returns
 unfolding count readComparison numberFrom wholeFrom
 returns c =
     let n = told saidNumber (c .before .before .before .before .before .before .before .before .before .before .before .number-at .ensures) (c .before .before .before .before .before .before .before .before .before .value .given .1) in
-    rw (n, terms-placed _ 1 3 _ _ (c .before .before .before .before .before .before .before .before .before .before .before .before .before .args .at) n (told saidStep (c .before .before .before .before .before .before .before .past-terms .ensures) (c .before .before .before .before .before .place .given .1)), told saidWhole (c .before .before .before .whole-at .ensures) (c .before .value2 .given .1), toZ-ofZ (bound-fits (c .before .value2 .given .0 .0) (c .known-told3 .given .0 .1)))
+    (rw (n, terms-placed _ 1 3 _ _ (c .before .before .before .before .before .before .before .before .before .before .before .before .before .args .at) n (told saidStep (c .before .before .before .before .before .before .before .past-terms .ensures) (c .before .before .before .before .before .place .given .1)), told saidWhole (c .before .before .before .whole-at .ensures) (c .before .value2 .given .1), toZ-ofZ (bound-fits (c .before .value2 .given .0 .0) (c .known-told3 .given .0 .1))), refl)
 
 returns-2 : tie.Need-returns-2
 unfolding count readComparison numberFrom wholeFrom
 returns-2 c =
     let n = told saidNumber (c .before .before .before .before .before .before .before .before .before .before .before .number-at .ensures) (c .before .before .before .before .before .before .before .before .before .value .given .1) in
-    rw (n, terms-placed _ 1 3 _ _ (c .before .before .before .before .before .before .before .before .before .before .before .before .before .args .at) n (told saidStep (c .before .before .before .before .before .before .before .past-terms .ensures) (c .before .before .before .before .before .place .given .1)), told saidWhole (c .before .before .before .whole-at .ensures) (c .before .r .given .1))
+    (rw (n, terms-placed _ 1 3 _ _ (c .before .before .before .before .before .before .before .before .before .before .before .before .before .args .at) n (told saidStep (c .before .before .before .before .before .before .before .past-terms .ensures) (c .before .before .before .before .before .place .given .1)), told saidWhole (c .before .before .before .whole-at .ensures) (c .before .r .given .1)), tt)
 
 returns-3 : tie.Need-returns-3
 unfolding count readComparison numberFrom wholeFrom
 returns-3 c =
-    rw (told saidNumber (c .before .before .before .before .before .before .before .number-at .ensures) (c .before .before .before .before .before .value .given .1), past-refused (readTerms (contextOf (c .before .before .before .before .before .before .before .before .before .args .known)) [] (c .before .before .before .before .before .value .given .0 .0) (c .before .before .before .before .before .before .before .before .before .args .rules .now) (c .before .before .before .before .before .value .given .0 .1 .0)) (told saidStep (c .before .before .before .past-terms .ensures) (c .before .r2 .given .1)))
+    (rw (told saidNumber (c .before .before .before .before .before .before .before .number-at .ensures) (c .before .before .before .before .before .value .given .1), past-refused (readTerms (contextOf (c .before .before .before .before .before .before .before .before .before .args .known)) [] (c .before .before .before .before .before .value .given .0 .0) (c .before .before .before .before .before .before .before .before .before .args .rules .now) (c .before .before .before .before .before .value .given .0 .1 .0)) (told saidStep (c .before .before .before .past-terms .ensures) (c .before .r2 .given .1))), tt)
 
 returns-4 : tie.Need-returns-4
 unfolding count readComparison numberFrom wholeFrom
 returns-4 c =
-    rw (told saidNumber (c .before .before .before .number-at .ensures) (c .before .r3 .given .1))
+    (rw (told saidNumber (c .before .before .before .number-at .ensures) (c .before .r3 .given .1)), tt)
 
 pub comparison-at-spec : {M : Type 1} → statement M
 comparison-at-spec =
