@@ -17,7 +17,8 @@ use Rattle.definitions.specs.Reading.{Got, Context, asked, big, twos, unsigned,
 use Rattle.definitions.specs.declared.Refusal.{Refusal}
 use Rattle.fields.proofs.Laws.{unsigned-got, signed-got}
 use Rattle.reader.specs.Parts.{past, numberFrom, coefficient, variable, readTerm}
-use Rattle.reader.specs.Plain.{termAt, seenAt, termsAt}
+use Rattle.laws.specs.Reread.{termsAt}
+use Rattle.reader.specs.Plain.{termAt, seenAt}
 use Rattle.reader.proofs.Fields.{number-got}
 use Rattle.reader.proofs.Steps.{asked-got, same, passed, bind-bind, past-done, past-refused}
 
@@ -150,7 +151,7 @@ module _ (ctx : Context) (s : List ℕ) (first : ℕ) where
 -- the terms behind a count
 pub terms-placed : (wrong : Refusal) (least most : ℕ) (ctx : Context) (s : List ℕ) (at : ℕ) {n first p : ℕ} → numberFrom wrong least most 1 s at ≡ done (record { value = n; next = first })
     → past (readTerms ctx [] n s first) ≡ done p → readTerms ctx [] n s first ≡ done (record { value = termsAt s at; next = p })
-unfolding seenAt termsAt
+unfolding seenAt termAt termsAt
 terms-placed wrong least most ctx s at {n} {first} {p} c d =
     let q = past-done (readTerms ctx [] n s first) d in
     let f = number-got wrong least most 1 s at c .0 in

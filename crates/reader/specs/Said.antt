@@ -11,7 +11,7 @@ use Rattle.reader.specs.declared.Step.{Step}
 use Rattle.reader.specs.declared.LiteralRead.{LiteralRead}
 use Rattle.reader.specs.declared.Context as known
 use Rattle.reader.specs.declared.Literal as code
-use Rattle.reader.specs.Plain.{termsAt}
+use Rattle.laws.specs.Reread.{termsAt}
 
 abbrev pub contextOf : known.Context → Context
 contextOf k = record { version = k .version; ints = k .ints; bools = k .bools }
