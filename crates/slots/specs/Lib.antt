@@ -1,1 +1,2 @@
 pub mod Variables
+pub mod Terms

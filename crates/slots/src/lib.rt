@@ -6,4 +6,16 @@ pub struct Bounds {
     pub upper: i32,
 }
 
+pub struct Term {
+    pub coefficient: i32,
+    pub variable: usize,
+}
+
+// A comparison's terms are the first n.
+pub struct Terms {
+    pub n: usize,
+    pub terms: [Term; 3],
+}
+
+pub mod comparisons;
 pub mod variables;
