@@ -5,9 +5,14 @@ use Prim.Native.Nat.{ℕ, _+_, _*_, _≤_, _<_}
 use native.Mathlib.Omega.{arith}
 use lib.ListN.{length, getD, take, length-map, List·getD-map}
 use lib.Seq.{getD-take}
+use mir.Syntax.{w32}
+use mir.Val.{SFits}
+use Rattle.definitions.specs.Tools.{All}
 use Rattle.definitions.specs.Board as board
 use Rattle.definitions.specs.Reading.{big}
-use Rattle.laws.specs.Lists.{length-countUp}
+use Rattle.laws.specs.Whole.{whole, sfits}
+use Rattle.laws.specs.Lists.{all-at, length-countUp}
+use Rattle.laws.specs.Admitted.{GoodTerm}
 use Rattle.laws.specs.Reread.{ComparisonRead, termAt, termsAt, row-at}
 use Rattle.slots.specs.declared.Term.{Term}
 use Rattle.slots.specs.declared.Terms.{Terms}
@@ -26,6 +31,13 @@ term-of ts r i d h l =
     sym (List·getD-map termRead (r .terms) i d)
     ∙ sym (getD-take (r .n) (map termRead (r .terms)) i (termRead d) l)
     ∙ ap (λ l. getD l i (termRead d)) (h .terms)
+
+module _ (ints : ℕ) where
+  pub coefficient-fits : (t : Term) → GoodTerm ints (termRead t) → SFits w32 (t .coefficient)
+  coefficient-fits t g = sfits (omega (whole, g .least, g .most))
+
+  pub term-good : (ts : List board.Term) (r : Terms) (i : ℕ) (d : Term) → TermsOf ts r → All (GoodTerm ints) ts → i < r .n → GoodTerm ints (termRead (getD (r .terms) i d))
+  term-good ts r i d h g l = rw (term-of ts r i d h l) (all-at (GoodTerm ints) (termRead d) ts g i (omega (arith, h .counted)))
 
 -- ---- in bytes
 -- at a place stands the count of a comparison's terms, and then the terms

@@ -6,10 +6,13 @@ use native.Mathlib.Numerals.{add-one}
 use native.Mathlib.Omega.{arith}
 use lib.ListN.{length}
 use lib.IntN.{ℤ}
+use mir.Syntax.{w32}
+use mir.Val.{SFits}
 use Rattle.definitions.specs.Board.{Board, boundsOf}
 use Rattle.definitions.specs.Board as board
 use Rattle.definitions.specs.Reading.{big, twos}
 use Rattle.definitions.specs.Encoding.{width, first}
+use Rattle.laws.specs.Whole.{whole, sfits}
 use Rattle.laws.specs.Admitted.{GoodBounds}
 use Rattle.laws.specs.Terms.{good-bounds}
 use Rattle.laws.specs.Layout.{first-next}
@@ -28,6 +31,13 @@ pub record BoundsOf (B : Board) (x : ℕ) (b : Bounds) : Type 0 where
 
 pub bounds-same : (B : Board) (x : ℕ) (b : Bounds) → BoundsOf B x b → boundsRead b ≡ boundsOf B x
 bounds-same B x b h = rw (h .lower, h .upper)
+
+module _ (b : Bounds) (g : GoodBounds (boundsRead b)) where
+  pub lower-fits : SFits w32 (b .lower)
+  lower-fits = sfits (omega (whole, g .lowest, g .ordered, g .highest))
+
+  pub upper-fits : SFits w32 (b .upper)
+  upper-fits = sfits (omega (whole, g .lowest, g .ordered, g .highest))
 
 module _ (s : List ℕ) (o : Opens s) (x : ℕ) (h : x < length (boardOf s .bounds)) where
   pub bounds-room : 15 + 4 * x ≤ length s

@@ -10,7 +10,7 @@ use Rattle.definitions.specs.Encoding.{width}
 use Rattle.laws.specs.Whole.{whole, sfits, add-law, sub-law, abs-law, part-law}
 use Rattle.laws.specs.Admitted.{GoodBounds}
 use Rattle.slots.specs.declared.Bounds.{Bounds}
-use Rattle.slots.specs.Variables.{boundsRead}
+use Rattle.slots.specs.Variables.{boundsRead, lower-fits, upper-fits}
 use Rattle.slots.proofs.variables.width_of.Statement.{statement}
 use Rattle.slots.proofs.variables.width_of.Tie as tie
 
@@ -20,12 +20,6 @@ module _ (b : Bounds) (g : GoodBounds (boundsRead b)) where
 
   abbrev u : ℤ
   u = b .upper
-
-  lower-fits : SFits w32 l
-  lower-fits = sfits (omega (whole, g .lowest, g .ordered, g .highest))
-
-  upper-fits : SFits w32 u
-  upper-fits = sfits (omega (whole, g .lowest, g .ordered, g .highest))
 
   spread-fits : SFits w32 (u -ℤ l)
   spread-fits = sfits (omega (whole, g .lowest, g .ordered, g .highest, sub-law u l))
