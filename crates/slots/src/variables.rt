@@ -28,7 +28,7 @@ pub fn width_of(bounds: Bounds) -> u32
     requires { ⌜ GoodBounds (boundsRead bounds) ⌝ }
     ensures { λ r. ⌜ r ≡ width (boundsRead bounds) ⌝ }
 {
-    (bounds.upper - bounds.lower + 2) as u32
+    (bounds.upper - bounds.lower) as u32 + 2
 }
 
 // The number of p(x, lower - 1); after the last variable, of the first selector.

@@ -1,5 +1,7 @@
 -- `slots::variables::bounds_of` meets its contract: the record has room for each variable of its board.
 use native.Mathlib.Omega.{arith}
+use mir.Syntax.{w32}
+use mir.Val.{SFits}
 use mir.Facts.{toZ-ofZ}
 use Rattle.slots.specs.Variables.{bounds-room, bounds-there}
 use Rattle.slots.proofs.variables.bounds_of.Statement.{statement}
@@ -27,7 +29,9 @@ plain-signed-requires-2 c κs =
 
 returns : tie.Need-returns
 returns c =
-    rw (toZ-ofZ (record { sfits = c .before .plain-signed .ok }), toZ-ofZ (record { sfits = c .plain-signed2 .ok })) (bounds-there _ (c .before .before .before .pre .0) _ (c .before .before .before .pre .1) _ _ (c .before .plain-signed .ensures) (c .plain-signed2 .ensures))
+    let lower : SFits w32 (c .before .plain-signed .result) = record { sfits = c .before .plain-signed .ok } in
+    let upper : SFits w32 (c .plain-signed2 .result) = record { sfits = c .plain-signed2 .ok } in
+    simp toZ-ofZ (bounds-there _ (c .before .before .before .pre .0) _ (c .before .before .before .pre .1) _ _ (c .before .plain-signed .ensures) (c .plain-signed2 .ensures))
 
 pub bounds-of-spec : {M : Type 1} → statement M
 bounds-of-spec =

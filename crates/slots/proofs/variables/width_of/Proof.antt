@@ -1,5 +1,7 @@
 -- `slots::variables::width_of` meets its contract: of good bounds nothing overflows.
 use mathlib.Core.Path.{_≡_}
+use Prim.Native.Nat.{_+_, _≤_}
+use native.Mathlib.Omega.{arith}
 use lib.IntN.{ℤ, pos, natAbs, _+ℤ_, _-ℤ_}
 use lib.Signed.{yes-nonNeg, nonNeg}
 use lib.Dec.{T}
@@ -7,7 +9,7 @@ use mir.Syntax.{w32}
 use mir.Val.{Fits, SFits}
 use mir.Facts.{toZ-ofZ, fits-natAbs}
 use Rattle.definitions.specs.Encoding.{width}
-use Rattle.laws.specs.Whole.{whole, sfits, add-law, sub-law, abs-law, part-law}
+use Rattle.laws.specs.Whole.{whole, add-law, sub-law, abs-law, abs-le, abs-fits, part-law}
 use Rattle.laws.specs.Admitted.{GoodBounds}
 use Rattle.slots.specs.declared.Bounds.{Bounds}
 use Rattle.slots.specs.Variables.{boundsRead, lower-fits, upper-fits}
@@ -15,38 +17,41 @@ use Rattle.slots.proofs.variables.width_of.Statement.{statement}
 use Rattle.slots.proofs.variables.width_of.Tie as tie
 
 module _ (b : Bounds) (g : GoodBounds (boundsRead b)) where
-  abbrev l : ℤ
-  l = b .lower
+  abbrev spread : ℤ
+  spread = b .upper -ℤ b .lower
 
-  abbrev u : ℤ
-  u = b .upper
+  spread-small : natAbs spread ≤ 8191
+  spread-small = abs-le spread (omega (whole, g .lowest, g .ordered, g .highest, sub-law (b .upper) (b .lower)))
 
-  spread-fits : SFits w32 (u -ℤ l)
-  spread-fits = sfits (omega (whole, g .lowest, g .ordered, g .highest, sub-law u l))
+  spread-fits : SFits w32 spread
+  spread-fits = abs-fits (omega (arith, spread-small))
 
-  width-fits : SFits w32 (u -ℤ l +ℤ pos 2)
-  width-fits = sfits (omega (whole, g .lowest, g .ordered, g .highest, sub-law u l, add-law (u -ℤ l) (pos 2)))
+  spread-casts : T (nonNeg spread) × Fits w32 (natAbs spread)
+  spread-casts = (yes-nonNeg {z = spread} (omega (whole, g .ordered, sub-law (b .upper) (b .lower))), fits-natAbs tt spread-fits)
 
-  cast-fits : T (nonNeg (u -ℤ l +ℤ pos 2)) × Fits w32 (natAbs (u -ℤ l +ℤ pos 2))
-  cast-fits = (yes-nonNeg {z = u -ℤ l +ℤ pos 2} (omega (whole, g .ordered, sub-law u l, add-law (u -ℤ l) (pos 2))), fits-natAbs tt width-fits)
-
-  width-is : natAbs (u -ℤ l +ℤ pos 2) ≡ width (boundsRead b)
+  width-is : natAbs spread + 2 ≡ width (boundsRead b)
   unfolding width
-  width-is = omega (whole, g .ordered, sub-law u l, add-law (u -ℤ l) (pos 2), abs-law (u -ℤ l +ℤ pos 2), part-law (u -ℤ l +ℤ pos 2))
+  width-is = omega (whole, g .ordered, sub-law (b .upper) (b .lower), abs-law spread, part-law spread, add-law spread (pos 2), part-law (spread +ℤ pos 2))
 
-ruleset all-fit = (toZ-ofZ, lower-fits, upper-fits, spread-fits, width-fits)
+ruleset fit = (toZ-ofZ, lower-fits, upper-fits, spread-fits)
 
 sub-result : tie.Need-sub-result
-sub-result c = search all-fit
-
-add-result : tie.Need-add-result
-add-result c = search all-fit
+sub-result c = search fit
 
 cast-result : tie.Need-cast-result
-cast-result c = search (all-fit, cast-fits)
+cast-result c = search (fit, spread-casts)
+
+add-result : tie.Need-add-result
+add-result c =
+    let b = c .before .before .args .bounds in
+    let g = c .before .before .pre in
+    let lower = lower-fits b g in
+    let upper = upper-fits b g in
+    let both = spread-fits b g in
+    simp toZ-ofZ (omega (arith, spread-small b g))
 
 returns : tie.Need-returns
-returns c = search (all-fit, width-is)
+returns c = search (fit, width-is)
 
 pub width-of-spec : {M : Type 1} → statement M
-width-of-spec = tie.close (tie.spec sub-result add-result cast-result returns)
+width-of-spec = tie.close (tie.spec sub-result cast-result add-result returns)
