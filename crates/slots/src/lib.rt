@@ -17,5 +17,5 @@ pub struct Terms {
     pub terms: [Term; 3],
 }
 
-pub mod comparisons;
-pub mod variables;
+pub mod comparisons; // comparisons.rt: its terms, and a comparison made ready to walk
+pub mod variables; // variables.rt: bounds, widths, first numbers
