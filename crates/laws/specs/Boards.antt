@@ -5,7 +5,8 @@ use Prim.Native.Nat.{ℕ}
 use Rattle.definitions.specs.Board.{Board}
 use Rattle.definitions.specs.Result.{Result, done, refused}
 use Rattle.definitions.specs.Operations.{readBoard}
-use Rattle.laws.specs.Reread.{BoardRead, board-read}
+use Rattle.laws.specs.Admitted.{Admitted}
+use Rattle.laws.specs.Reread.{BoardRead, reading-admitted, board-read}
 
 abbrev boardIn : Result Board → Board
 boardIn (done B) = B
@@ -32,3 +33,6 @@ opens-is s r = r
 
 pub opens-board : (s : List ℕ) → Opens s → BoardRead s (boardOf s)
 opens-board s r = board-read s (boardOf s) (opens-is s r)
+
+pub opens-admitted : (s : List ℕ) → Opens s → Admitted (boardOf s)
+opens-admitted s r = reading-admitted s (boardOf s) (opens-is s r)

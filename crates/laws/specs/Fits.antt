@@ -5,14 +5,14 @@ use mathlib.Core.List.{List, [], _∷_, _++_, map}
 use Prim.Native.Nat.{ℕ, suc, _+_, _*_, _^_, _≤_, _<_}
 use native.Mathlib.Nat.{mul-le-mul}
 use native.Mathlib.Omega.{arith}
-use lib.ListN.{length, length-append}
+use lib.ListN.{length, take, drop, length-append, take-append-drop}
 use lib.IntN.{pos, natAbs, _+ℤ_, _-ℤ_}
 use lib.Signed.{leZ, _≤ℤ_}
 use Rattle.definitions.specs.Tools.{All, if_then_else_, sum}
 use Rattle.definitions.specs.Board.{Board, Bounds, Term, Comparison, Clause, isTrue, isFalse, atMost, boundsOf}
-use Rattle.definitions.specs.Encoding.{termBounds, least, tuplesOf, comparisons, selected, axioms, rules, SatClause, places, width, N, M, K}
+use Rattle.definitions.specs.Encoding.{termBounds, least, tuplesOf, comparisons, selected, axioms, rules, SatClause, places, width, first, N, M, K}
 use Rattle.laws.specs.Whole.{whole, add-law, sub-law, part-law, abs-law, abs-add}
-use Rattle.laws.specs.Lists.{all-impl, sum-most}
+use Rattle.laws.specs.Lists.{all-impl, sum-append, sum-most}
 use Rattle.laws.specs.Admitted.{Admitted, GoodBounds, GoodTerm, GoodComparison, GoodClause}
 use Rattle.laws.specs.Terms.{good-bounds, ranges, term-size}
 use Rattle.laws.specs.Tuples.{widths}
@@ -143,6 +143,19 @@ M-fits B g = omega (arith, most (axioms B), most (rules B), K-fits B g)
     most (l ∷ ls) = omega (arith, places-most l, most ls)
 
 -- ---- the numbers
+pub first-most : (B : Board) → Admitted B → (x : ℕ) → first B x ≤ 10000000
+unfolding first
+first-most B g x =
+    let bs = B .bounds in
+    omega (
+      arith,
+      g .ints,
+      g .bools,
+      sum-most width GoodBounds 8193 width-most bs (g .bounds),
+      sum-append width (take x bs) (drop x bs),
+      ap (λ l. sum (map width l)) (take-append-drop x bs),
+    )
+
 selected-few : (C : Clause) → length (selected C) ≤ length C
 unfolding selected
 selected-few [] = omega arith

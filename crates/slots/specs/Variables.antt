@@ -1,0 +1,60 @@
+-- The variables of an accepted record: where their bounds stand, and their numbers one after another. Assumes nothing.
+use mathlib.Core.Path.{_≡_}
+use mathlib.Core.List.{List}
+use Prim.Native.Nat.{ℕ, _+_, _*_, _≤_, _<_}
+use native.Mathlib.Numerals.{add-one}
+use native.Mathlib.Omega.{arith}
+use lib.ListN.{length}
+use lib.IntN.{ℤ}
+use mir.Syntax.{w32}
+use mir.Val.{SFits}
+use Rattle.definitions.specs.Board.{Board, boundsOf}
+use Rattle.definitions.specs.Board as board
+use Rattle.definitions.specs.Reading.{big, twos}
+use Rattle.definitions.specs.Encoding.{width, first}
+use Rattle.laws.specs.Whole.{whole, sfits}
+use Rattle.laws.specs.Admitted.{GoodBounds}
+use Rattle.laws.specs.Terms.{good-bounds}
+use Rattle.laws.specs.Layout.{first-next}
+use Rattle.laws.specs.Boards.{Opens, boardOf, opens-board, opens-admitted}
+use Rattle.slots.specs.declared.Bounds.{Bounds}
+
+-- bounds as the definitions have them
+abbrev pub boundsRead : Bounds → board.Bounds
+boundsRead b = record { lo = b .lower; hi = b .upper }
+
+-- they are those of the variable x
+pub record BoundsOf (B : Board) (x : ℕ) (b : Bounds) : Type 0 where
+  pub lower : b .lower ≡ boundsOf B x .lo
+  pub upper : b .upper ≡ boundsOf B x .hi
+  pub good : GoodBounds (boundsRead b)
+
+pub bounds-same : (B : Board) (x : ℕ) (b : Bounds) → BoundsOf B x b → boundsRead b ≡ boundsOf B x
+bounds-same B x b h = rw (h .lower, h .upper)
+
+module _ (b : Bounds) (g : GoodBounds (boundsRead b)) where
+  pub lower-fits : SFits w32 (b .lower)
+  lower-fits = sfits (omega (whole, g .lowest, g .ordered, g .highest))
+
+  pub upper-fits : SFits w32 (b .upper)
+  upper-fits = sfits (omega (whole, g .lowest, g .ordered, g .highest))
+
+module _ (s : List ℕ) (o : Opens s) (x : ℕ) (h : x < length (boardOf s .bounds)) where
+  pub bounds-room : 15 + 4 * x ≤ length s
+  bounds-room = omega (arith, opens-board s o .room)
+
+  pub bounds-there : (l u : ℤ) → l ≡ twos 2 (big s (11 + 4 * x) 2) → u ≡ twos 2 (big s (11 + 4 * x + 2) 2)
+      → BoundsOf (boardOf s) x (record { lower = l; upper = u })
+  bounds-there l u el eu =
+      let e = opens-board s o .bounds x h in
+      let lower : l ≡ boundsOf (boardOf s) x .lo = rw e el in
+      let upper : u ≡ boundsOf (boardOf s) x .hi = rw e eu in
+      record { lower = lower; upper = upper; good = rw (lower, upper) (good-bounds (boardOf s) (opens-admitted s o .bounds) x h) }
+
+-- ---- the first number of each variable
+pub first-none : (B : Board) → first B 0 ≡ B .bools + 1
+unfolding first
+first-none B = omega arith
+
+pub first-more : (B : Board) (x : ℕ) (b : Bounds) → x < length (B .bounds) → BoundsOf B x b → first B x + width (boundsRead b) ≡ first B (x + 1)
+first-more B x b h e = rw (add-one, first-next B x h, bounds-same B x b e)
