@@ -2,3 +2,4 @@ pub mod Fits
 pub mod Slots
 pub mod Three
 pub mod Moves
+pub mod Padding

@@ -1,5 +1,5 @@
 -- What the code of a slot computes fits its type. Assumes nothing.
-use mathlib.Core.Path.{_≡_, refl, sym, ap, _∙_}
+use mathlib.Core.Path.{_≡_, refl, ap, ap₂, _∙_}
 use mathlib.Core.Logic.{⊎-elim}
 use Prim.Native.Nat.{ℕ, _+_, _*_, _≤_, _<_}
 use native.Mathlib.Omega.{arith}
@@ -8,11 +8,15 @@ use lib.Signed.{ltZ, _≤ℤ_, _<ℤ_}
 use mir.Syntax.{w32}
 use mir.Val.{SFits, toZ}
 use mir.Facts.{toZ-ofZ, toZ-pos}
-use Rattle.definitions.specs.Tools.{floor, ceil, neg}
-use Rattle.laws.specs.Whole.{whole, add-law, sub-law, part-law, abs-law, abs-le, abs-fits, abs-mul-le, abs-sub, lt-test, ge-test, le-or-lt}
+use Rattle.definitions.specs.Tools.{floor, ceil, neg, size}
+use Rattle.laws.specs.Whole.{whole, add-law, sub-law, part-law, abs-law, abs-le, abs-fits, abs-mul-le, abs-sub, lt-test, ge-test, le-or-lt, mul-rises, mul-falls}
+use Rattle.laws.specs.Tuples.{Ordered}
 use Rattle.laws.specs.Division.{floor-within, ceil-within}
 use Rattle.walk.specs.declared.Slot.{Slot}
+use Rattle.walk.specs.declared.Range.{Range}
+use Rattle.walk.specs.declared.Place.{Place}
 use Rattle.walk.proofs.Fits.{small}
+use Rattle.walk.specs.Comparisons.{placed}
 use Rattle.walk.specs.Slots.{FairSlot, valueBounds, slotBounds, orderNumber, slotLiteral}
 
 module _ (s : Slot) (f : FairSlot s) where
@@ -57,6 +61,12 @@ pub falling : (s : Slot) → s .coefficient ≤ℤ pos 0
     → (s .coefficient *ℤ s .upper -ℤ pos 1 ≡ slotBounds s .lo) × (s .coefficient *ℤ s .lower ≡ slotBounds s .hi)
 unfolding slotBounds valueBounds
 falling s h = rw (ge-test (pos 0) (s .coefficient) h) (refl, refl)
+
+pub slot-ordered : (s : Slot) → FairSlot s → Ordered (slotBounds s)
+slot-ordered s f = ⊎-elim (λ h. below (s .upper) (s .lower) (mul-falls (s .coefficient) (s .lower) (s .upper) h (f .ordered)) (falling s h)) (λ h. below (s .lower) (s .upper) (mul-rises (s .coefficient) (s .lower) (s .upper) h (f .ordered)) (rising s h)) (le-or-lt (s .coefficient) (pos 0))
+  where
+    below : (x y : ℤ) → (s .coefficient *ℤ x) ≤ℤ (s .coefficient *ℤ y) → (s .coefficient *ℤ x -ℤ pos 1 ≡ slotBounds s .lo) × (s .coefficient *ℤ y ≡ slotBounds s .hi) → Ordered (slotBounds s)
+    below x y h e = omega (whole, sub-law (s .coefficient *ℤ x) (pos 1))
 
 -- ---- the number of p(x,c)
 module _ (s : Slot) (c : ℤ) (f : FairSlot s) (low : (s .lower -ℤ pos 1) ≤ℤ c) (high : c ≤ℤ s .upper) where
@@ -110,3 +120,28 @@ literal-rising s b h = rw (lt-test (pos 0) (s .coefficient) h)
 pub literal-falling : (s : Slot) (b : ℤ) → s .coefficient <ℤ pos 0 → slotLiteral s b ≡ neg (orderNumber s (ceil b (s .coefficient) -ℤ pos 1))
 unfolding slotLiteral
 literal-falling s b h = rw (ge-test (pos 0) (s .coefficient) (omega whole))
+
+-- ---- the range as the code has it
+module _ (r : Range) (s : Slot) (f : FairSlot s) (e : (r .lo ≡ slotBounds s .lo) × (r .hi ≡ slotBounds s .hi)) where
+  pub low-near : natAbs (r .lo) ≤ 262145
+  low-near = omega (arith, ap natAbs (e .0), slot-near s f)
+
+  pub low-fits : SFits w32 (r .lo)
+  low-fits = small _ (omega (arith, low-near))
+
+  pub high-fits : SFits w32 (r .hi)
+  high-fits = small _ (omega (arith, ap natAbs (e .1), slot-near s f))
+
+  span-near : natAbs (r .hi -ℤ r .lo) ≤ 524290
+  span-near = omega (arith, abs-sub (r .hi) (r .lo), low-near, ap natAbs (e .1), slot-near s f)
+
+  pub span-fits : SFits w32 (r .hi -ℤ r .lo)
+  span-fits = small _ (omega (arith, span-near))
+
+  pub span-sign : pos 0 ≤ℤ (r .hi -ℤ r .lo)
+  span-sign = omega (whole, e, slot-ordered s f, sub-law (r .hi) (r .lo))
+
+  pub span-placed : _≡_ {A = Place} (record { lo = r .lo; k = 0; w = natAbs (r .hi -ℤ r .lo) }) (placed (slotBounds s))
+  span-placed =
+      let d : natAbs (r .hi -ℤ r .lo) ≡ size (r .hi -ℤ r .lo) = omega (whole, abs-law (r .hi -ℤ r .lo), part-law (r .hi -ℤ r .lo), span-sign) in
+      ap (λ n. record { lo = r .lo; k = 0; w = n }) d ∙ ap₂ (λ l h. record { lo = l; k = 0; w = size (h -ℤ l) }) (e .0) (e .1)
