@@ -3,3 +3,4 @@ pub mod Slots
 pub mod Three
 pub mod Moves
 pub mod Padding
+pub mod Sums
