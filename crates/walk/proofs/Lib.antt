@@ -4,3 +4,4 @@ pub mod Three
 pub mod Moves
 pub mod Padding
 pub mod Sums
+pub mod Starts

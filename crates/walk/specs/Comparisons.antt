@@ -28,6 +28,10 @@ slotsOf c = take (c .n) (c .slots)
 unfoldable pub leastOf : Comparison → ℤ
 leastOf c = sumZ (map (λ s. valueBounds s .lo) (slotsOf c))
 
+-- how far the constant is above L, and 1 more: the sum of a tuple's offsets from the least bounds
+unfoldable pub overLeast : Comparison → ℤ
+overLeast c = c .constant -ℤ leastOf c +ℤ pos 1
+
 abbrev pub rangesOf : Comparison → List Bounds
 rangesOf c = map slotBounds (slotsOf c)
 

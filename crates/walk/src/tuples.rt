@@ -12,7 +12,7 @@ ghost use lib.IntN.{pos, _+ℤ_};
 ghost use lib.ListN.{getD};
 ghost use Rattle.definitions.specs.Tools.{All};
 ghost use Rattle.laws.specs.Tuples.{no-term};
-ghost use Rattle.walk.specs.Comparisons.{FairComparison, leastOf, literalsOf, paddedRanges, placed, Walking, present, toCome};
+ghost use Rattle.walk.specs.Comparisons.{FairComparison, leastOf, overLeast, literalsOf, paddedRanges, placed, Walking, present, toCome};
 ghost use Rattle.walk.specs.Walks.{places, refill, above, seen, left, Fine, Over};
 
 // a - b, and 0 where b is larger.
@@ -112,12 +112,20 @@ fn place(c: Comparison, j: usize) -> Place
     }
 }
 
+// The sum of a tuple's offsets; below 0 where there is no tuple.
+pub fn over_least(c: Comparison) -> i32
+    requires { ⌜ FairComparison c ⌝ }
+    ensures { λ r. ⌜ r ≡ overLeast c ⌝ }
+{
+    c.constant - least(c) + 1
+}
+
 // The first tuple.
 pub fn first(c: Comparison) -> At
     requires { ⌜ FairComparison c ⌝ }
     ensures { λ r. ⌜ Walking c r × (toCome c r ≡ literalsOf c) ⌝ }
 {
-    let t = c.constant - least(c) + 1;
+    let t = over_least(c);
     if t < 0 {
         return At::End;
     }

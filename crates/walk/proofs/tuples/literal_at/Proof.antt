@@ -39,7 +39,6 @@ bound-requires c κs =
 
 literal-requires : tie.Need-literal-requires
 literal-requires c κs =
-    
     let a = c .before .before .before .before .before .before .before .before .args in
     let p = c .before .before .before .before .before .before .before .before .pre in
     let f : SFits w32 (c .bound .result) = record { sfits = c .bound .ok } in
@@ -48,7 +47,6 @@ literal-requires c κs =
 
 returns : tie.Need-returns
 returns c =
-    
     let a = c .before .before .before .before .before .before .before .before .before .args in
     let p = c .before .before .before .before .before .before .before .before .before .pre in
     let f : SFits w32 (c .literal .result) = record { sfits = c .literal .ok } in
