@@ -112,10 +112,9 @@ module _ (c : Comparison) (f : FairComparison c) (w : Walk) (o : Walking c (Tupl
   pub literal-read : getD (present c w) i (pos 0) ≡ slotLiteral s (p .lo +ℤ pos (p .k))
   unfolding present literalsAt seen zipWith
   literal-read =
-      let m = 3 - c .n in
       let j-is : 3 - c .n + i ≡ i + 3 - c .n = omega (arith, f .few) in
-      zip-read slotLiteral no-slot (pos 0) (pos 0) (slotsOf c) (drop m (seen w)) i (omega (arith, f .counted)) (omega (arith, f .few, length-drop m (seen w)))
+      zip-read slotLiteral no-slot (pos 0) (pos 0) (slotsOf c) (drop (3 - c .n) (seen w)) i (omega (arith, f .counted)) (omega (arith, f .few, length-drop (3 - c .n) (seen w)))
       ∙ ap₂ slotLiteral (slot-read c f i h)
-      (getD-drop m (seen w) i (pos 0)
+      (getD-drop (3 - c .n) (seen w) i (pos 0)
       ∙ ap (λ k. getD (seen w) k (pos 0)) j-is
       ∙ map-read (λ q. q .lo +ℤ pos (q .k)) no-place (pos 0) (places w) (i + 3 - c .n) (omega (arith, f .few)))

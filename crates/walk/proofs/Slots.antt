@@ -9,48 +9,39 @@ use mir.Syntax.{w32}
 use mir.Val.{SFits, toZ}
 use mir.Facts.{toZ-ofZ, toZ-pos}
 use Rattle.definitions.specs.Tools.{floor, ceil, neg, size}
-use Rattle.laws.specs.Whole.{whole, add-law, sub-law, part-law, abs-law, abs-le, abs-fits, abs-mul-le, abs-sub, lt-test, ge-test, le-or-lt, mul-rises, mul-falls}
+use Rattle.laws.specs.Whole.{whole, add-law, sub-law, part-law, abs-law, abs-le, abs-mul-le, abs-add, abs-sub, lt-test, ge-test, le-or-lt, mul-rises, mul-falls}
 use Rattle.laws.specs.Tuples.{Ordered}
-use Rattle.laws.specs.Division.{floor-within, ceil-within}
+use Rattle.laws.specs.Division.{floor-within, ceil-within, abs-ceil}
 use Rattle.walk.specs.declared.Slot.{Slot}
 use Rattle.walk.specs.declared.Range.{Range}
 use Rattle.walk.specs.declared.Place.{Place}
-use Rattle.walk.proofs.Fits.{small}
+use Rattle.walk.proofs.Fits.{Small, small, fits}
 use Rattle.walk.specs.Comparisons.{placed}
 use Rattle.walk.specs.Slots.{FairSlot, valueBounds, slotBounds, orderNumber, slotLiteral}
 
 module _ (s : Slot) (f : FairSlot s) where
-  pub coefficient-fits : SFits w32 (s .coefficient)
-  coefficient-fits = small _ (omega arith)
+  pub coefficient-small : Small (s .coefficient)
+  coefficient-small = omega arith
 
-  pub lower-fits : SFits w32 (s .lower)
-  lower-fits = small _ (omega arith)
+  pub lower-small : Small (s .lower)
+  lower-small = omega arith
 
-  pub upper-fits : SFits w32 (s .upper)
-  upper-fits = small _ (omega arith)
+  pub upper-small : Small (s .upper)
+  upper-small = omega arith
+
+  pub at-lower : Small (s .coefficient *ℤ s .lower)
+  at-lower = omega (arith, abs-mul-le (s .coefficient) (s .lower) 64 4096 (f .few) (f .lowest))
+
+  pub at-upper : Small (s .coefficient *ℤ s .upper)
+  at-upper = omega (arith, abs-mul-le (s .coefficient) (s .upper) 64 4096 (f .few) (f .highest))
+
+  pub first-small : Small (pos (s .first))
+  first-small = omega arith
 
   pub first-is : toZ w32 (s .first) ≡ pos (s .first)
   first-is = toZ-pos w32 (omega arith)
 
-  at-lower : natAbs (s .coefficient *ℤ s .lower) ≤ 262144
-  at-lower = abs-mul-le (s .coefficient) (s .lower) 64 4096 (f .few) (f .lowest)
-
-  at-upper : natAbs (s .coefficient *ℤ s .upper) ≤ 262144
-  at-upper = abs-mul-le (s .coefficient) (s .upper) 64 4096 (f .few) (f .highest)
-
-  pub at-lower-fits : SFits w32 (s .coefficient *ℤ s .lower)
-  at-lower-fits = small _ (omega (arith, at-lower))
-
-  pub at-upper-fits : SFits w32 (s .coefficient *ℤ s .upper)
-  at-upper-fits = small _ (omega (arith, at-upper))
-
-  pub below-lower-fits : SFits w32 (s .coefficient *ℤ s .lower -ℤ pos 1)
-  below-lower-fits = small _ (omega (arith, at-lower, abs-sub (s .coefficient *ℤ s .lower) (pos 1)))
-
-  pub below-upper-fits : SFits w32 (s .coefficient *ℤ s .upper -ℤ pos 1)
-  below-upper-fits = small _ (omega (arith, at-upper, abs-sub (s .coefficient *ℤ s .upper) (pos 1)))
-
-pub ruleset slot-fits = (toZ-ofZ, coefficient-fits, lower-fits, upper-fits, at-lower-fits, at-upper-fits, below-lower-fits, below-upper-fits)
+pub ruleset slot-fits = (fits, coefficient-small, lower-small, upper-small, at-lower, at-upper)
 
 pub rising : (s : Slot) → pos 0 <ℤ s .coefficient
     → (s .coefficient *ℤ s .lower -ℤ pos 1 ≡ slotBounds s .lo) × (s .coefficient *ℤ s .upper ≡ slotBounds s .hi)
@@ -70,27 +61,25 @@ slot-ordered s f = ⊎-elim (λ h. below (s .upper) (s .lower) (mul-falls (s .co
 
 -- ---- the number of p(x,c)
 module _ (s : Slot) (c : ℤ) (f : FairSlot s) (low : (s .lower -ℤ pos 1) ≤ℤ c) (high : c ≤ℤ s .upper) where
-  pub inside-fits : SFits w32 c
-  inside-fits = small _ (abs-le c (omega (whole, sub-law (s .lower) (pos 1), abs-law (s .lower), abs-law (s .upper))))
+  above-lower : natAbs (c -ℤ s .lower) ≤ 8192
+  above-lower = abs-le (c -ℤ s .lower) (omega (whole, sub-law c (s .lower), sub-law (s .lower) (pos 1), abs-law (s .lower), abs-law (s .upper)))
 
-  pub from-lower-fits : SFits w32 (c -ℤ s .lower)
-  from-lower-fits = small _ (abs-le (c -ℤ s .lower) (omega (whole, sub-law c (s .lower), sub-law (s .lower) (pos 1), abs-law (s .lower), abs-law (s .upper))))
+  pub from-lower : Small (c -ℤ s .lower)
+  from-lower = omega (arith, above-lower)
 
-  pub index-fits : SFits w32 (c -ℤ s .lower +ℤ pos 1)
-  index-fits = small _ (abs-le (c -ℤ s .lower +ℤ pos 1) (omega (whole, sub-law c (s .lower), add-law (c -ℤ s .lower) (pos 1), sub-law (s .lower) (pos 1), abs-law (s .lower), abs-law (s .upper))))
+  pub before-number : Small (pos (s .first) +ℤ (c -ℤ s .lower))
+  before-number = omega (arith, f .numbered, above-lower, abs-add (pos (s .first)) (c -ℤ s .lower))
 
-  pub number-is : pos (s .first) +ℤ (c -ℤ s .lower +ℤ pos 1) ≡ pos (orderNumber s c)
+  pub number-is : pos (s .first) +ℤ (c -ℤ s .lower) +ℤ pos 1 ≡ pos (orderNumber s c)
   unfolding orderNumber
-  number-is = omega (whole, add-law (pos (s .first)) (c -ℤ s .lower +ℤ pos 1), part-law (c -ℤ s .lower +ℤ pos 1), sub-law c (s .lower), add-law (c -ℤ s .lower) (pos 1), sub-law (s .lower) (pos 1))
+  number-is =
+      let d = c -ℤ s .lower in
+      omega (whole, add-law (pos (s .first)) d, add-law (pos (s .first) +ℤ d) (pos 1), add-law d (pos 1), part-law (d +ℤ pos 1), sub-law c (s .lower), sub-law (s .lower) (pos 1))
 
-  pub number-below : orderNumber s c ≤ 10008193
-  unfolding orderNumber
-  number-below = omega (whole, part-law (c -ℤ s .lower +ℤ pos 1), sub-law c (s .lower), add-law (c -ℤ s .lower) (pos 1), abs-law (s .lower), abs-law (s .upper))
+  pub number-small : Small (pos (orderNumber s c))
+  number-small = omega (arith, f .numbered, above-lower, ap natAbs number-is, abs-add (pos (s .first)) (c -ℤ s .lower), abs-add (pos (s .first) +ℤ (c -ℤ s .lower)) (pos 1))
 
-  pub number-fits : SFits w32 (pos (s .first) +ℤ (c -ℤ s .lower +ℤ pos 1))
-  number-fits = rw number-is (abs-fits (omega (arith, number-below)))
-
-pub ruleset number-fits-all = (toZ-ofZ, lower-fits, first-is, from-lower-fits, index-fits, number-fits)
+pub ruleset number-fits = (fits, lower-small, first-is, first-small, from-lower, before-number)
 
 -- ---- the literal at a bound of the slot's range
 pub slot-near : (s : Slot) → FairSlot s → (natAbs (slotBounds s .lo) ≤ 262145) × (natAbs (slotBounds s .hi) ≤ 262144)
@@ -104,8 +93,14 @@ slot-near s f = ⊎-elim (λ h. near (s .upper) (s .lower) (f .highest) (f .lowe
         omega (arith, ap natAbs (e .0), ap natAbs (e .1), abs-sub (s .coefficient *ℤ x) (pos 1))
 
 module _ (s : Slot) (b : ℤ) (f : FairSlot s) (low : slotBounds s .lo ≤ℤ b) (high : b ≤ℤ slotBounds s .hi) where
-  pub bound-near : natAbs b ≤ 262145
+  bound-near : natAbs b ≤ 262145
   bound-near = abs-le b (omega (whole, slot-near s f, abs-law (slotBounds s .lo), abs-law (slotBounds s .hi)))
+
+  pub bound-small : natAbs b ≤ 1000000
+  bound-small = omega (arith, bound-near)
+
+  pub ceil-small : (c : ℤ) → c ≡ ceil b (s .coefficient) → Small c
+  ceil-small c e = omega (arith, bound-near, ap natAbs e, abs-ceil b (s .coefficient))
 
   pub floor-inside : (c : ℤ) → c ≡ floor b (s .coefficient) → pos 0 <ℤ s .coefficient → ((s .lower -ℤ pos 1) ≤ℤ c) × (c ≤ℤ s .upper)
   floor-inside c e h = let r = rising s h in rw e (floor-within (s .coefficient) (s .lower) (s .upper) b h (rw (r .0) low) (rw (r .1) high))
