@@ -3,15 +3,14 @@ use mathlib.Core.Path.{_≡_, refl, sym, ap, ap₂, _∙_}
 use mathlib.Core.List.{List, [], _∷_, _++_, map, zipWith, map-map}
 use Prim.Native.Nat.{ℕ, zero, suc, _+_, _-_, _≤_, _<_}
 use native.Mathlib.Omega.{arith}
-use lib.ListN.{length, getD, take, drop, replicate, length-replicate, getD-replicate, List·getD-append, length-append, length-map, length-drop}
+use lib.ListN.{length, getD, drop, replicate, length-replicate, getD-replicate, List·getD-append, length-append, length-map, length-drop}
 use lib.Seq.{getD-append-add, getD-take, getD-drop}
 use lib.IntN.{ℤ, pos, _+ℤ_, _-ℤ_}
 use lib.Signed.{_≤ℤ_}
-use Rattle.definitions.specs.Tools.{All, size}
-use Rattle.definitions.specs.Board.{Bounds}
+use Rattle.definitions.specs.Tools.{size}
 use Rattle.laws.specs.Whole.{whole, add-law, sub-law, part-law}
 use Rattle.laws.specs.Lists.{all-at}
-use Rattle.laws.specs.Tuples.{Ordered, no-term}
+use Rattle.laws.specs.Tuples.{no-term}
 use Rattle.walk.specs.declared.Slot.{Slot}
 use Rattle.walk.specs.declared.Comparison.{Comparison}
 use Rattle.walk.specs.declared.Place.{Place}
@@ -109,12 +108,18 @@ module _ (c : Comparison) (f : FairComparison c) (w : Walk) (o : Walking c (Tupl
       let u = slotBounds s .hi in
       omega (whole, low-is, width-is, place-fine .inside, slot-ordered s (slot-fair c f i h), add-law (p .lo) (pos (p .k)), sub-law u l, part-law (u -ℤ l))
 
+  bound-read : getD (seen w) (i + 3 - c .n) (pos 0) ≡ p .lo +ℤ pos (p .k)
+  unfolding seen zipWith
+  bound-read = map-read (λ q. q .lo +ℤ pos (q .k)) no-place (pos 0) (places w) (i + 3 - c .n) (omega (arith, f .few))
+
+  seen-length : length (seen w) ≡ 3
+  unfolding seen zipWith
+  seen-length = refl
+
   pub literal-read : getD (present c w) i (pos 0) ≡ slotLiteral s (p .lo +ℤ pos (p .k))
-  unfolding present literalsAt seen zipWith
+  unfolding present literalsAt
   literal-read =
+      let m = 3 - c .n in
       let j-is : 3 - c .n + i ≡ i + 3 - c .n = omega (arith, f .few) in
-      zip-read slotLiteral no-slot (pos 0) (pos 0) (slotsOf c) (drop (3 - c .n) (seen w)) i (omega (arith, f .counted)) (omega (arith, f .few, length-drop (3 - c .n) (seen w)))
-      ∙ ap₂ slotLiteral (slot-read c f i h)
-      (getD-drop (3 - c .n) (seen w) i (pos 0)
-      ∙ ap (λ k. getD (seen w) k (pos 0)) j-is
-      ∙ map-read (λ q. q .lo +ℤ pos (q .k)) no-place (pos 0) (places w) (i + 3 - c .n) (omega (arith, f .few)))
+      zip-read slotLiteral no-slot (pos 0) (pos 0) (slotsOf c) (drop m (seen w)) i (omega (arith, f .counted)) (omega (arith, f .few, length-drop m (seen w), seen-length))
+      ∙ ap₂ slotLiteral (slot-read c f i h) (getD-drop m (seen w) i (pos 0) ∙ ap (λ k. getD (seen w) k (pos 0)) j-is ∙ bound-read)

@@ -1,13 +1,13 @@
 -- What the code of a slot computes fits its type. Assumes nothing.
 use mathlib.Core.Path.{_≡_, refl, ap, ap₂, _∙_}
 use mathlib.Core.Logic.{⊎-elim}
-use Prim.Native.Nat.{ℕ, _+_, _*_, _≤_, _<_}
+use Prim.Native.Nat.{_≤_}
 use native.Mathlib.Omega.{arith}
 use lib.IntN.{ℤ, pos, natAbs, _+ℤ_, _-ℤ_, _*ℤ_}
-use lib.Signed.{ltZ, _≤ℤ_, _<ℤ_}
+use lib.Signed.{_≤ℤ_, _<ℤ_}
 use mir.Syntax.{w32}
 use mir.Val.{SFits, toZ}
-use mir.Facts.{toZ-ofZ, toZ-pos}
+use mir.Facts.{toZ-pos}
 use Rattle.definitions.specs.Tools.{floor, ceil, neg, size}
 use Rattle.laws.specs.Whole.{whole, add-law, sub-law, part-law, abs-law, abs-le, abs-mul-le, abs-add, abs-sub, lt-test, ge-test, le-or-lt, mul-rises, mul-falls}
 use Rattle.laws.specs.Tuples.{Ordered}

@@ -1,19 +1,19 @@
 -- Where the walk over a comparison starts. Assumes nothing.
-use mathlib.Core.Path.{_≡_, refl, sym, ap, ap₂, _∙_, subst}
+use mathlib.Core.Path.{_≡_, refl, sym, ap, ap₂, _∙_}
 use mathlib.Core.List.{List, [], _∷_, _++_, map, zipWith, map-map}
-use Prim.Native.Nat.{ℕ, zero, suc, _+_, _-_, _≤_, _<_}
+use Prim.Native.Nat.{ℕ, zero, suc, _-_}
 use native.Mathlib.Omega.{arith}
-use lib.ListN.{length, getD, drop, replicate, length-replicate}
+use lib.ListN.{length, getD, replicate, length-replicate}
 use lib.Seq.{drop-at}
 use lib.IntN.{ℤ, pos, _+ℤ_, _-ℤ_}
-use lib.Signed.{_≤ℤ_, _<ℤ_}
-use Rattle.definitions.specs.Tools.{All, sumZ, size}
+use lib.Signed.{_<ℤ_}
+use Rattle.definitions.specs.Tools.{All, sumZ}
 use Rattle.definitions.specs.Board.{Bounds}
 use Rattle.definitions.specs.Encoding.{tuples}
 use Rattle.laws.specs.Whole.{whole, add-law, sub-law, part-law, abs-law}
 use Rattle.laws.specs.Lists.{all-every, all-map, all-impl, all-append, map-same}
 use Rattle.laws.specs.Offsets.{offsets}
-use Rattle.laws.specs.Tuples.{Ordered, lows, widths, shift, no-term, tuples-none, tuples-offsets, tuples-padded, lows-padded, ordered-padded}
+use Rattle.laws.specs.Tuples.{Ordered, lows, shift, no-term, tuples-none, tuples-offsets, tuples-padded, lows-padded, ordered-padded}
 use Rattle.walk.specs.declared.Slot.{Slot}
 use Rattle.walk.specs.declared.Comparison.{Comparison}
 use Rattle.walk.specs.declared.Place.{Place}

@@ -4,15 +4,14 @@ use mathlib.Core.List.{List, [], _∷_, _++_, map, map-append}
 use Prim.Native.Nat.{ℕ, zero, suc, _+_, _*_, _≤_, _<_}
 use native.Mathlib.Numerals.{add-one}
 use native.Mathlib.Omega.{arith}
-use lib.ListN.{length, getD, take, length-take}
+use lib.ListN.{getD, take, length-take}
 use lib.Seq.{take-suc}
-use lib.IntN.{ℤ, pos, natAbs, _+ℤ_, _-ℤ_}
+use lib.IntN.{ℤ, pos, natAbs, _+ℤ_}
 use mir.Syntax.{w32}
 use mir.Val.{SFits, toZ, ofZ}
 use mir.Facts.{toZ-ofZ}
 use Rattle.definitions.specs.Tools.{sumZ}
 use Rattle.laws.specs.Whole.{whole, add-law, sub-law, abs-add}
-use Rattle.walk.specs.declared.Slot.{Slot}
 use Rattle.walk.specs.declared.Range.{Range}
 use Rattle.walk.specs.declared.Comparison.{Comparison}
 use Rattle.walk.specs.Slots.{valueBounds, slotBounds}

@@ -1,12 +1,12 @@
 -- What 01 admits is fair: the numbers of an admitted board's comparison fit the code. Assumes nothing.
-use mathlib.Core.Path.{_≡_, sym, ap, _∙_}
-use mathlib.Core.List.{List, _++_, map}
-use Prim.Native.Nat.{ℕ, _+_, _≤_}
+use mathlib.Core.Path.{sym, ap, _∙_}
+use mathlib.Core.List.{map}
+use Prim.Native.Nat.{ℕ, _≤_}
 use native.Mathlib.Omega.{arith}
 use lib.ListN.{length, take, drop, take-append-drop, length-map}
 use lib.IntN.{pos}
-use Rattle.definitions.specs.Tools.{All, sum}
-use Rattle.definitions.specs.Board.{Board, Bounds, Term, boundsOf}
+use Rattle.definitions.specs.Tools.{sum}
+use Rattle.definitions.specs.Board.{Board, Term, boundsOf}
 use Rattle.definitions.specs.Board as board
 use Rattle.definitions.specs.Encoding.{first, width}
 use Rattle.laws.specs.Whole.{whole, abs-le, abs-law, ne-in}
@@ -16,7 +16,7 @@ use Rattle.laws.specs.Terms.{good-bounds}
 use Rattle.laws.specs.Fits.{width-most}
 use Rattle.walk.specs.declared.Comparison.{Comparison}
 use Rattle.walk.specs.Slots.{FairSlot, slotOf}
-use Rattle.walk.specs.Comparisons.{slotsOf, FairComparison, Shows}
+use Rattle.walk.specs.Comparisons.{FairComparison, Shows}
 
 module _ (B : Board) (g : Admitted B) where
   first-most : (x : ℕ) → first B x ≤ 8393729

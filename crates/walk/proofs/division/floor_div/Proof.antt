@@ -1,7 +1,7 @@
 use mathlib.Core.Path.{_∙_}
 use native.Mathlib.Omega.{arith}
 use Prim.Native.Nat.{_≤_}
-use lib.IntN.{ℤ, pos, natAbs, _-ℤ_}
+use lib.IntN.{ℤ, pos, natAbs}
 use mir.Facts.{toZ-ofZ}
 use Rattle.laws.specs.Whole.{whole, back, abs-law, abs-sub, sub-law, part-law}
 use Rattle.laws.specs.Division.{floor-flip}

@@ -1,5 +1,4 @@
-use mathlib.Core.Path.{_≡_, sym, ap, _∙_}
-use lib.IntN.{pos, _+ℤ_}
+use mathlib.Core.Path.{sym, ap, _∙_}
 use lib.ListN.{getD}
 use mir.Syntax.{w32}
 use mir.Val.{SFits}
@@ -7,13 +6,8 @@ use mir.Facts.{toZ-ofZ}
 use borrow.Author.Needs.{needs}
 use Rattle.walk.specs.Slots.{slotLiteral}
 use Rattle.walk.proofs.Padding.{no-slot, slot-fair, place-fine, bound-inside, literal-read}
-use borrow.Author.Needs.{needs}
 use Rattle.walk.proofs.tuples.literal_at.Statement.{statement}
 use Rattle.walk.proofs.tuples.literal_at.Tie as tie
-use Rattle.walk.proofs.tuples.literal_at.Reads as reads
-use Rattle.walk.proofs.tuples.literal_at.Lts as lts
-use Rattle.walk.proofs.terms.literal.Reads as literal-reads
-use Rattle.walk.proofs.tuples.bound.Reads as bound-reads
 
 add-p : tie.Need-add-p
 add-p c = search needs
