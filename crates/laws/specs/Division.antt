@@ -1,13 +1,13 @@
 -- Rounding down and up, at either sign of the divisor (000, Proposition 1, the translation #). Assumes nothing.
 use mathlib.Core.Path.{_≡_, refl, sym, ap, ap₂, _∙_, subst}
-use mathlib.Core.Logic.{_↔_, _⊎_, ⊎-elim}
-use Prim.Native.Nat.{ℕ, zero, suc, _+_, _*_, _-_, _/_, _%_, _<_, _≤_}
-use native.Mathlib.Nat.{mod-lt, div-add-mod, div-le-self, mul-le-mul-left}
+use mathlib.Core.Logic.{_↔_, ⊎-elim}
+use Prim.Native.Nat.{ℕ, suc, _+_, _-_, _/_, _<_, _≤_}
+use native.Mathlib.Nat.{mod-lt, div-add-mod, div-le-self}
 use native.Mathlib.Omega.{arith}
 use lib.IntN.{ℤ, pos, negsuc, negℤ, natAbs, _+ℤ_, _-ℤ_, _*ℤ_, negℤ-negℤ}
 use lib.Signed.{shrZ, _≤ℤ_, _<ℤ_, quotZ}
 use Rattle.definitions.specs.Tools.{floor, ceil}
-use Rattle.laws.specs.Whole.{pp, nn, whole, add-law, neg-law, sub-law, mul-law, le-in, lt-in, mul-add, mul-mono, le-or-lt, eq-in, mul-neg, abs-law, zero-sub}
+use Rattle.laws.specs.Whole.{whole, add-law, neg-law, sub-law, mul-law, mul-add, mul-mono, le-or-lt, eq-in, mul-neg, abs-law, abs-neg, zero-sub}
 
 -- ---- a r ≤ b < a r + a, for a positive a
 shr-law : (b : ℤ) (m : ℕ) → 0 < m → ((pos m *ℤ shrZ b m) ≤ℤ b) × (b <ℤ ((pos m *ℤ shrZ b m) +ℤ pos m))
@@ -144,3 +144,7 @@ pub abs-floor : (b a : ℤ) → natAbs (floor b a) ≤ natAbs b
 unfolding floor
 abs-floor b (pos m) = abs-shr b m
 abs-floor b (negsuc m) = omega (arith, abs-shr (negℤ b) (suc m), abs-law b, abs-law (negℤ b), neg-law b)
+
+pub abs-ceil : (b a : ℤ) → natAbs (ceil b a) ≤ natAbs b
+unfolding ceil
+abs-ceil b a = omega (arith, abs-floor (negℤ b) a, abs-neg (floor (negℤ b) a), abs-neg b)

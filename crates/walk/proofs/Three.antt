@@ -3,7 +3,6 @@ use mathlib.Core.Path.{_≡_, refl, ap, _∙_, subst}
 use mathlib.Core.List.{List, [], _∷_}
 use Prim.Native.Nat.{ℕ, suc, min, _+_, _-_, _≤_, _<_}
 use native.Mathlib.Omega.{arith}
-use Rattle.definitions.specs.Tools.{sum}
 use Rattle.laws.specs.Offsets.{offsets, later, lowest, offsets-none, start, deeper, up, stop}
 
 -- the last two places hold r

@@ -1,9 +1,9 @@
 -- A comparison as the code has it: the literals of its tuples, and what they are of a board's comparison. Assumes nothing.
-use mathlib.Core.Path.{_≡_, refl, sym, ap, ap₂, _∙_}
-use mathlib.Core.List.{List, [], _∷_, _++_, map, zipWith, map-map}
-use Prim.Native.Nat.{ℕ, suc, _+_, _-_, _≤_, _<_}
+use mathlib.Core.Path.{_≡_, refl, ap, ap₂, _∙_}
+use mathlib.Core.List.{List, [], _∷_, _++_, map, zipWith}
+use Prim.Native.Nat.{suc, _-_, _≤_}
 use native.Mathlib.Omega.{arith}
-use lib.ListN.{length, take, drop, replicate, length-map, length-drop}
+use lib.ListN.{length, take, drop, replicate, length-drop}
 use lib.IntN.{ℤ, pos, natAbs, _+ℤ_, _-ℤ_}
 use Rattle.definitions.specs.Tools.{All, sumZ, size}
 use Rattle.definitions.specs.Board.{Bounds, Term, Board, boundsOf}
@@ -19,7 +19,7 @@ use Rattle.walk.specs.declared.Walk.{Walk}
 use Rattle.walk.specs.declared.At.{At}
 use Rattle.walk.specs.declared.At.the-variants.{Tuple, End}
 use Rattle.walk.specs.Slots.{FairSlot, valueBounds, slotBounds, slotLiteral, slotOf, value-bounds, slot-literal}
-use Rattle.walk.specs.Walks.{places, blank, seen, left, Fine, Over}
+use Rattle.walk.specs.Walks.{places, seen, left, Fine, Over}
 
 abbrev pub slotsOf : Comparison → List Slot
 slotsOf c = take (c .n) (c .slots)
@@ -27,6 +27,10 @@ slotsOf c = take (c .n) (c .slots)
 -- L
 unfoldable pub leastOf : Comparison → ℤ
 leastOf c = sumZ (map (λ s. valueBounds s .lo) (slotsOf c))
+
+-- how far the constant is above L, and 1 more: the sum of a tuple's offsets from the least bounds
+unfoldable pub overLeast : Comparison → ℤ
+overLeast c = c .constant -ℤ leastOf c +ℤ pos 1
 
 abbrev pub rangesOf : Comparison → List Bounds
 rangesOf c = map slotBounds (slotsOf c)
@@ -63,23 +67,21 @@ unfoldable pub toCome : Comparison → At → List (List ℤ)
 toCome c cur = map (literalsAt c) (left cur)
 
 -- ---- what a step shows
+pub none-left : (c : Comparison) → toCome c End ≡ []
+unfolding toCome left
+none-left c = refl
+
 module _ (c : Comparison) (w : Walk) where
   pub walking-fine : Walking c (Tuple w) → All Fine (places w)
   unfolding Walking Over
   walking-fine o = o .0
 
-  pub walking-next : (r : At) → Walking c (Tuple w) → Over (places w) r → Walking c r
-  unfolding Walking Over
-  walking-next (Tuple v) o k = (k .0, k .1 ∙ o .1)
-  walking-next End o k = tt
-
-  pub come-next : (r : At) → left (Tuple w) ≡ seen w ∷ left r → toCome c (Tuple w) ≡ present c w ∷ toCome c r
-  unfolding toCome present
-  come-next r e = ap (map (literalsAt c)) e
-
-  pub come-end : toCome c End ≡ []
-  unfolding toCome left
-  come-end = refl
+  -- from what `next` ensures
+  pub stepped : (r : At) → Walking c (Tuple w) → Over (places w) r × (left (Tuple w) ≡ seen w ∷ left r)
+      → Walking c r × (toCome c (Tuple w) ≡ present c w ∷ toCome c r)
+  unfolding Walking Over toCome present
+  stepped (Tuple v) o n = ((n .0 .0, n .0 .1 ∙ o .1), ap (map (literalsAt c)) (n .1))
+  stepped End o n = (tt, ap (map (literalsAt c)) (n .1))
 
   pub present-length : FairComparison c → length (present c w) ≡ c .n
   unfolding present literalsAt seen zipWith

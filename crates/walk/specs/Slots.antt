@@ -1,15 +1,13 @@
 -- A slot is a term with its variable's bounds and first number: where its bounds lie, and the number of its literal. Assumes nothing.
-use mathlib.Core.Path.{_≡_, refl, sym, ap, _∙_, subst}
+use mathlib.Core.Path.{_≡_, refl}
 use mathlib.Core.Bool.{Bool, true, false}
 use Prim.Native.Nat.{ℕ, _+_, _≤_, _<_}
-use native.Mathlib.Omega.{arith}
 use lib.IntN.{ℤ, pos, natAbs, _+ℤ_, _-ℤ_, _*ℤ_}
-use lib.Signed.{ltZ, _≤ℤ_, _<ℤ_}
+use lib.Signed.{ltZ, _≤ℤ_}
 use Rattle.definitions.specs.Tools.{if_then_else_, size, floor, ceil, neg}
 use Rattle.definitions.specs.Board.{Bounds, Term, Board, boundsOf}
-use Rattle.definitions.specs.Encoding.{Atom, plus, minus, termBounds, sharp, first, number, literalNumber}
+use Rattle.definitions.specs.Encoding.{plus, minus, termBounds, sharp, first, number, literalNumber}
 use Rattle.definitions.specs.Encoding as Encoding
-use Rattle.laws.specs.Whole.{whole, mul-mono}
 use Rattle.walk.specs.declared.Slot.{Slot}
 
 -- ℓ(ax) and u(ax)

@@ -2,7 +2,7 @@
 use mathlib.Core.Path.{_≡_}
 use mathlib.Core.List.{List, [], _∷_, map}
 use Prim.Native.Nat.{ℕ, _-_, _≤_}
-use lib.IntN.{ℤ, pos, natAbs, _+ℤ_}
+use lib.IntN.{ℤ, natAbs}
 use Rattle.definitions.specs.Tools.{All}
 use Rattle.laws.specs.Offsets.{offsets, later}
 use Rattle.laws.specs.Tuples.{shift}

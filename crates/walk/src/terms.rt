@@ -32,7 +32,7 @@ fn order_number(s: Slot, c: i32) -> i32
     requires { ⌜ FairSlot s × ((s .lower -ℤ pos 1) ≤ℤ c) × (c ≤ℤ s .upper) ⌝ }
     ensures { λ r. ⌜ r ≡ pos (orderNumber s c) ⌝ }
 {
-    s.first as i32 + (c - s.lower + 1)
+    s.first as i32 + (c - s.lower) + 1
 }
 
 // The number of the term's literal at a bound of its range.

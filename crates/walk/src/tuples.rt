@@ -1,11 +1,18 @@
-// Tuples in rising order: the first, and from each the next. Every step yields one.
+// A comparison's tuples in rising order: the first, from each the next, and the literals at the present one. Every step yields a tuple.
 use crate::At;
+use crate::Comparison;
 use crate::Place;
 use crate::Walk;
+use crate::terms::literal;
+use crate::terms::slot_range;
 ghost use mathlib.Core.Path.{_≡_};
 ghost use mathlib.Core.List.{_∷_, []};
-ghost use Prim.Native.Nat.{min, _+_, _-_, _≤_};
+ghost use Prim.Native.Nat.{min, _-_, _≤_, _<_};
+ghost use lib.IntN.{pos, _+ℤ_};
+ghost use lib.ListN.{getD};
 ghost use Rattle.definitions.specs.Tools.{All};
+ghost use Rattle.laws.specs.Tuples.{no-term};
+ghost use Rattle.walk.specs.Comparisons.{FairComparison, leastOf, overLeast, literalsOf, paddedRanges, placed, Walking, present, toCome};
 ghost use Rattle.walk.specs.Walks.{places, refill, above, seen, left, Fine, Over};
 
 // a - b, and 0 where b is larger.
@@ -70,4 +77,78 @@ pub fn next(w: Walk) -> At
         return refilled(a, b, c, after - 1);
     }
     At::End
+}
+
+// The least value of the sum within bounds.
+pub fn least(c: Comparison) -> i32
+    requires { ⌜ FairComparison c ⌝ }
+    ensures { λ r. ⌜ r ≡ leastOf c ⌝ }
+{
+    let slots = c.slots;
+    let mut sum: i32 = 0;
+    let mut i: usize = 0;
+    while i < c.n {
+        let range = slot_range(slots[i]);
+        sum += range.lo + 1;
+        i += 1;
+    }
+    sum
+}
+
+// The j-th of three places. Those of terms that the comparison lacks stand in front and hold nothing.
+fn place(c: Comparison, j: usize) -> Place
+    requires { ⌜ FairComparison c × (j < 3) ⌝ }
+    ensures { λ r. ⌜ r ≡ placed (getD (paddedRanges c) j no-term) ⌝ }
+{
+    if j + c.n < 3 {
+        return Place { lo: 0, k: 0, w: 0 };
+    }
+    let slots = c.slots;
+    let range = slot_range(slots[j + c.n - 3]);
+    Place {
+        lo: range.lo,
+        k: 0,
+        w: (range.hi - range.lo) as u32,
+    }
+}
+
+// The sum of a tuple's offsets; below 0 where there is no tuple.
+pub fn over_least(c: Comparison) -> i32
+    requires { ⌜ FairComparison c ⌝ }
+    ensures { λ r. ⌜ r ≡ overLeast c ⌝ }
+{
+    c.constant - least(c) + 1
+}
+
+// The first tuple.
+pub fn first(c: Comparison) -> At
+    requires { ⌜ FairComparison c ⌝ }
+    ensures { λ r. ⌜ Walking c r × (toCome c r ≡ literalsOf c) ⌝ }
+{
+    let t = over_least(c);
+    if t < 0 {
+        return At::End;
+    }
+    lowest(place(c, 0), place(c, 1), place(c, 2), t as u32)
+}
+
+fn bound(p: Place) -> i32
+    requires { ⌜ Fine p ⌝ }
+    ensures { λ r. ⌜ r ≡ p .lo +ℤ pos (p .k) ⌝ }
+{
+    p.lo + p.k as i32
+}
+
+// The literal of term i at the present tuple.
+pub fn literal_at(c: Comparison, w: Walk, i: usize) -> i32
+    requires { ⌜ FairComparison c × Walking c (At.Tuple w) × (i < c .n) ⌝ }
+    ensures { λ r. ⌜ r ≡ getD (present c w) i (pos 0) ⌝ }
+{
+    let a = w.a;
+    let b = w.b;
+    let z = w.c;
+    let places = [a, b, z];
+    let slots = c.slots;
+    let p = places[i + 3 - c.n];
+    literal(slots[i], bound(p))
 }

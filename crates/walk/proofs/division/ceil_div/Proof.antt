@@ -7,18 +7,18 @@ use mir.Facts.{toZ-ofZ}
 use Rattle.definitions.specs.Tools.{floor}
 use Rattle.laws.specs.Whole.{abs-sub}
 use Rattle.laws.specs.Division.{ceil-is, abs-floor}
-use Rattle.walk.proofs.Fits.{minus-small}
+use Rattle.walk.proofs.Fits.{less-small, fits}
 use Rattle.walk.proofs.division.ceil_div.Statement.{statement}
 use Rattle.walk.proofs.division.ceil_div.Tie as tie
 
 sub-floor-div : tie.Need-sub-floor-div
-sub-floor-div c = let fb = c .fits .b in simp toZ-ofZ (minus-small (c .args .b) (omega arith))
+sub-floor-div c = search fits
 
 floor-div-requires : tie.Need-floor-div-requires
 floor-div-requires c κs =
     let fa = c .fits .a in
     let fb = c .fits .b in
-    let mb = minus-small (c .args .b) (omega arith) in
+    let mb = less-small (pos 0) (c .args .b) (omega arith) (omega arith) in
     simp toZ-ofZ (omega (arith, abs-sub (pos 0) (c .args .b)))
 
 -- what the call returned
@@ -26,13 +26,13 @@ got : (c : tie.After-floor-div) → c .floor-div .result ≡ floor (pos 0 -ℤ c
 got c =
     let fa = c .before .fits .a in
     let fb = c .before .fits .b in
-    let mb = minus-small (c .before .args .b) (omega arith) in
+    let mb = less-small (pos 0) (c .before .args .b) (omega arith) (omega arith) in
     simp toZ-ofZ at (c .floor-div .ensures)
 
 minus : (c : tie.After-floor-div) → SFits w32 (pos 0 -ℤ c .floor-div .result)
 minus c =
     let b = c .before .args .b in
-    minus-small (c .floor-div .result) (omega (arith, ap natAbs (got c), abs-floor (pos 0 -ℤ b) (c .before .args .a), abs-sub (pos 0) b))
+    less-small (pos 0) (c .floor-div .result) (omega arith) (omega (arith, ap natAbs (got c), abs-floor (pos 0 -ℤ b) (c .before .args .a), abs-sub (pos 0) b))
 
 sub-result : tie.Need-sub-result
 sub-result c =

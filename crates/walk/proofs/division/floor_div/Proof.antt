@@ -1,26 +1,30 @@
 use mathlib.Core.Path.{_∙_}
 use native.Mathlib.Omega.{arith}
-use lib.IntN.{pos, _-ℤ_}
+use Prim.Native.Nat.{_≤_}
+use lib.IntN.{ℤ, pos, natAbs}
 use mir.Facts.{toZ-ofZ}
 use Rattle.laws.specs.Whole.{whole, back, abs-law, abs-sub, sub-law, part-law}
 use Rattle.laws.specs.Division.{floor-flip}
-use Rattle.walk.proofs.Fits.{minus-small}
+use Rattle.walk.proofs.Fits.{Small, less-small, fits}
 use Rattle.walk.proofs.division.floor_div.Statement.{statement}
 use Rattle.walk.proofs.division.floor_div.Tie as tie
 
+few : (z : ℤ) → natAbs z ≤ 64 → Small z
+few z h = omega arith
+
 sub-floor-positive : tie.Need-sub-floor-positive
-sub-floor-positive c = let fb = c .before .fits .b in simp toZ-ofZ (minus-small (c .before .args .b) (omega arith))
+sub-floor-positive c = search fits
 
 sub-floor-positive-2 : tie.Need-sub-floor-positive-2
-sub-floor-positive-2 c = let fa = c .before .fits .a in simp toZ-ofZ (minus-small (c .before .args .a) (omega arith))
+sub-floor-positive-2 c = search (fits, few)
 
 floor-positive-requires : tie.Need-floor-positive-requires
 floor-positive-requires c κs =
     let s = c .before in
     let fa = s .fits .a in
     let fb = s .fits .b in
-    let ma = minus-small (s .args .a) (omega arith) in
-    let mb = minus-small (s .args .b) (omega arith) in
+    let ma = less-small (pos 0) (s .args .a) (omega arith) (omega arith) in
+    let mb = less-small (pos 0) (s .args .b) (omega arith) (omega arith) in
     simp toZ-ofZ (omega (whole, back fa, sub-law (pos 0) (s .args .a), abs-sub (pos 0) (s .args .b)))
 
 returns : tie.Need-returns
@@ -28,8 +32,8 @@ returns c =
     let s = c .before .before in
     let fa = s .fits .a in
     let fb = s .fits .b in
-    let ma = minus-small (s .args .a) (omega arith) in
-    let mb = minus-small (s .args .b) (omega arith) in
+    let ma = less-small (pos 0) (s .args .a) (omega arith) (omega arith) in
+    let mb = less-small (pos 0) (s .args .b) (omega arith) (omega arith) in
     toZ-ofZ (record { sfits = c .floor-positive .ok }) ∙ (simp toZ-ofZ at (c .floor-positive .ensures)) ∙ floor-flip (s .args .b) (s .args .a) (omega (whole, back fa))
 
 floor-positive-requires-2 : tie.Need-floor-positive-requires-2

@@ -1,13 +1,10 @@
-use borrow.Author.Needs.{needs}
-use lib.Signed.{_≤ℤ_, _<ℤ_}
 use lib.IntN.{pos}
-use mir.Facts.{toZ-ofZ}
+use lib.Signed.{_≤ℤ_, _<ℤ_}
 use Rattle.laws.specs.Whole.{whole, back}
-use Rattle.walk.proofs.Slots.{slot-fits, coefficient-fits, rising, falling}
+use Rattle.walk.proofs.Fits.{small}
+use Rattle.walk.proofs.Slots.{slot-fits, coefficient-small, rising, falling}
 use Rattle.walk.proofs.terms.slot_range.Statement.{statement}
 use Rattle.walk.proofs.terms.slot_range.Tie as tie
-use Rattle.walk.proofs.terms.slot_range.Reads as reads
-use Rattle.walk.proofs.terms.slot_range.Lts as lts
 
 mul-at-lower : tie.Need-mul-at-lower
 mul-at-lower c = search slot-fits
@@ -20,8 +17,9 @@ sub-t5 c = search slot-fits
 
 returns : tie.Need-returns
 returns c =
-    let f = c .before .before .before .before .before .before .before .pre in let s = c .before .before .before .before .before .before .before .args .s in
-    let h : pos 0 <ℤ s .coefficient = omega (whole, back (coefficient-fits s f)) in
+    let start = c .before .before .before .before .before .before .before in
+    let s = start .args .s in
+    let h : pos 0 <ℤ s .coefficient = omega (whole, back (small (s .coefficient) (coefficient-small s (start .pre)))) in
     search (slot-fits, rising s h)
 
 sub-t6 : tie.Need-sub-t6
@@ -29,8 +27,9 @@ sub-t6 c = search slot-fits
 
 returns-2 : tie.Need-returns-2
 returns-2 c =
-    let f = c .before .before .before .before .before .before .before .pre in let s = c .before .before .before .before .before .before .before .args .s in
-    let h : s .coefficient ≤ℤ pos 0 = omega (whole, back (coefficient-fits s f)) in
+    let start = c .before .before .before .before .before .before .before in
+    let s = start .args .s in
+    let h : s .coefficient ≤ℤ pos 0 = omega (whole, back (small (s .coefficient) (coefficient-small s (start .pre)))) in
     search (slot-fits, falling s h)
 
 pub slot-range-spec : {M : Type 1} → statement M

@@ -4,13 +4,8 @@ use borrow.Author.Needs.{needs}
 use Prim.Native.Nat.{_-_}
 use Rattle.walk.specs.Walks.{moved, refill}
 use Rattle.walk.proofs.Moves.{Begins, begin-none, begin-at}
-use borrow.Author.Needs.{needs}
 use Rattle.walk.proofs.tuples.lowest.Statement.{statement}
 use Rattle.walk.proofs.tuples.lowest.Tie as tie
-use Rattle.walk.proofs.tuples.lowest.Reads as reads
-use Rattle.walk.proofs.tuples.lowest.Lts as lts
-use Rattle.walk.proofs.tuples.less.Reads as less-reads
-use Rattle.walk.proofs.tuples.refilled.Reads as refilled-reads
 
 add-after : tie.Need-add-after
 add-after c = search needs

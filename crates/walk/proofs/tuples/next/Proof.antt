@@ -1,15 +1,9 @@
 use mathlib.Core.Path.{sym, subst}
 use native.Mathlib.Omega.{arith}
 use borrow.Author.Needs.{needs}
-use Rattle.walk.specs.declared.At.{At}
 use Rattle.walk.proofs.Moves.{Steps, move-second, move-first, move-none}
-use borrow.Author.Needs.{needs}
 use Rattle.walk.proofs.tuples.next.Statement.{statement}
 use Rattle.walk.proofs.tuples.next.Tie as tie
-use Rattle.walk.proofs.tuples.next.Reads as reads
-use Rattle.walk.proofs.tuples.next.Lts as lts
-use Rattle.walk.proofs.tuples.refilled.Reads as refilled-reads
-use Rattle.walk.proofs.tuples.room.Reads as room-reads
 
 room-requires : tie.Need-room-requires
 room-requires c κs = search needs
