@@ -1,12 +1,12 @@
 -- Demand 2, the list: cut at its zeros it is the board's clauses, and as numbers it says what the clauses say.
-use mathlib.Core.Path.{_≡_, refl, sym, ap, _∙_, subst}
+use mathlib.Core.Path.{_≡_, refl, sym, ap, _∙_}
 use mathlib.Core.Logic.{_↔_, ⊎-map}
 use mathlib.Core.Bool.{not}
 use mathlib.Core.List.{List, [], _∷_, _++_, map, flatten, map-map}
 use Prim.Native.Nat.{ℕ, zero, suc, _-_, _≤_}
 use native.Mathlib.Omega.{arith}
 use lib.ListN.{length, getD, length-map}
-use lib.Dec.{T, eqb, eqb→eq}
+use lib.Dec.{T, eqb}
 use lib.IntN.{ℤ, pos, negsuc, natAbs}
 use Rattle.definitions.specs.Tools.{All, Any, neg}
 use Rattle.definitions.specs.Board.{Board}
@@ -14,6 +14,7 @@ use Rattle.definitions.specs.Encoding.{SatLiteral, SatClause, plus, minus, numb
 use Rattle.definitions.specs.Meaning.{on, satisfies, inModel, Model}
 use Rattle.laws.specs.Lists.{all-impl, all-map, all-append, all-flatten, all-at}
 use Rattle.laws.specs.Admitted.{Admitted}
+use Rattle.laws.specs.Decide.{equals}
 use Rattle.laws.specs.Layout.{number-range}
 use Rattle.laws.specs.Mentions.{Mentions, InList, clauses-mention, literals-numbered}
 use Rattle.laws.specs.Sizes.{M-is}
@@ -87,9 +88,6 @@ TrueIn model (negsuc v) = getD model v 0 ≡ 0
 abbrev pub Satisfies : List ℕ → List ℤ → Type 0
 Satisfies model list = All (Any (TrueIn model)) (cut list)
 
-is-one : (b : ℕ) → T (eqb b 1) ↔ (b ≡ 1)
-is-one b = (eqb→eq b 1, λ e. subst (λ k. T (eqb k 1)) (sym e) tt)
-
 is-zero : (b : ℕ) → b ≤ 1 → T (not (eqb b 1)) ↔ (b ≡ 0)
 is-zero zero h = ((λ t. refl), (λ e. tt))
 is-zero (suc zero) h = ((λ t. absurd t), (λ e. absurd (omega arith)))
@@ -108,7 +106,7 @@ module _ (B : Board) (model : List ℕ) (whole : length model ≡ N B) (bits : A
 
   literal-says : (l : SatLiteral) → Mentions B l → True l ↔ TrueIn model (literalNumber B l)
   unfolding satisfies inModel literalNumber on
-  literal-says (plus a) h = is-one (getD model (number B a - 1) 0)
+  literal-says (plus a) h = let d = equals (getD model (number B a - 1) 0) 1 in (d .sound, d .full)
   literal-says (minus a) h = let r = number-range B a h in negated (number B a) (r .0) (r .1)
 
   clause-says : (c : SatClause) → All (Mentions B) c → Any True c ↔ Any (TrueIn model) (map (literalNumber B) c)

@@ -1,10 +1,8 @@
-pub mod Ranges
 pub mod Truth
 pub mod TupleRule
 pub mod Rule
 pub mod Order
 pub mod Selectors
-pub mod Entries
 pub mod Bytes
 pub mod Clauses
 pub mod Pairing

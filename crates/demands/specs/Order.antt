@@ -13,8 +13,7 @@ use Rattle.definitions.specs.Encoding.{Atom, SatClause, order, plus, minus, axi
 use Rattle.definitions.specs.Meaning.{satisfies, leastTrue}
 use Rattle.laws.specs.Whole.{whole, add-law, sub-law, suc-law, part-law, le-or-lt}
 use Rattle.laws.specs.Lists.{all-map, map-all}
-use Rattle.laws.specs.Ranges.{all-range}
-use Rattle.demands.specs.Ranges.{range-all}
+use Rattle.laws.specs.Ranges.{range-size, all-range, range-all}
 use Rattle.demands.specs.Truth.{Holds, Satisfied, Tells, only}
 
 -- ---- the least true number
@@ -50,8 +49,7 @@ module _ (p : ℤ → Bool) (hi : ℤ) where
   least-true : (lo : ℤ) → lo ≤ℤ hi → T (p hi) → Least p lo hi (leastTrue p hi (range lo hi))
   least-true lo h t =
       let n = size (hi -ℤ lo) in
-      let e : size (sucℤ hi -ℤ lo) ≡ suc n = omega (whole, sub-law (sucℤ hi) lo, suc-law hi, sub-law hi lo, part-law (hi -ℤ lo), part-law (sucℤ hi -ℤ lo)) in
-      rw e (found n lo t (omega (whole, add-law lo (pos n), sub-law hi lo, part-law (hi -ℤ lo))))
+      rw (range-size lo hi h) (found n lo t (omega (whole, add-law lo (pos n), sub-law hi lo, part-law (hi -ℤ lo))))
 
 -- ---- what A(x) says
 record Rising (p : ℤ → Bool) (lo hi : ℤ) : Type 0 where

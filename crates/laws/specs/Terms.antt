@@ -1,17 +1,17 @@
 -- Terms within their variables' bounds: the ranges of b₁ .. bₙ (000, Proposition 1), and how great all that can be.
 use mathlib.Core.Path.{_≡_, refl}
 use mathlib.Core.Bool.{Bool, true, false}
-use mathlib.Core.List.{List, [], _∷_, map, flatten}
+use mathlib.Core.List.{List, [], _∷_, map}
 use Prim.Native.Nat.{ℕ, suc, _≤_, _<_}
 use native.Mathlib.Omega.{arith}
 use lib.ListN.{length}
 use lib.IntN.{ℤ, pos, natAbs, _+ℤ_, _-ℤ_, _*ℤ_}
 use lib.Signed.{ltZ, _≤ℤ_}
-use Rattle.definitions.specs.Tools.{All, if_then_else_, sumZ, eqZ, range}
+use Rattle.definitions.specs.Tools.{All, if_then_else_, sumZ, eqZ}
 use Rattle.definitions.specs.Board.{Board, Bounds, Term, boundsOf}
 use Rattle.definitions.specs.Encoding.{termBounds, least, tuples}
-use Rattle.laws.specs.Lists.{all-at, all-flatten, all-map, all-impl}
-use Rattle.laws.specs.Ranges.{all-range}
+use Rattle.laws.specs.Lists.{all-at, all-map, all-impl}
+use Rattle.laws.specs.Ranges.{all-over}
 use Rattle.laws.specs.Whole.{whole, add-law, sub-law, abs-le, abs-mul-le, mul-rises, mul-falls}
 use Rattle.laws.specs.Admitted.{GoodBounds, GoodTerm}
 use Rattle.laws.specs.Tuples.{Ordered, lows}
@@ -61,18 +61,16 @@ Within (r ∷ rs) [] = ⊥
 Within (r ∷ rs) (b ∷ bs) = (r .lo ≤ℤ b) × (b ≤ℤ r .hi) × Within rs bs
 
 pub tuples-within : (rs : List Bounds) (s : ℤ) → All (Within rs) (tuples rs s)
-unfolding tuples flatten
+unfolding tuples
 tuples-within [] s = go (eqZ s (pos 0))
   where
     go : (b : Bool) → All (Within []) (if b then [] ∷ [] else [])
     go true = (tt, tt)
     go false = tt
 tuples-within (r ∷ rs) s =
-    all-flatten (Within (r ∷ rs)) (map (λ b. map (λ bs. b ∷ bs) (tuples rs (s -ℤ b))) (range (r .lo) (r .hi)))
-    (all-map (All (Within (r ∷ rs))) (λ b. map (λ bs. b ∷ bs) (tuples rs (s -ℤ b))) (range (r .lo) (r .hi))
-    (all-range (λ b. All (Within (r ∷ rs)) (map (λ bs. b ∷ bs) (tuples rs (s -ℤ b)))) (r .lo) (r .hi) (λ b l u.
+    all-over (Within (r ∷ rs)) (λ b. map (λ bs. b ∷ bs) (tuples rs (s -ℤ b))) (r .lo) (r .hi) .1 (λ b l u.
     all-map (Within (r ∷ rs)) (λ bs. b ∷ bs) (tuples rs (s -ℤ b))
-    (all-impl (Within rs) (λ bs. Within (r ∷ rs) (b ∷ bs)) (λ bs w. (l, u, w)) (tuples rs (s -ℤ b)) (tuples-within rs (s -ℤ b))))))
+    (all-impl (Within rs) (λ bs. Within (r ∷ rs) (b ∷ bs)) (λ bs w. (l, u, w)) (tuples rs (s -ℤ b)) (tuples-within rs (s -ℤ b))))
 
 -- ---- sizes
 pub term-size : (of : ℕ → Bounds) (n : ℕ) (t : Term) → GoodTerm n t → GoodBounds (of (t .var))
