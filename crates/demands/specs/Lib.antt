@@ -8,7 +8,10 @@ pub mod Clauses
 pub mod Pairing
 pub mod FieldBytes
 pub mod Records
+pub mod Passed
 pub mod Accepts
 pub mod Flat
-pub mod Foretold
+pub mod Demand1
+pub mod Demand2
+pub mod Demand3
 pub mod Demands

@@ -7,7 +7,7 @@ use Prim.Native.Nat.{ℕ, _-_, _≤_, _<_}
 use native.Mathlib.Nat.{zero-add}
 use native.Mathlib.Omega.{arith}
 use lib.Dec.{T, eqb}
-use lib.ListN.{length, take, drop, length-map, take-append-drop}
+use lib.ListN.{length, getD, take, drop, length-map, take-append-drop}
 use lib.Seq.{length-take-le, getD-take}
 use lib.IntN.{ℤ, pos}
 use Rattle.definitions.specs.Tools.{countUp}
@@ -19,7 +19,7 @@ use Rattle.laws.specs.Decide.{is-within}
 use Rattle.laws.specs.Layout.{Has}
 use Rattle.laws.specs.Admitted.{Admitted}
 use Rattle.laws.specs.Terms.{good-bounds}
-use Rattle.demands.specs.Order.{proposition-2, tells-least}
+use Rattle.demands.specs.Order.{LeastTrue, axioms-least, proposition-2, tells-least}
 use Rattle.demands.specs.Bytes.{bit, truth-bytes, bytes-length, bytes-small, bytes-bools, bytes-read, read-bytes, bytes-alike}
 use Rattle.demands.specs.Clauses.{TellsAll, axioms-in, solves, satisfied}
 
@@ -41,6 +41,11 @@ module _ (B : Board) (good : Admitted B) where
     value-is : (x : ℕ) → x < ints → decoded .α x ≡ valueOf B model x
     unfolding assigned valuesOf variables
     value-is x h = counted-at (valueOf B model) (pos 0) 0 ints x h ∙ ap (valueOf B model) (zero-add x)
+
+    pub value-least : (x : ℕ) → x < length (B .bounds)
+        → LeastTrue (λ c. inModel B model (order x c)) (boundsOf B x .lo) (boundsOf B x .hi) (getD (valuesOf B model) x (pos 0))
+    unfolding Model valueOf assigned
+    value-least x h = rw (value-is x h) (axioms-least (boundsOf B) (inModel B model) x (good-bounds B (good .bounds) x h .ordered) (axioms-in B (inModel B model) (m .2) x h))
 
     bools-fit : B .bools ≤ length model
     unfolding Model N

@@ -40,6 +40,12 @@ module _ {A : Type 0} (P : A → Type 0) where
   all-at d (x ∷ s) a zero h = a .0
   all-at d (x ∷ s) a (suc i) h = all-at d s (a .1) i (omega arith)
 
+  -- also past the end
+  pub all-read : (d : A) → P d → (s : List A) → All P s → (i : ℕ) → P (getD s i d)
+  all-read d h [] a i = h
+  all-read d h (x ∷ s) a zero = a .0
+  all-read d h (x ∷ s) a (suc i) = all-read d h s (a .1) i
+
   pub at-all : (d : A) (s : List A) → ((i : ℕ) → i < length s → P (getD s i d)) → All P s
   at-all d [] f = tt
   at-all d (x ∷ s) f = (f 0 (omega arith), at-all d s (λ i h. f (suc i) (omega arith)))

@@ -199,5 +199,8 @@ board-stand s B end e g (more h v (more h′ m (more h″ c p))) =
 pub reading-admitted : (s : List ℕ) (B : Board) → readBoard s ≡ done B → Admitted B
 reading-admitted s B e = body-read s B e .0
 
+pub accepted-admitted : (s : List ℕ) (B : Board) → accepted s ≡ done B → Admitted B
+accepted-admitted s B e = reading-admitted s B (accepted-parts s B .0 e .0)
+
 pub board-read : (s : List ℕ) (B : Board) → readBoard s ≡ done B → BoardRead s B
 board-read s B e = board-stand s B (length s) refl (body-read s B e .0) (body-read s B e .1)
