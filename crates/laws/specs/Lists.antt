@@ -1,4 +1,4 @@
--- Lists: every and some entry, lists joined, sums, counting up. Assumes nothing.
+-- Lists: every and some entry, lists joined, sums, counting up, entry by entry. Assumes nothing.
 use mathlib.Core.Path.{_≡_, refl, sym, ap, ap₂, _∙_}
 use mathlib.Core.Logic.{inl, inr}
 use mathlib.Core.List.{List, [], _∷_, _++_, map, flatten, append-assoc, map-append}
