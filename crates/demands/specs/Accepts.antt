@@ -1,21 +1,31 @@
 -- What each operation accepts and gives, where its record is accepted (01, "Five operations"). Assumes nothing.
 use mathlib.Core.Path.{_≡_, refl, sym, ap}
 use mathlib.Core.Logic.{_↔_}
+use mathlib.Core.Bool.{Bool}
 use mathlib.Core.List.{List, _++_, map}
 use Prim.Native.Nat.{ℕ, _≤_}
-use lib.Dec.{leb}
+use lib.Dec.{T, leb}
 use lib.ListN.{length, take, drop}
 use lib.IntN.{ℤ}
-use Rattle.definitions.specs.Tools.{any}
-use Rattle.definitions.specs.Board.{Board, variables}
+use Rattle.definitions.specs.Tools.{All, Any, any}
+use Rattle.definitions.specs.Board.{Board}
 use Rattle.definitions.specs.Result.{Result, done, each}
 use Rattle.definitions.specs.Encoding.{N, K, clauses, clauseList}
-use Rattle.definitions.specs.Meaning.{assigned, inBounds, holds, Solution, satisfies, inModel, Model, valuesOf, plainModel}
-use Rattle.definitions.specs.Operations.{accepted, _leaves_, long, Sizes, sizesOf, Size, Compile, Decode, judged, Judge, Image}
+use Rattle.definitions.specs.Meaning.{assigned, Solution, satisfies, inModel, Model, valuesOf, plainModel}
+use Rattle.definitions.specs.Operations.{accepted, _leaves_, long, bits, Sizes, sizesOf, Size, Compile, Decode, judged, Judge, Image}
 use Rattle.laws.specs.Decide.{some, itself, at-most}
 use Rattle.laws.specs.Readings.{same}
-use Rattle.demands.specs.Truth.{Satisfied}
 use Rattle.demands.specs.Passed.{needed, of-length, for-each, and-then, made-of, lending-then, lending-made-of}
+
+-- ---- 12, 14 and 13
+bytes : (l : List ℕ) → (bits l ≡ done tt) ↔ All (λ b. b ≤ 1) l
+bytes = for-each 12 (λ b. leb b 1) (λ b. at-most b 1)
+
+inside : (f : ℕ → Bool) (xs : List ℕ) → (each 14 0 (map f xs) ≡ done tt) ↔ All (λ x. T (f x)) xs
+inside f = for-each 14 f (λ x. itself (f x))
+
+lines : {A : Type 0} (f : A → Bool) (ls : List (List A)) → (each 13 0 (map (any f) ls) ≡ done tt) ↔ All (Any (λ x. T (f x))) ls
+lines f = for-each 13 (any f) (some (λ x. itself (f x)))
 
 module _ (s : List ℕ) (B : Board) (e : accepted s ≡ done B) where
   -- ---- Size and Compile
@@ -41,15 +51,9 @@ module _ (s : List ℕ) (B : Board) (e : accepted s ≡ done B) where
       (judged s values bools also ≡ done B′) ↔ (Solution B values bools × (also B ≡ done tt) × (_≡_ {A = Result Board} (done B) (done B′)))
   unfolding judged Solution
   judged-is values bools also B′ =
-      let a = assigned values bools in
-      let ints = of-length (length (B .bounds)) values in
-      let booleans = of-length (B .bools) bools in
-      let bytes = for-each 12 (λ b. leb b 1) (λ b. at-most b 1) bools in
-      let inside = for-each 14 (inBounds B a) (λ x. itself (inBounds B a x)) (variables B) in
-      let lines = for-each 13 (any (holds a)) (some (λ l. itself (holds a l))) (B .clauses) in
-      rw e (simp and-then (
-        λ h. ((ints .0 (h .0), booleans .0 (h .1 .0), bytes .0 (h .1 .1 .1 .0), inside .0 (h .1 .1 .1 .1 .0), lines .0 (h .1 .1 .1 .1 .1 .0)), h .1 .1 .0, h .1 .1 .1 .1 .1 .1),
-        λ h. (ints .1 (h .0 .0), (booleans .1 (h .0 .1), (h .1, (bytes .1 (h .0 .2), (inside .1 (h .0 .3), (lines .1 (h .0 .4), h .2)))))),
+      rw e (simp (and-then, of-length, bytes, inside, lines) (
+        λ h. ((h .0, h .1 .0, h .1 .1 .1 .0, h .1 .1 .1 .1 .0, h .1 .1 .1 .1 .1 .0), h .1 .1 .0, h .1 .1 .1 .1 .1 .1),
+        λ h. (h .0 .0, (h .0 .1, (h .1, (h .0 .2, (h .0 .3, (h .0 .4, h .2)))))),
       ))
 
   pub judge-is : (values : List ℤ) (bools : List ℕ) → (Judge s values bools ≡ done tt) ↔ Solution B values bools
@@ -76,23 +80,14 @@ module _ (s : List ℕ) (B : Board) (e : accepted s ≡ done B) where
 
   -- ---- Decode
   module _ (model : List ℕ) (values : List ℤ) (bools : List ℕ) where
-    sized : (long (N B) model ≡ done tt) ↔ (length model ≡ N B)
-    sized = of-length (N B) model
-
-    lines : (each 13 0 (map (any (satisfies (inModel B model))) (clauses B)) ≡ done tt) ↔ Satisfied (inModel B model) (clauses B)
-    lines = for-each 13 (any (satisfies (inModel B model))) (some (λ l. itself (satisfies (inModel B model) l))) (clauses B)
-
     pub decode-is : (Decode s model values bools .answer ≡ done tt) ↔ (Model B model × (length values ≡ length (B .bounds)) × (length bools ≡ B .bools))
     unfolding Decode Model
     decode-is =
-        let ints = of-length (length (B .bounds)) values in
-        let booleans = of-length (B .bools) bools in
-        let bytes = for-each 12 (λ b. leb b 1) (λ b. at-most b 1) model in
-        rw e (simp lending-then (
-          λ h. ((sized .0 (h .0), bytes .0 (h .1 .1 .1 .0), lines .0 (h .1 .1 .1 .1 .0)), ints .0 (h .1 .0), booleans .0 (h .1 .1 .0)),
-          λ h. (sized .1 (h .0 .0), (ints .1 (h .1), (booleans .1 (h .2), (bytes .1 (h .0 .1), (lines .1 (h .0 .2), refl))))),
+        rw e (simp (lending-then, of-length, bytes, lines) (
+          λ h. ((h .0, h .1 .1 .1 .0, h .1 .1 .1 .1 .0), h .1 .0, h .1 .1 .0),
+          λ h. (h .0 .0, (h .1, (h .2, (h .0 .1, (h .0 .2, refl))))),
         ))
 
     pub decode-gives : Model B model → length values ≡ length (B .bounds) → length bools ≡ B .bools → Decode s model values bools ≡ (done tt leaves (valuesOf B model, take (B .bools) model))
     unfolding Decode Model
-    decode-gives m i b = rw (e, sized .1 (m .0), of-length (length (B .bounds)) values .1 i, of-length (B .bools) bools .1 b, for-each 12 (λ b. leb b 1) (λ b. at-most b 1) model .1 (m .1), lines .1 (m .2))
+    decode-gives m i b = rw (e, of-length (N B) model .1 (m .0), of-length (length (B .bounds)) values .1 i, of-length (B .bools) bools .1 b, bytes model .1 (m .1), lines (satisfies (inModel B model)) (clauses B) .1 (m .2))
