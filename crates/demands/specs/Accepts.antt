@@ -9,7 +9,7 @@ use lib.ListN.{length, take, drop}
 use lib.IntN.{ℤ}
 use Rattle.definitions.specs.Tools.{All, Any, any}
 use Rattle.definitions.specs.Board.{Board}
-use Rattle.definitions.specs.Result.{Result, done, each}
+use Rattle.definitions.specs.Result.{Result, done, need, each}
 use Rattle.definitions.specs.Encoding.{N, K, clauses, clauseList}
 use Rattle.definitions.specs.Meaning.{assigned, Solution, satisfies, inModel, Model, valuesOf, plainModel}
 use Rattle.definitions.specs.Operations.{accepted, _leaves_, long, bits, Sizes, sizesOf, Size, Compile, Decode, judged, Judge, Image}
@@ -17,7 +17,10 @@ use Rattle.laws.specs.Decide.{some, itself, at-most}
 use Rattle.laws.specs.Readings.{same}
 use Rattle.demands.specs.Passed.{needed, of-length, for-each, and-then, made-of, lending-then, lending-made-of}
 
--- ---- 12, 14 and 13
+-- ---- 10, 12, 14 and 13
+room : (n : ℕ) (list : List ℤ) → (need 10 n (leb n (length list)) ≡ done tt) ↔ (n ≤ length list)
+room n list = needed 10 n (leb n (length list)) (at-most n (length list))
+
 bytes : (l : List ℕ) → (bits l ≡ done tt) ↔ All (λ b. b ≤ 1) l
 bytes = for-each 12 (λ b. leb b 1) (λ b. at-most b 1)
 
@@ -38,13 +41,11 @@ module _ (s : List ℕ) (B : Board) (e : accepted s ≡ done B) where
 
   pub compile-is : (list : List ℤ) (z : Sizes) → (Compile s list .answer ≡ done z) ↔ ((K B ≤ length list) × (z ≡ sizesOf B))
   unfolding Compile
-  compile-is list z =
-      let room = needed 10 (K B) (leb (K B) (length list)) (at-most (K B) (length list)) in
-      rw e (simp lending-then (λ h. (room .0 (h .0), sym (same (h .1))), λ h. (room .1 (h .0), ap done (sym (h .1)))))
+  compile-is list z = rw e (simp (lending-then, room) (λ h. (h .0, sym (same (h .1))), λ h. (h .0, ap done (sym (h .1)))))
 
   pub compile-gives : (list : List ℤ) → K B ≤ length list → Compile s list ≡ (done (sizesOf B) leaves (clauseList B ++ drop (K B) list))
   unfolding Compile
-  compile-gives list h = rw (e, needed 10 (K B) (leb (K B) (length list)) (at-most (K B) (length list)) .1 h)
+  compile-gives list h = rw (e, room (K B) list .1 h)
 
   -- ---- Judge and Image
   judged-is : (values : List ℤ) (bools : List ℕ) (also : Board → Result (Unit {0})) (B′ : Board) →
