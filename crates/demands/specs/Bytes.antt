@@ -12,10 +12,9 @@ use Rattle.definitions.specs.Tools.{All, if_then_else_, countUp, range}
 use Rattle.definitions.specs.Board.{Board, boundsOf, variables}
 use Rattle.definitions.specs.Encoding.{Atom, bool, order, selector, orders, selections, atoms, number, N}
 use Rattle.definitions.specs.Meaning.{on, inModel}
-use Rattle.laws.specs.Lists.{all-append, all-flatten, all-every, all-map, all-at, length-countUp, all-countUp}
+use Rattle.laws.specs.Lists.{all-append, all-flatten, all-every, all-map, all-at, map-same, length-countUp, all-countUp, counted, map-read}
 use Rattle.laws.specs.Ranges.{all-range}
 use Rattle.laws.specs.Layout.{Has, numbers-are, N-is, number-range, atom-at}
-use Rattle.demands.specs.Entries.{counted, map-at, map-alike}
 
 abbrev pub bit : Bool → ℕ
 bit b = if b then 1 else 0
@@ -81,7 +80,7 @@ module _ (B : Board) where
   unfolding inModel on
   bytes-read v x h =
       let r = number-range B x h in
-      let e : getD (bytesOf v) (number B x - 1) 0 ≡ bit (v x) = map-at (λ x. bit (v x)) x 0 (atoms B) (number B x - 1) (omega (arith, N-is B)) ∙ ap (λ y. bit (v y)) (atom-at B x x h) in
+      let e : getD (bytesOf v) (number B x - 1) 0 ≡ bit (v x) = map-read (λ x. bit (v x)) x 0 (atoms B) (number B x - 1) (omega (arith, N-is B)) ∙ ap (λ y. bit (v y)) (atom-at B x x h) in
       rw e (bit-on (v x))
 
   pub read-bytes : (model : List ℕ) → length model ≡ N B → All (λ b. b ≤ 1) model → bytesOf (inModel B model) ≡ model
@@ -92,4 +91,4 @@ module _ (B : Board) where
       ∙ truth-bytes model a
 
   pub bytes-alike : (v w : Atom → Bool) → ((x : Atom) → Has B x → v x ≡ w x) → bytesOf v ≡ bytesOf w
-  bytes-alike v w f = map-alike (λ x. bit (v x)) (λ x. bit (w x)) (atoms B) (all-atoms (λ x. bit (v x) ≡ bit (w x)) (λ x h. ap bit (f x h)))
+  bytes-alike v w f = map-same (λ x. bit (v x)) (λ x. bit (w x)) (atoms B) (all-atoms (λ x. bit (v x) ≡ bit (w x)) (λ x h. ap bit (f x h)))

@@ -6,27 +6,26 @@ use mathlib.Core.List.{[], _∷_}
 use Prim.Native.Nat.{ℕ, zero, suc}
 use lib.Dec.{T, T-not, not-T}
 use lib.IntN.{ℤ, pos, sucℤ, _+ℤ_, _-ℤ_}
-use lib.Signed.{_≤ℤ_}
+use lib.Signed.{_≤ℤ_, _<ℤ_}
 use Rattle.definitions.specs.Tools.{size, upFrom, range, if_then_else_}
 use Rattle.definitions.specs.Board.{Bounds}
 use Rattle.definitions.specs.Encoding.{Atom, SatClause, order, plus, minus, axiomsOf}
 use Rattle.definitions.specs.Meaning.{satisfies, leastTrue}
 use Rattle.laws.specs.Whole.{whole, add-law, sub-law, suc-law, part-law, le-or-lt}
 use Rattle.laws.specs.Lists.{all-map, map-all}
-use Rattle.laws.specs.Ranges.{all-range}
-use Rattle.demands.specs.Ranges.{range-all}
+use Rattle.laws.specs.Ranges.{range-size, all-range, range-all}
 use Rattle.demands.specs.Truth.{Holds, Satisfied, Tells, only}
 
--- ---- the least true number
-record Least (p : ℤ → Bool) (c hi z : ℤ) : Type 0 where
-  least : c ≤ℤ z
-  most : z ≤ℤ hi
-  there : T (p z)
-  first : (d : ℤ) → c ≤ℤ d → d ≤ℤ hi → T (p d) → z ≤ℤ d
+-- ---- z is the least number from c to hi whose p is true
+pub record LeastTrue (p : ℤ → Bool) (c hi z : ℤ) : Type 0 where
+  pub least : c ≤ℤ z
+  pub most : z ≤ℤ hi
+  pub there : T (p z)
+  pub none-before : (d : ℤ) → c ≤ℤ d → d <ℤ z → ¬ T (p d)
 
 module _ (p : ℤ → Bool) (hi : ℤ) where
-  least-from : (c z : ℤ) (s : Bool) → p c ≡ s → c ≤ℤ hi → (¬ T (p c) → Least p (sucℤ c) hi z) → Least p c hi (if s then c else z)
-  least-from c z true e h f = record { least = omega whole; most = h; there = rw e tt; first = λ d l u t. l }
+  least-from : (c z : ℤ) (s : Bool) → p c ≡ s → c ≤ℤ hi → (¬ T (p c) → LeastTrue p (sucℤ c) hi z) → LeastTrue p c hi (if s then c else z)
+  least-from c z true e h f = record { least = omega whole; most = h; there = rw e tt; none-before = λ d l u t. omega whole }
   least-from c z false e h f =
       let no-c : ¬ T (p c) = λ t. rw e at t in
       let r = f no-c in
@@ -34,24 +33,23 @@ module _ (p : ℤ → Bool) (hi : ℤ) where
         least = omega (whole, r .least, suc-law c);
         most = r .most;
         there = r .there;
-        first = λ d l u t. elim (le-or-lt d c) [
-          | inl k ↦ absurd (no-c (let q : d ≡ c = omega whole in rw q at t))
-          | inr k ↦ r .first d (omega (whole, suc-law c)) u t
+        none-before = λ d l u t. elim (le-or-lt d c) [
+          | inl k ↦ no-c (let q : d ≡ c = omega whole in rw q at t)
+          | inr k ↦ r .none-before d (omega (whole, suc-law c)) u t
         ];
       }
 
-  found : (n : ℕ) (c : ℤ) → T (p hi) → c +ℤ pos n ≡ hi → Least p c hi (leastTrue p hi (upFrom c (suc n)))
+  found : (n : ℕ) (c : ℤ) → T (p hi) → c +ℤ pos n ≡ hi → LeastTrue p c hi (leastTrue p hi (upFrom c (suc n)))
   unfolding leastTrue
   found zero c t e = least-from c hi (p c) refl (omega (whole, add-law c (pos 0))) (λ f. absurd (f (let q : hi ≡ c = omega (whole, add-law c (pos 0)) in rw q at t)))
   found (suc n) c t e =
       least-from c (leastTrue p hi (upFrom (sucℤ c) (suc n))) (p c) refl (omega (whole, add-law c (pos (suc n))))
       (λ f. found n (sucℤ c) t (omega (whole, add-law c (pos (suc n)), add-law (sucℤ c) (pos n), suc-law c)))
 
-  least-true : (lo : ℤ) → lo ≤ℤ hi → T (p hi) → Least p lo hi (leastTrue p hi (range lo hi))
+  least-true : (lo : ℤ) → lo ≤ℤ hi → T (p hi) → LeastTrue p lo hi (leastTrue p hi (range lo hi))
   least-true lo h t =
       let n = size (hi -ℤ lo) in
-      let e : size (sucℤ hi -ℤ lo) ≡ suc n = omega (whole, sub-law (sucℤ hi) lo, suc-law hi, sub-law hi lo, part-law (hi -ℤ lo), part-law (sucℤ hi -ℤ lo)) in
-      rw e (found n lo t (omega (whole, add-law lo (pos n), sub-law hi lo, part-law (hi -ℤ lo))))
+      rw (range-size lo hi h) (found n lo t (omega (whole, add-law lo (pos n), sub-law hi lo, part-law (hi -ℤ lo))))
 
 -- ---- what A(x) says
 record Rising (p : ℤ → Bool) (lo hi : ℤ) : Type 0 where
@@ -100,19 +98,26 @@ module _ (of : ℕ → Bounds) (v : Atom → Bool) (x : ℕ) where
       let e : d -ℤ pos 1 ≡ c +ℤ pos n = omega (whole, add-law c (pos (suc n)), add-law c (pos n), sub-law d (pos 1)) in
       r .step d (omega (whole, add-law c (pos (suc n)), sub-law lo (pos 1))) u (rw e (stays r c n l (omega (whole, add-law c (pos (suc n)), add-law c (pos n))) t))
 
+  pub axioms-least : of x .lo ≤ℤ of x .hi → Satisfied v (axiomsOf of x)
+      → LeastTrue (λ c. v (order x c)) (of x .lo) (of x .hi) (leastTrue (λ c. v (order x c)) (of x .hi) (range (of x .lo) (of x .hi)))
+  axioms-least h a = least-true p hi lo h (axioms-rise .0 a .last)
+
   axioms-tell : lo ≤ℤ hi → Satisfied v (axiomsOf of x) → Tells of v x (leastTrue p hi (range lo hi))
   axioms-tell h a = record { least = z .least; most = z .most; says = λ c l u. (to c l u, from c u) }
     where
       r : Rising p lo hi
       r = axioms-rise .0 a
 
-      z : Least p lo hi (leastTrue p hi (range lo hi))
-      z = least-true p hi lo h (r .last)
+      z : LeastTrue p lo hi (leastTrue p hi (range lo hi))
+      z = axioms-least h a
 
       to : (c : ℤ) → (lo -ℤ pos 1) ≤ℤ c → c ≤ℤ hi → T (p c) → leastTrue p hi (range lo hi) ≤ℤ c
-      to c l u t = elim (le-or-lt lo c) [
-        | inl k ↦ z .first c k u t
-        | inr k ↦ absurd (r .before (let e : c ≡ lo -ℤ pos 1 = omega (whole, sub-law lo (pos 1)) in rw e at t))
+      to c l u t = elim (le-or-lt (leastTrue p hi (range lo hi)) c) [
+        | inl k ↦ k
+        | inr k ↦ absurd (elim (le-or-lt lo c) [
+          | inl b ↦ z .none-before c b k t
+          | inr b ↦ r .before (let e : c ≡ lo -ℤ pos 1 = omega (whole, sub-law lo (pos 1)) in rw e at t)
+        ])
       ]
 
       from : (c : ℤ) → c ≤ℤ hi → leastTrue p hi (range lo hi) ≤ℤ c → T (p c)

@@ -7,20 +7,19 @@ use Prim.Native.Nat.{ℕ, _-_, _≤_, _<_}
 use native.Mathlib.Nat.{zero-add}
 use native.Mathlib.Omega.{arith}
 use lib.Dec.{T, eqb}
-use lib.ListN.{length, take, drop, length-map, take-append-drop}
+use lib.ListN.{length, getD, take, drop, length-map, take-append-drop}
 use lib.Seq.{length-take-le, getD-take}
 use lib.IntN.{ℤ, pos}
-use lib.Signed.{_≤ℤ_}
 use Rattle.definitions.specs.Tools.{countUp}
 use Rattle.definitions.specs.Board.{Board, boundsOf, variables}
 use Rattle.definitions.specs.Encoding.{Atom, bool, order, selector, selections, number, N}
 use Rattle.definitions.specs.Meaning.{Assignment, on, assigned, inBounds, compares, Solution, inModel, Model, valueOf, valuesOf, Plain, truth, plainModel}
-use Rattle.laws.specs.Lists.{append-all, all-at, length-countUp, all-countUp, countUp-all}
+use Rattle.laws.specs.Lists.{append-all, length-countUp, all-countUp, countUp-all, counted-at, counted}
 use Rattle.laws.specs.Decide.{is-within}
 use Rattle.laws.specs.Layout.{Has}
-use Rattle.laws.specs.Admitted.{Admitted, GoodBounds}
-use Rattle.demands.specs.Order.{proposition-2, tells-least}
-use Rattle.demands.specs.Entries.{counted, counted-at}
+use Rattle.laws.specs.Admitted.{Admitted}
+use Rattle.laws.specs.Terms.{good-bounds}
+use Rattle.demands.specs.Order.{LeastTrue, axioms-least, proposition-2, tells-least}
 use Rattle.demands.specs.Bytes.{bit, truth-bytes, bytes-length, bytes-small, bytes-bools, bytes-read, read-bytes, bytes-alike}
 use Rattle.demands.specs.Clauses.{TellsAll, axioms-in, solves, satisfied}
 
@@ -34,10 +33,6 @@ module _ (B : Board) (good : Admitted B) where
   abbrev ints : ℕ
   ints = length (B .bounds)
 
-  ordered : (x : ℕ) → x < ints → boundsOf B x .lo ≤ℤ boundsOf B x .hi
-  unfolding boundsOf
-  ordered x h = all-at GoodBounds _ (B .bounds) (good .bounds) x h .ordered
-
   -- ---- a model
   module _ (model : List ℕ) (m : Model B model) where
     abbrev decoded : Assignment
@@ -47,6 +42,11 @@ module _ (B : Board) (good : Admitted B) where
     unfolding assigned valuesOf variables
     value-is x h = counted-at (valueOf B model) (pos 0) 0 ints x h ∙ ap (valueOf B model) (zero-add x)
 
+    pub value-least : (x : ℕ) → x < length (B .bounds)
+        → LeastTrue (λ c. inModel B model (order x c)) (boundsOf B x .lo) (boundsOf B x .hi) (getD (valuesOf B model) x (pos 0))
+    unfolding Model valueOf assigned
+    value-least x h = rw (value-is x h) (axioms-least (boundsOf B) (inModel B model) x (good-bounds B (good .bounds) x h .ordered) (axioms-in B (inModel B model) (m .2) x h))
+
     bools-fit : B .bools ≤ length model
     unfolding Model N
     bools-fit = omega (arith, m .0)
@@ -54,7 +54,7 @@ module _ (B : Board) (good : Admitted B) where
     model-tells : TellsAll B (inModel B model) decoded
     unfolding Model valueOf inModel number assigned on
     model-tells = record {
-      ints = λ x h. rw (value-is x h) (proposition-2 (boundsOf B) (inModel B model) x (ordered x h) .0 (axioms-in B (inModel B model) (m .2) x h));
+      ints = λ x h. rw (value-is x h) (proposition-2 (boundsOf B) (inModel B model) x (good-bounds B (good .bounds) x h .ordered) .0 (axioms-in B (inModel B model) (m .2) x h));
       bools = λ i l u. ap (λ n. eqb n 1) (sym (getD-take (B .bools) model (i - 1) 0 (omega arith)));
     }
 

@@ -13,13 +13,13 @@ use Rattle.definitions.specs.Reading.{big}
 use Rattle.definitions.specs.Encoding.{K}
 use Rattle.definitions.specs.Operations.{readBoard, accepted}
 use Rattle.laws.specs.Whole.{whole, part-law}
-use Rattle.laws.specs.Lists.{all-append, all-flatten, all-map, all-impl}
+use Rattle.laws.specs.Lists.{all-append, all-flatten, all-read, all-map, all-impl}
 use Rattle.laws.specs.Admitted.{GoodBounds, GoodTerm, GoodComparison, GoodLiteral, GoodClause, Admitted}
 use Rattle.laws.specs.Spelling.{Field, several, natural, integer, Stand, more, boundsFields, termFields, comparisonFields, literalFields, clauseFields, bodyFields}
 use Rattle.laws.specs.Grammar.{spelt}
 use Rattle.laws.specs.Reads.{reads-body}
 use Rattle.laws.specs.Reread.{body-read, wrapped, unwrapped, accepted-parts}
-use Rattle.demands.specs.FieldBytes.{bytes, length-bytes, bytes-at, rest-bytes, Fits, bytes-stand}
+use Rattle.demands.specs.FieldBytes.{bytes, length-bytes, rest-bytes, Fits, bytes-stand}
 
 -- ---- the bytes of a board, said apart from the reader
 -- version, stated length, body
@@ -88,7 +88,7 @@ module _ (s : List ℕ) (B : Board) where
   is-record a e =
       let w = wrapped s B e in
       let d = body-read s B e in
-      let b = rest-bytes s (bytes-at s a) in
+      let b = rest-bytes s (all-read (λ b. b < 256) 0 (omega arith) s a) in
       let n : big s 1 4 ≡ length (bytes (bodyFields B)) = w .stated ∙ sym (length-drop 5 s) ∙ ap length (b 5 (bodyFields B) (d .1)) in
       let p : Stand s 0 (recordFields B) (length s) = more {at = 0} {f = natural 1 1} (omega (arith, w .head)) (version-at s ∙ w .version) (more (w .head) n (d .1)) in
       record { admitted = d .0; short = w .short; spelled = b 0 (recordFields B) p }
@@ -115,8 +115,13 @@ module _ (s : List ℕ) (B : Board) where
 pub read-exactly : (s : List ℕ) (B : Board) → All (λ b. b < 256) s → (readBoard s ≡ done B) ↔ RecordOf B s
 read-exactly s B a = (is-record s B a, record-read s B)
 
-pub accepted-exactly : (s : List ℕ) (B : Board) → All (λ b. b < 256) s → (accepted s ≡ done B) ↔ (RecordOf B s × (K B ≤ 2000000000))
+-- 01 admits s, as the record of B
+pub record Admits (s : List ℕ) (B : Board) : Type 0 where
+  pub recorded : RecordOf B s
+  pub ceiling : K B ≤ 2000000000
+
+pub accepted-exactly : (s : List ℕ) (B : Board) → All (λ b. b < 256) s → (accepted s ≡ done B) ↔ Admits s B
 accepted-exactly s B a =
     let r = read-exactly s B a in
     let p = accepted-parts s B in
-    ((λ e. let h = p .0 e in (r .0 (h .0), h .1)), (λ h. p .1 (r .1 (h .0), h .1)))
+    ((λ e. let h = p .0 e in record { recorded = r .0 (h .0); ceiling = h .1 }), (λ h. p .1 (r .1 (h .recorded), h .ceiling)))

@@ -3,30 +3,21 @@ use mathlib.Core.Path.{_≡_, refl, sym}
 use mathlib.Core.Logic.{_↔_, _≢_, inl, inr}
 use mathlib.Core.Bool.{Bool, true, false}
 use mathlib.Core.List.{List, [], _∷_, map, zipWith, map-map}
-use Prim.Native.Nat.{ℕ, suc}
-use native.Mathlib.Nat.{mul-le-mul-left}
+use Prim.Native.Nat.{ℕ}
 use lib.Dec.{T, T-not, not-T}
-use lib.IntN.{ℤ, pos, negsuc, _-ℤ_, _*ℤ_}
+use lib.IntN.{ℤ, pos, _-ℤ_, _*ℤ_}
 use lib.Signed.{leZ, ltZ, _≤ℤ_, _<ℤ_}
 use Rattle.definitions.specs.Tools.{All, Any, floor, ceil, sumZ}
 use Rattle.definitions.specs.Board.{Bounds, Term, Comparison}
 use Rattle.definitions.specs.Encoding.{Atom, SatLiteral, SatClause, order, minus, termBounds, least, tuplesOf, sharp, clausesUnder}
 use Rattle.definitions.specs.Meaning.{Assignment, satisfies, compares}
-use Rattle.laws.specs.Whole.{whole, mul-law, mul-mono, le-in, ne-in, part-law}
+use Rattle.laws.specs.Whole.{whole, mul-rises, mul-falls, ne-in, part-law}
 use Rattle.laws.specs.Division.{below-floor, not-below-ceil, floor-within, ceil-within}
 use Rattle.laws.specs.Lists.{all-every, all-impl, all-map, map-all}
 use Rattle.demands.specs.Truth.{Holds, Satisfied, Tells}
 use Rattle.demands.specs.TupleRule.{Bounded, tuple-rule, low-sum}
 
 -- ---- (ax ≤ b)^#: the term lies within its bounds, and its literal says ax ≤ b
-falls : (a x y : ℤ) → a <ℤ pos 0 → x ≤ℤ y → (a *ℤ y) ≤ℤ (a *ℤ x)
-falls (pos n) x y s h = absurd (omega whole)
-falls (negsuc n) x y s h = omega (whole, mul-law (negsuc n) x, mul-law (negsuc n) y, mul-le-mul-left (suc n) (le-in x y h))
-
-rises : (a x y : ℤ) → pos 0 <ℤ a → x ≤ℤ y → (a *ℤ x) ≤ℤ (a *ℤ y)
-rises (pos n) x y s h = mul-mono n x y h
-rises (negsuc n) x y s h = absurd (omega whole)
-
 module _ (of : ℕ → Bounds) (v : Atom → Bool) (a : Assignment) where
   -- a coefficient that is not 0, of a variable whose value v tells
   abbrev pub KnownTerm : Term → Type 0
@@ -58,8 +49,8 @@ module _ (of : ℕ → Bounds) (v : Atom → Bool) (a : Assignment) where
       go true e =
           let p : pos 0 <ℤ n = omega whole in
           record {
-            least = rw e (rises n _ _ p (told .least));
-            most = rw e (rises n _ _ p (told .most));
+            least = rw e (mul-rises n _ _ p (told .least));
+            most = rw e (mul-rises n _ _ p (told .most));
             says = λ b l u.
                 let c = floor-within n (x .lo) (x .hi) b p (rw e at l) (rw e at u) in
                 let s = told .says (floor b n) (c .0) (c .1) in
@@ -69,8 +60,8 @@ module _ (of : ℕ → Bounds) (v : Atom → Bool) (a : Assignment) where
       go false e =
           let p : n <ℤ pos 0 = omega (whole, ne-in n (pos 0) (h .0), part-law n) in
           record {
-            least = rw e (falls n _ _ p (told .most));
-            most = rw e (falls n _ _ p (told .least));
+            least = rw e (mul-falls n _ _ (omega whole) (told .most));
+            most = rw e (mul-falls n _ _ (omega whole) (told .least));
             says = λ b l u.
                 let c = ceil-within n (x .lo) (x .hi) b p (rw e at l) (rw e at u) in
                 let s = told .says (ceil b n -ℤ pos 1) (c .0) (c .1) in

@@ -32,28 +32,6 @@ shr-from b x m h k = ⊎-elim (λ l. l) (λ l. absurd (over l)) (le-or-lt x (shr
         let d = mul-add (pos m) (shrZ b m) (pos 1) in
         omega (whole, add-law (pos m *ℤ shrZ b m) (pos m *ℤ pos 1), add-law (pos m *ℤ shrZ b m) (pos m))
 
--- ---- the laws of the two, at either sign
--- a > 0: a r ≤ b < a (r + 1)
-pub floor-pos : (b a : ℤ) → pos 0 <ℤ a → ((a *ℤ floor b a) ≤ℤ b) × (b <ℤ (a *ℤ (floor b a +ℤ pos 1)))
-unfolding floor
-floor-pos b (pos m) h =
-    let l = shr-law b m (omega whole) in
-    let d = mul-add (pos m) (shrZ b m) (pos 1) in
-    (l .0, omega (whole, add-law (pos m *ℤ shrZ b m) (pos m *ℤ pos 1), add-law (pos m *ℤ shrZ b m) (pos m)))
-floor-pos b (negsuc m) h = absurd (h .lt)
-
--- a < 0: b ≤ a r and a (r + 1) < b
-pub floor-neg : (b a : ℤ) → a <ℤ pos 0 → (b ≤ℤ (a *ℤ floor b a)) × ((a *ℤ (floor b a +ℤ pos 1)) <ℤ b)
-unfolding floor
-floor-neg b (pos m) h = absurd (omega whole)
-floor-neg b (negsuc m) h =
-    let r = shrZ (negℤ b) (suc m) in
-    let l = shr-law (negℤ b) (suc m) (omega arith) in
-    let d = mul-add (negsuc m) r (pos 1) in (
-      omega (whole, neg-law b, mul-law (negsuc m) r, mul-law (pos (suc m)) r, l .0),
-      omega (whole, neg-law b, mul-law (negsuc m) r, mul-law (pos (suc m)) r, add-law (pos (suc m) *ℤ r) (pos (suc m)), add-law (negsuc m *ℤ r) (negsuc m *ℤ pos 1), mul-law (negsuc m) (pos 1), l .1),
-    )
-
 -- ---- what the translation # needs
 -- a > 0: a x ≤ b exactly where x ≤ floor(b / a)
 pub below-floor : (a b x : ℤ) → pos 0 <ℤ a → ((a *ℤ x) ≤ℤ b) ↔ (x ≤ℤ floor b a)

@@ -11,6 +11,7 @@ pub mod Ranges
 pub mod Layout
 pub mod Outcomes
 pub mod Decide
+pub mod Tests
 pub mod Search
 pub mod Readings
 pub mod Ahead

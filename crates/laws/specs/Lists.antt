@@ -1,12 +1,13 @@
--- Lists: every and some entry, lists joined, sums, counting up. Assumes nothing.
+-- Lists: every and some entry, lists joined, sums, counting up, entry by entry. Assumes nothing.
 use mathlib.Core.Path.{_≡_, refl, sym, ap, ap₂, _∙_}
-use mathlib.Core.Logic.{_⊎_, inl, inr}
-use mathlib.Core.List.{List, [], _∷_, _++_, map, flatten, append-assoc, append-nil, map-append}
+use mathlib.Core.Logic.{inl, inr}
+use mathlib.Core.List.{List, [], _∷_, _++_, map, flatten, append-assoc, map-append}
 use Prim.Native.Nat.{ℕ, zero, suc, _+_, _*_, _≤_, _<_}
 use native.Mathlib.Nat.{zero-add, add-zero}
 use native.Mathlib.Decide.{decLe}
 use native.Mathlib.Omega.{arith}
-use lib.ListN.{length, getD, take, drop, length-append, length-map}
+use lib.ListN.{length, getD, take, length-append, length-map}
+use lib.Seq.{ext-getD}
 use Rattle.definitions.specs.Tools.{All, Any, countUp, sum}
 
 -- ---- every entry, some entry
@@ -39,6 +40,12 @@ module _ {A : Type 0} (P : A → Type 0) where
   all-at d (x ∷ s) a zero h = a .0
   all-at d (x ∷ s) a (suc i) h = all-at d s (a .1) i (omega arith)
 
+  -- also past the end
+  pub all-read : (d : A) → P d → (s : List A) → All P s → (i : ℕ) → P (getD s i d)
+  all-read d h [] a i = h
+  all-read d h (x ∷ s) a zero = a .0
+  all-read d h (x ∷ s) a (suc i) = all-read d h s (a .1) i
+
   pub at-all : (d : A) (s : List A) → ((i : ℕ) → i < length s → P (getD s i d)) → All P s
   at-all d [] f = tt
   at-all d (x ∷ s) f = (f 0 (omega arith), at-all d s (λ i h. f (suc i) (omega arith)))
@@ -47,10 +54,6 @@ module _ {A : Type 0} (P Q : A → Type 0) where
   pub all-impl : ((x : A) → P x → Q x) → (s : List A) → All P s → All Q s
   all-impl f [] a = tt
   all-impl f (x ∷ s) a = (f x (a .0), all-impl f s (a .1))
-
-  pub any-impl : ((x : A) → P x → Q x) → (s : List A) → Any P s → Any Q s
-  any-impl f (x ∷ s) (inl h) = inl (f x h)
-  any-impl f (x ∷ s) (inr h) = inr (any-impl f s h)
 
   pub all-both : (R : A → Type 0) → ((x : A) → P x → Q x → R x) → (s : List A) → All P s → All Q s → All R s
   all-both R f [] a b = tt
@@ -177,11 +180,23 @@ countUp-all P i (suc n) a j l u =
       | no h ↦ rw (← same i j l h) (a .0)
     ]
 
-map-later : {A : Type 0} (f : ℕ → A) (i n : ℕ) → map f (countUp (suc i) n) ≡ map (λ j. f (suc j)) (countUp i n)
-map-later f i zero = refl
-map-later f i (suc n) = ap (λ l. f (suc i) ∷ l) (map-later f (suc i) n)
+-- ---- entry by entry
+-- what is made of the numbers from i on
+pub counted-at : {A : Type 0} (f : ℕ → A) (d : A) (i n j : ℕ) → j < n → getD (map f (countUp i n)) j d ≡ f (i + j)
+counted-at f d i zero j h = absurd (omega arith)
+counted-at f d i (suc n) zero h = rw add-zero
+counted-at f d i (suc n) (suc j) h = let e : suc i + j ≡ i + suc j = omega arith in counted-at f d (suc i) n j (omega arith) ∙ ap f e
 
--- the entries, place by place
+pub counted : {A : Type 0} (f : ℕ → A) (d : A) (l : List A) (i : ℕ) → ((j : ℕ) → j < length l → f (i + j) ≡ getD l j d) → map f (countUp i (length l)) ≡ l
+counted f d l i e =
+    let n = length l in
+    let same : length (map f (countUp i n)) ≡ n = length-map (countUp i n) f ∙ length-countUp i n in
+    ext-getD d (map f (countUp i n)) l same (λ j h. counted-at f d i n j (omega arith) ∙ e j (omega arith))
+
 pub map-at : {A : Type 0} (d : A) (l : List A) → map (λ i. getD l i d) (countUp 0 (length l)) ≡ l
-map-at d [] = refl
-map-at d (x ∷ l) = ap (λ r. x ∷ r) (map-later (λ i. getD (x ∷ l) i d) 0 (length l) ∙ map-at d l)
+map-at d l = counted (λ i. getD l i d) d l 0 (λ j h. rw zero-add)
+
+pub map-read : {A B : Type 0} (f : A → B) (d : A) (e : B) (l : List A) (i : ℕ) → i < length l → getD (map f l) i e ≡ f (getD l i d)
+map-read f d e [] i h = absurd (omega arith)
+map-read f d e (x ∷ l) zero h = refl
+map-read f d e (x ∷ l) (suc i) h = map-read f d e l i (omega arith)

@@ -2,13 +2,13 @@
 use mathlib.Core.Path.{_≡_, refl, sym, ap, ap₂, _∙_}
 use mathlib.Core.Bool.{Bool, true, false, not}
 use mathlib.Core.List.{List, [], _∷_, _++_, map, flatten, zipWith, append-nil, append-assoc, map-append, map-map}
-use Prim.Native.Nat.{ℕ, zero, suc, _+_}
+use Prim.Native.Nat.{ℕ, suc, _+_}
 use native.Mathlib.Nat.{add-zero}
 use native.Mathlib.Omega.{arith}
 use lib.ListN.{length}
 use Rattle.definitions.specs.Tools.{countUp, sum}
 use Rattle.definitions.specs.Board.{Bounds, Comparison, Literal, Clause, isTrue, isFalse, atMost}
-use Rattle.definitions.specs.Encoding.{Atom, SatClause, bool, selector, plus, minus, clausesUnder, comparisons, selected, clausesOf, rulesFrom, places}
+use Rattle.definitions.specs.Encoding.{SatClause, bool, selector, plus, minus, clausesUnder, comparisons, selected, clausesOf, rulesFrom, places}
 use Rattle.definitions.specs.Encoding as encoding
 use Rattle.laws.specs.Lists.{flatten-append, length-flatten, sum-flatten}
 

@@ -4,7 +4,7 @@ use mathlib.Core.Logic.{_↔_}
 use mathlib.Core.Bool.{Bool, true, false}
 use mathlib.Core.List.{List, [], _∷_, map, flatten}
 use Prim.Native.Nat.{ℕ, zero, suc, _+_, _*_, _-_, _≤_, _<_}
-use native.Mathlib.Nat.{mul-suc}
+use native.Mathlib.Nat.{zero-add, mul-suc}
 use native.Mathlib.Omega.{arith}
 use lib.ListN.{length, getD, drop, length-drop}
 use lib.Dec.{T, leb, eqb, leb→le, eqb→eq}
@@ -17,6 +17,7 @@ use Rattle.definitions.specs.Result as result
 use Rattle.definitions.specs.Reading.{Got, Context, times, big, twos, readComparison, readClause, readBody}
 use Rattle.definitions.specs.Encoding.{K}
 use Rattle.definitions.specs.Operations.{readBoard, accepted}
+use Rattle.laws.specs.Lists.{counted-at}
 use Rattle.laws.specs.Admitted.{Admitted, GoodComparison}
 use Rattle.laws.specs.Readings.{same, never, from-start}
 use Rattle.laws.specs.Spelling.{Field, several, integer, Stand, none, more, append-stand, stand-onward, boundsFields, termFields, comparisonFields, bodyFields}
@@ -95,9 +96,7 @@ module _ {A : Type 0} (f : ℕ → A) (k : ℕ) where
       rw (e, shift at 0 n)
 
   pub row-at : (d : A) (at n i : ℕ) → i < n → getD (row at n) i d ≡ f (at + k * i)
-  row-at d at zero i h = absurd (omega arith)
-  row-at d at (suc n) zero h = refl
-  row-at d at (suc n) (suc i) h = rw (row-cons, further at i) (row-at d (at + k) n i (omega arith))
+  row-at d at n i h = rw zero-add at (counted-at (λ i. f (at + k * i)) d 0 n i h)
 
   module _ (w : A → List Field) (s : List ℕ) (one : (at end : ℕ) (a : A) → Stand s at (w a) end → (a ≡ f at) × (end ≡ at + k)) where
     pub stand-row : (at end : ℕ) (l : List A) → Stand s at (several w l) end → (l ≡ row at (length l)) × (end ≡ at + k * length l)
@@ -199,6 +198,9 @@ board-stand s B end e g (more h v (more h′ m (more h″ c p))) =
 
 pub reading-admitted : (s : List ℕ) (B : Board) → readBoard s ≡ done B → Admitted B
 reading-admitted s B e = body-read s B e .0
+
+pub accepted-admitted : (s : List ℕ) (B : Board) → accepted s ≡ done B → Admitted B
+accepted-admitted s B e = reading-admitted s B (accepted-parts s B .0 e .0)
 
 pub board-read : (s : List ℕ) (B : Board) → readBoard s ≡ done B → BoardRead s B
 board-read s B e = board-stand s B (length s) refl (body-read s B e .0) (body-read s B e .1)
