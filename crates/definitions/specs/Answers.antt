@@ -23,10 +23,13 @@ said (Refusal.ByteWrong index) = (12, index)
 said (Refusal.ClauseFails number) = (13, number)
 said (Refusal.ValueOutside index) = (14, index)
 
+abbrev pub refusal : {A : Type 0} → Refusal → Result A
+refusal r = refused (said r .0) (said r .1)
+
 abbrev pub saidSizing : Sizing → Result Sizes
 saidSizing (Sizing.Sizes n m k) = done (record { n = n; m = m; k = k })
-saidSizing (Sizing.Unsized r) = refused (said r .0) (said r .1)
+saidSizing (Sizing.Unsized r) = refusal r
 
 abbrev pub saidVerdict : Verdict → Result (Unit {0})
 saidVerdict Verdict.Accepted = done tt
-saidVerdict (Verdict.Refused r) = refused (said r .0) (said r .1)
+saidVerdict (Verdict.Refused r) = refusal r

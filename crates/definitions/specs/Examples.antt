@@ -1,14 +1,15 @@
--- The starred examples of 01, in one table, and one statement: what the definitions answer is what 01 prints.
+-- The starred examples of 01, in one table, and one statement: what the definitions answer is what 01 says, or what follows
+-- from it.
 use Prim.Native.Nat.{ℕ, zero, suc, _+_, _*_, _-_}
 use mathlib.Core.Path.{_≡_, refl}
 use mathlib.Core.Bool.{Bool, true, false, not, _&&_}
-use mathlib.Core.List.{List, [], _∷_, _++_, map}
+use mathlib.Core.List.{List, [], _∷_, map}
 use Prim.Native.String.{String}
-use lib.ListN.{length}
+use lib.ListN.{length, replicate}
 use lib.Dec.{ltb, eqb}
-use lib.IntN.{ℤ, pos, negsuc}
+use lib.IntN.{ℤ, pos}
 use Rattle.definitions.specs.Tools.{if_then_else_, All, flatten, neg, eqZ, range}
-use Rattle.definitions.specs.Board.{Board, Bounds, Term, Comparison, boundsOf}
+use Rattle.definitions.specs.Board.{Board, Bounds, Term, boundsOf}
 use Rattle.definitions.specs.Result.{Result, done, refused}
 use Rattle.definitions.specs.Encoding.{Atom, order, selector, SatLiteral, plus, minus, SatClause, sharp, tuplesOf, comparisons, rules, atoms, number, literalNumber, N}
 use Rattle.definitions.specs.Meaning.{isSolution, isModel, isPlain}
@@ -33,7 +34,7 @@ module _ {A : Type 0} where
 abbrev pub hex : String → List ℕ
 hex t = pairs (keep (λ c. not (eqb c 32)) (ascii t))
 
--- ---- everything that can be counted
+-- ---- the models and the solutions of a small board: all candidates, and those that pass the test
 abbrev bytes : ℕ → List (List ℕ)
 bytes zero = [] ∷ []
 bytes (suc n) = flatten (map (λ r. (0 ∷ r) ∷ (1 ∷ r) ∷ []) (bytes n))
@@ -100,9 +101,9 @@ abbrev pub ask : Question → Answer
 ask (howLong s) = long (length (hex s))
 ask (size s) = sized (Size (hex s))
 ask (compile s list) = compiled (Compile (hex s) list)
-ask (decode s model values bools) = decoded (Decode (hex s) model values bools)
-ask (judge s values bools) = judged (Judge (hex s) values bools)
-ask (image s values bools model) = imaged (Image (hex s) values bools model)
+ask (decode s model values booleans) = decoded (Decode (hex s) model values booleans)
+ask (judge s values booleans) = judged (Judge (hex s) values booleans)
+ask (image s values booleans model) = imaged (Image (hex s) values booleans model)
 ask (print s) = text (printed (hex s))
 ask (numbers s) = onBoard (accepted (hex s)) (λ B. numbered (atoms B) (map (number B) (atoms B)))
 ask (tuples s) =
@@ -168,7 +169,9 @@ NMK n m k = done (record { n = n; m = m; k = k })
 abbrev accept : Result (Unit {0})
 accept = done tt
 
--- a line of the table: 01's number of the case, what is asked of the definitions, what 01 prints
+-- a line of the table: 01's number of the case, what is asked of the definitions, what 01 says of it. Where 01 does not say it
+-- in so many words it follows from 01's rules: in 4 decode, judge and three of the clauses, in 5 compile, print and the clauses
+-- at 0, in 7 compile, in 13 judge and image
 pub record Row : Type 0 where
   pub number : ℕ
   pub question : Question
@@ -197,9 +200,15 @@ table =
     (case 4 ∶ rulesOf four ⇒ clauses
     ((x≤ (neg 1) ∷ y> (pos 1) ∷ []) ∷ (x≤ (pos 0) ∷ y> (pos 2) ∷ []) ∷ (x≤ (pos 1) ∷ y> (pos 3) ∷ []) ∷
     (x≤ (pos 2) ∷ y> (pos 4) ∷ []) ∷ [])) ∷
+    (case 4 ∶ decode four (0 ∷ 0 ∷ 0 ∷ 0 ∷ 1 ∷ 1 ∷ 0 ∷ 0 ∷ 0 ∷ 0 ∷ 0 ∷ 1 ∷ []) (pos 7 ∷ pos 7 ∷ []) [] ⇒
+    decoded (refused 13 17 leaves (pos 7 ∷ pos 7 ∷ [], []))) ∷
     (case 4 ∶ judge four (pos 3 ∷ pos 4 ∷ []) [] ⇒ judged (refused 13 0)) ∷
     (case 4 ∶ judge four (pos 2 ∷ pos 4 ∷ []) [] ⇒ judged accept) ∷
     (case 5 ∶ rulesOf five ⇒ clauses ([] ∷ [])) ∷
+    (case 5 ∶ compile five (replicate 34 (pos 7)) ⇒ compiled (NMK 10 13 33 leaves
+    (neg 1 ∷ pos 0 ∷ pos 5 ∷ pos 0 ∷ neg 1 ∷ pos 2 ∷ pos 0 ∷ neg 2 ∷ pos 3 ∷ pos 0 ∷ neg 3 ∷ pos 4 ∷ pos 0 ∷ neg 4 ∷ pos 5 ∷ pos 0 ∷
+    neg 6 ∷ pos 0 ∷ pos 10 ∷ pos 0 ∷ neg 6 ∷ pos 7 ∷ pos 0 ∷ neg 7 ∷ pos 8 ∷ pos 0 ∷ neg 8 ∷ pos 9 ∷ pos 0 ∷ neg 9 ∷ pos 10 ∷ pos 0 ∷
+    pos 0 ∷ pos 7 ∷ []))) ∷
     (case 5 ∶ print five ⇒ text (ascii "p cnf 10 13\n-1 0\n5 0\n-1 2 0\n-2 3 0\n-3 4 0\n-4 5 0\n-6 0\n10 0\n-6 7 0\n-7 8 0\n-8 9 0\n-9 10 0\n0\n")) ∷
     (case 5 ∶ rulesOf five₀ ⇒ clauses ((x≤ (neg 1) ∷ y≤ (pos 0) ∷ []) ∷ (x≤ (pos 0) ∷ y≤ (neg 1) ∷ []) ∷ [])) ∷
     (case 6 ∶ howManyRules six ⇒ written-different 6 4) ∷
@@ -231,4 +240,4 @@ Holds r = ask (r .question) ≡ r .document
 
 pub the-examples-hold : All Holds table
 unfolding all-open
-the-examples-hold = (refl, (refl, (refl, (refl, (refl, (refl, (refl, (refl, (refl, (refl, (refl, (refl, (refl, (refl, (refl, (refl, (refl, (refl, (refl, (refl, (refl, (refl, (refl, (refl, (refl, (refl, (refl, (refl, (refl, (refl, tt))))))))))))))))))))))))))))))
+the-examples-hold = (refl, (refl, (refl, (refl, (refl, (refl, (refl, (refl, (refl, (refl, (refl, (refl, (refl, (refl, (refl, (refl, (refl, (refl, (refl, (refl, (refl, (refl, (refl, (refl, (refl, (refl, (refl, (refl, (refl, (refl, (refl, (refl, tt))))))))))))))))))))))))))))))))
