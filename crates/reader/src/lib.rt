@@ -4,6 +4,7 @@ use definitions::Refusal;
 pub mod checks; // checks.rt: fields whose value has a range
 pub mod comparisons; // comparisons.rt: terms and constant
 pub mod clauses; // clauses.rt: literals and clauses
+pub mod table; // table.rt: the variables' bounds
 
 // What the record has said before.
 pub struct Context {
