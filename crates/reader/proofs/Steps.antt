@@ -1,19 +1,13 @@
 -- Results one after another: what was read where the last of them is done. Assumes nothing.
-use mathlib.Core.Path.{_≡_, refl, sym, ap, _∙_}
+use mathlib.Core.Path.{_≡_, refl, sym, _∙_}
 use mathlib.Core.Bool.{Bool, true, false}
 use Prim.Native.Nat.{ℕ}
-use native.Mathlib.Omega.{arith}
 use Rattle.definitions.specs.Tools.{if_then_else_}
 use Rattle.definitions.specs.Result.{Result, done, refused}
 use Rattle.definitions.specs.Result as result
 use Rattle.definitions.specs.Reading.{Got}
+use Rattle.laws.specs.Readings.{never}
 use Rattle.reader.specs.Parts.{past}
-
-never : {A B : Type 0} {a : A} {n d : ℕ} → refused n d ≡ done a → B
-never e = absurd (let z : _≡_ {A = ℕ} 0 1 = cc in omega arith)
-
-pub same : {A : Type 0} {a b : A} → done a ≡ done b → a ≡ b
-same e = cc
 
 -- the first of two was done, and the second
 pub record Passed {A B : Type 0} (m : Result A) (f : A → Result B) (b : B) : Type 0 where

@@ -15,12 +15,13 @@ use Rattle.definitions.specs.Result.{Result, done, refused}
 use Rattle.definitions.specs.Result as result
 use Rattle.definitions.specs.Reading.{Got, Context, asked, big, twos, unsigned, signed, readTerms}
 use Rattle.definitions.specs.declared.Refusal.{Refusal}
+use Rattle.laws.specs.Readings.{same}
 use Rattle.fields.proofs.Laws.{unsigned-got, signed-got}
 use Rattle.reader.specs.Parts.{past, numberFrom, coefficient, variable, readTerm}
 use Rattle.laws.specs.Reread.{termsAt}
 use Rattle.reader.specs.Plain.{termAt, seenAt}
 use Rattle.reader.proofs.Fields.{number-got}
-use Rattle.reader.proofs.Steps.{asked-got, same, passed, bind-bind, past-done, past-refused}
+use Rattle.reader.proofs.Steps.{asked-got, passed, bind-bind, past-done, past-refused}
 
 -- ---- the variables seen before
 module _ (s : List ℕ) (first x : ℕ) where

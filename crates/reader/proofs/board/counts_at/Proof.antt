@@ -1,0 +1,73 @@
+-- One count after another.
+use borrow.Author.Needs.{needs}
+use Rattle.definitions.specs.Reading.{count}
+use Rattle.fields.proofs.Laws.{told}
+use Rattle.reader.specs.Said.{saidNumber}
+use Rattle.reader.specs.Parts.{numberFrom, readCounts}
+use Rattle.reader.proofs.board.counts_at.Statement.{statement}
+use Rattle.reader.proofs.board.counts_at.Tie as tie
+
+number-at-requires : tie.Need-number-at-requires
+number-at-requires c κs = search needs
+
+enum-known-ints : tie.Need-enum-known-ints
+enum-known-ints c = search needs
+
+number-at-requires-2 : tie.Need-number-at-requires-2
+number-at-requires-2 c κs = search needs
+
+enum-known-bools : tie.Need-enum-known-bools
+enum-known-bools c = search needs
+
+number-at-requires-3 : tie.Need-number-at-requires-3
+number-at-requires-3 c κs = search needs
+
+enum-known-clauses : tie.Need-enum-known-clauses
+enum-known-clauses c = search needs
+
+enum-known-r : tie.Need-enum-known-r
+enum-known-r c = search needs
+
+enum-known-r-2 : tie.Need-enum-known-r-2
+enum-known-r-2 c = search needs
+
+enum-known-r-3 : tie.Need-enum-known-r-3
+enum-known-r-3 c = search needs
+
+returns : tie.Need-returns
+unfolding count numberFrom readCounts
+returns c =
+    rw (told saidNumber (c .before .before .before .before .before .before .before .before .before .before .before .number-at .ensures) (c .before .before .before .before .before .before .before .before .before .ints .given .1), told saidNumber (c .before .before .before .before .before .before .before .number-at2 .ensures) (c .before .before .before .before .before .bools .given .1), told saidNumber (c .before .before .before .number-at3 .ensures) (c .before .clauses .given .1))
+
+returns-2 : tie.Need-returns-2
+unfolding count numberFrom readCounts
+returns-2 c =
+    rw (told saidNumber (c .before .before .before .before .before .before .before .before .before .before .before .number-at .ensures) (c .before .before .before .before .before .before .before .before .before .ints .given .1), told saidNumber (c .before .before .before .before .before .before .before .number-at2 .ensures) (c .before .before .before .before .before .bools .given .1), told saidNumber (c .before .before .before .number-at3 .ensures) (c .before .r .given .1))
+
+returns-3 : tie.Need-returns-3
+unfolding count numberFrom readCounts
+returns-3 c =
+    rw (told saidNumber (c .before .before .before .before .before .before .before .number-at .ensures) (c .before .before .before .before .before .ints .given .1), told saidNumber (c .before .before .before .number-at2 .ensures) (c .before .r2 .given .1))
+
+returns-4 : tie.Need-returns-4
+unfolding count numberFrom readCounts
+returns-4 c =
+    rw (told saidNumber (c .before .before .before .number-at .ensures) (c .before .r3 .given .1))
+
+pub counts-at-spec : {M : Type 1} → statement M
+counts-at-spec =
+    tie.close
+    (tie.spec
+    number-at-requires
+    enum-known-ints
+    number-at-requires-2
+    enum-known-bools
+    number-at-requires-3
+    enum-known-clauses
+    enum-known-r
+    enum-known-r-2
+    enum-known-r-3
+    returns
+    returns-2
+    returns-3
+    returns-4)
