@@ -4,5 +4,3 @@ pub mod Fields
 pub mod Terms
 pub mod Literals
 pub mod Loops
-pub mod Moved
-pub mod Opened

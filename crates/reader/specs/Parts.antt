@@ -1,12 +1,10 @@
 -- The definitions' readers in the parts that the code has: fields with a range, and a term. Laws.antt puts them together again.
-use Rattle.definitions.specs.Tools.{ℕ, _-_, ℤ, pos, not, _&&_, List, length, getD, leb, ltb, eqb, any, neg, eqZ, within, if_then_else_}
+use Rattle.definitions.specs.Tools.{ℕ, ℤ, pos, not, _&&_, List, leb, ltb, eqb, any, neg, eqZ, within, if_then_else_}
 use Rattle.definitions.specs.Board.{Term}
-use Rattle.definitions.specs.Result.{Result, _>>_, need, done, refused}
+use Rattle.definitions.specs.Result.{Result, done, refused}
 use Rattle.definitions.specs.Result as result
-use Rattle.definitions.specs.Reading.{Got, Reader, Context, asked, _>>=_, give, times, big, unsigned, signed, count, readBounds, readClause}
+use Rattle.definitions.specs.Reading.{Got, Reader, Context, asked, _>>=_, give, unsigned, signed}
 use Rattle.definitions.specs.declared.Refusal.{Refusal}
-use Rattle.reader.specs.declared.Counts.{Counts}
-use Rattle.reader.specs.declared.Header.{Header}
 use Rattle.reader.specs.Said.{refusal}
 
 -- of what is read, only the place after it
@@ -35,25 +33,3 @@ readTerm ctx seen = do
   a ← coefficient
   x ← variable ctx seen
   give (record { coef = a; var = x })
-
--- ---- the whole record
--- the version, and where the body begins
-unfoldable pub envelope : List ℕ → Result (Got ℕ)
-envelope s =
-    need 1 0 (leb (length s) 65536) >> need 2 0 (leb 5 (length s)) >> need 3 0 (eqb (getD s 0 0) 1) >>
-    need 2 0 (eqb (big s 1 4) (length s - 5)) >> done (record { value = getD s 0 0; next = 5 })
-
-unfoldable pub readCounts : Reader Counts
-readCounts = do
-  v ← count 0 1024 2
-  m ← count 0 4096 2
-  c ← count 0 4096 2
-  give (record { ints = v; bools = m; clauses = c })
-
--- the variable table, the clauses, and nothing after them
-unfoldable pub bodyFrom : ℕ → Counts → List ℕ → ℕ → Result Header
-bodyFrom version z s at =
-    result._>>=_ (past (times (z .ints) readBounds s at)) λ rules.
-    result._>>=_ (past (times (z .clauses) (readClause (record { version = version; ints = z .ints; bools = z .bools })) s rules)) λ end.
-    result._>>=_ (need 8 end (eqb end (length s))) λ _.
-    done (record { ints = z .ints; bools = z .bools; clauses = z .clauses; rules = rules })

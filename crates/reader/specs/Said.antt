@@ -1,6 +1,6 @@
 -- The reader's answers as the definitions have them.
-use Rattle.definitions.specs.Tools.{_≡_, ℕ, _+_, _*_, ℤ, List, length}
-use Rattle.definitions.specs.Board.{Literal, Board, isTrue, isFalse, atMost}
+use Rattle.definitions.specs.Tools.{_≡_, ℕ, ℤ, List}
+use Rattle.definitions.specs.Board.{Literal, isTrue, isFalse, atMost}
 use Rattle.definitions.specs.Result.{Result, done, refused}
 use Rattle.definitions.specs.Reading.{Got, Context}
 use Rattle.definitions.specs.Answers.{said}
@@ -9,20 +9,12 @@ use Rattle.reader.specs.declared.Number.{Number}
 use Rattle.reader.specs.declared.Whole.{Whole}
 use Rattle.reader.specs.declared.Step.{Step}
 use Rattle.reader.specs.declared.LiteralRead.{LiteralRead}
-use Rattle.reader.specs.declared.Counts.{Counts}
-use Rattle.reader.specs.declared.CountsRead.{CountsRead}
-use Rattle.reader.specs.declared.Header.{Header}
-use Rattle.reader.specs.declared.Opening.{Opening}
 use Rattle.reader.specs.declared.Context as known
 use Rattle.reader.specs.declared.Literal as code
 use Rattle.laws.specs.Reread.{termsAt}
 
 abbrev pub contextOf : known.Context → Context
 contextOf k = record { version = k .version; ints = k .ints; bools = k .bools }
-
-abbrev pub mapDone : {A B : Type 0} → (A → B) → Result A → Result B
-mapDone f (done a) = done (f a)
-mapDone f (refused n d) = refused n d
 
 abbrev pub refusal : {A : Type 0} → Refusal → Result A
 refusal r = refused (said r .0) (said r .1)
@@ -55,16 +47,3 @@ Placed at (LiteralRead.Refused r) = Unit {0}
 abbrev pub saidLiteral : List ℕ → LiteralRead → Result (Got Literal)
 saidLiteral rules (LiteralRead.Got l next) = done (record { value = literalOf rules l; next = next })
 saidLiteral rules (LiteralRead.Refused r) = refusal r
-
-abbrev pub saidCounts : CountsRead → Result (Got Counts)
-saidCounts (CountsRead.Got counts next) = done (record { value = counts; next = next })
-saidCounts (CountsRead.Refused r) = refusal r
-
--- the counts of a board, and where its clauses begin
-abbrev pub headerOf : Board → Header
-headerOf B =
-    record { ints = length (B .bounds); bools = B .bools; clauses = length (B .clauses); rules = 11 + 4 * length (B .bounds) }
-
-abbrev pub saidOpening : Opening → Result Header
-saidOpening (Opening.Board header) = done header
-saidOpening (Opening.Refused r) = refusal r

@@ -4,8 +4,6 @@ use definitions::Refusal;
 pub mod checks; // checks.rt: fields whose value has a range
 pub mod comparisons; // comparisons.rt: terms and constant
 pub mod clauses; // clauses.rt: literals and clauses
-pub mod table; // table.rt: the variables' bounds
-pub mod board; // board.rt: the whole record
 
 // What the record has said before.
 pub struct Context {
@@ -41,30 +39,5 @@ pub enum LiteralRead {
 // Of a part that is only tested: the place after it.
 pub enum Step {
     Next(usize),
-    Refused(Refusal),
-}
-
-// The three counts and the place after them.
-pub struct Counts {
-    pub ints: u32,
-    pub bools: u32,
-    pub clauses: u32,
-}
-
-pub enum CountsRead {
-    Got(Counts, usize),
-    Refused(Refusal),
-}
-
-// What the later passes over an accepted record need: its counts, and the place where the clauses begin.
-pub struct Header {
-    pub ints: usize,
-    pub bools: usize,
-    pub clauses: usize,
-    pub rules: usize,
-}
-
-pub enum Opening {
-    Board(Header),
     Refused(Refusal),
 }

@@ -2,11 +2,11 @@
 use borrow.Author.Needs.{needs}
 use Rattle.definitions.specs.Reading.{bound, readBounds}
 use Rattle.fields.proofs.Laws.{told}
 use Rattle.reader.specs.Said.{saidWhole}
 use Rattle.reader.specs.Parts.{wholeFrom}
 use Rattle.reader.proofs.Tests.{bound-fits, tested}
-use Rattle.reader.proofs.table.past_bounds.Statement.{statement}
-use Rattle.reader.proofs.table.past_bounds.Tie as tie
+use Rattle.opening.proofs.table.past_bounds.Statement.{statement}
+use Rattle.opening.proofs.table.past_bounds.Tie as tie
 
 whole-at-requires : tie.Need-whole-at-requires
 whole-at-requires c κs = search needs

@@ -3,11 +3,11 @@ use borrow.Author.Needs.{needs}
 use mathlib.Core.Path.{_≡_, refl, sym, _∙_}
 use Rattle.definitions.specs.Reading.{times, readBounds}
 use Rattle.fields.proofs.Laws.{told}
 use Rattle.reader.specs.Said.{saidStep}
 use Rattle.reader.specs.Parts.{past}
 use Rattle.reader.proofs.Loops.{next-part, part-refused, no-part}
-use Rattle.reader.proofs.table.past_table.Statement.{statement}
-use Rattle.reader.proofs.table.past_table.Tie as tie
+use Rattle.opening.proofs.table.past_table.Statement.{statement}
+use Rattle.opening.proofs.table.past_table.Tie as tie
 
 abbrev Inv-loop : tie.InvT-loop
 Inv-loop bytes n at place₀ left₀ place left =

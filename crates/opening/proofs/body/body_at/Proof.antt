@@ -2,11 +2,11 @@
 use borrow.Author.Needs.{needs}
 use borrow.Author.Tests.{eq-eqb, ne-eqb}
 use Rattle.fields.proofs.Laws.{told}
 use Rattle.reader.specs.Said.{saidStep}
-use Rattle.reader.specs.Parts.{bodyFrom}
-use Rattle.reader.proofs.Opened.{table-inside}
-use Rattle.reader.proofs.board.body_at.Statement.{statement}
-use Rattle.reader.proofs.board.body_at.Tie as tie
+use Rattle.opening.specs.Parts.{bodyFrom}
+use Rattle.opening.proofs.Opened.{table-inside}
+use Rattle.opening.proofs.body.body_at.Statement.{statement}
+use Rattle.opening.proofs.body.body_at.Tie as tie
 
 past-table-requires : tie.Need-past-table-requires
 past-table-requires c κs = search needs

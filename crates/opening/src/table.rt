@@ -1,12 +1,12 @@
 // The variable table: a lower and an upper bound for each integer variable.
 ghost use mathlib.Core.Path.{_≡_};
 ghost use Rattle.definitions.specs.Reading.{times, readBounds};
 ghost use Rattle.reader.specs.Said.{saidStep};
 ghost use Rattle.reader.specs.Parts.{past};
-use super::Step;
-use super::Whole;
-use super::checks::whole_at;
 use definitions::Refusal;
+use reader::Step;
+use reader::Whole;
+use reader::checks::whole_at;
 
 fn past_bounds(bytes: &[u8], at: usize) -> Step
     ensures { λ r. ⌜ saidStep r ≡ past (readBounds (now (bytes .entry)) at) ⌝ }

@@ -1,9 +1,9 @@
 -- The five refusals with a place, and that there is no other.
 use borrow.Author.Needs.{needs}
 use native.Mathlib.Omega.{arith}
-use Rattle.reader.proofs.Moved.{no-other}
-use Rattle.reader.proofs.board.moved.Statement.{statement}
-use Rattle.reader.proofs.board.moved.Tie as tie
+use Rattle.opening.proofs.Moved.{no-other}
+use Rattle.opening.proofs.body.moved.Statement.{statement}
+use Rattle.opening.proofs.body.moved.Tie as tie
 
 enum-known-r : tie.Need-enum-known-r
 enum-known-r c = search needs

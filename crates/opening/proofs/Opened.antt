@@ -16,11 +16,12 @@ use Rattle.laws.specs.Grammar.{reads-times, found}
 use Rattle.laws.specs.Reads.{reads-bounds, reads-clause}
 use Rattle.laws.specs.Reread.{table-read}
 use Rattle.fields.proofs.Laws.{unsigned-got}
-use Rattle.reader.specs.declared.Counts.{Counts}
-use Rattle.reader.specs.declared.Header.{Header}
-use Rattle.reader.specs.Said.{mapDone, headerOf}
-use Rattle.reader.specs.Parts.{past, envelope, readCounts, bodyFrom}
+use Rattle.opening.specs.declared.Counts.{Counts}
+use Rattle.opening.specs.declared.Header.{Header}
+use Rattle.opening.specs.Said.{mapDone, headerOf}
+use Rattle.reader.specs.Parts.{past}
+use Rattle.opening.specs.Parts.{envelope, readCounts, bodyFrom}
 use Rattle.reader.proofs.Steps.{passed, asked-got, past-done}
 
 -- ---- places stay within the record
 pub table-inside : (n : ℕ) (s : List ℕ) (at : ℕ) → at ≤ length s → {p : ℕ} → past (times n readBounds s at) ≡ done p → p ≤ length s

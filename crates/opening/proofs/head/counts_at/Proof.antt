@@ -2,10 +2,11 @@
 use borrow.Author.Needs.{needs}
 use Rattle.definitions.specs.Reading.{count}
 use Rattle.fields.proofs.Laws.{told}
 use Rattle.reader.specs.Said.{saidNumber}
-use Rattle.reader.specs.Parts.{numberFrom, readCounts}
-use Rattle.reader.proofs.board.counts_at.Statement.{statement}
-use Rattle.reader.proofs.board.counts_at.Tie as tie
+use Rattle.reader.specs.Parts.{numberFrom}
+use Rattle.opening.specs.Parts.{readCounts}
+use Rattle.opening.proofs.head.counts_at.Statement.{statement}
+use Rattle.opening.proofs.head.counts_at.Tie as tie
 
 number-at-requires : tie.Need-number-at-requires
 number-at-requires c κs = search needs

@@ -1,10 +1,11 @@
 -- The envelope, the counts and the rest, each where the one before it ends.
 use borrow.Author.Needs.{needs}
 use Rattle.fields.proofs.Laws.{told}
-use Rattle.reader.specs.Said.{saidNumber, saidCounts}
-use Rattle.reader.proofs.Opened.{counts-inside, board-is}
-use Rattle.reader.proofs.board.open.Statement.{statement}
-use Rattle.reader.proofs.board.open.Tie as tie
+use Rattle.reader.specs.Said.{saidNumber}
+use Rattle.opening.specs.Said.{saidCounts}
+use Rattle.opening.proofs.Opened.{counts-inside, board-is}
+use Rattle.opening.proofs.open.Statement.{statement}
+use Rattle.opening.proofs.open.Tie as tie
 
 envelope-of-requires : tie.Need-envelope-of-requires
 envelope-of-requires c κs = search needs

@@ -3,9 +3,9 @@ use borrow.Author.Needs.{needs}
 use native.Mathlib.Omega.{arith}
 use mathlib.Core.Path.{sym, _∙_}
 use borrow.Author.Tests.{le-leb, lt-leb, eq-eqb, ne-eqb}
-use Rattle.reader.specs.Parts.{envelope}
-use Rattle.reader.proofs.board.envelope_of.Statement.{statement}
-use Rattle.reader.proofs.board.envelope_of.Tie as tie
+use Rattle.opening.specs.Parts.{envelope}
+use Rattle.opening.proofs.head.envelope_of.Statement.{statement}
+use Rattle.opening.proofs.head.envelope_of.Tie as tie
 
 returns : tie.Need-returns
 unfolding envelope

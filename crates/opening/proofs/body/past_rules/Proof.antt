@@ -3,10 +3,10 @@ use borrow.Author.Needs.{needs}
 use mathlib.Core.Path.{sym}
 use native.Mathlib.Omega.{arith}
 use Rattle.fields.proofs.Laws.{told}
 use Rattle.reader.specs.Said.{contextOf, saidStep}
-use Rattle.reader.proofs.Moved.{tail-next, tail-refused}
-use Rattle.reader.proofs.board.past_rules.Statement.{statement}
-use Rattle.reader.proofs.board.past_rules.Tie as tie
+use Rattle.opening.proofs.Moved.{tail-next, tail-refused}
+use Rattle.opening.proofs.body.past_rules.Statement.{statement}
+use Rattle.opening.proofs.body.past_rules.Tie as tie
 
 sub-past-clauses : tie.Need-sub-past-clauses
 sub-past-clauses c = search needs
