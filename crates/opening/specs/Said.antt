@@ -1,5 +1,5 @@
 -- The answers as the definitions have them.
-use Rattle.definitions.specs.Tools.{ℕ, _+_, _*_, length}
+use Rattle.definitions.specs.Tools.{_+_, _*_, length}
 use Rattle.definitions.specs.Board.{Board}
 use Rattle.definitions.specs.Result.{Result, done, refused}
 use Rattle.definitions.specs.Reading.{Got}

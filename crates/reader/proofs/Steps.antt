@@ -50,3 +50,15 @@ module _ {A : Type 0} where
       go : (t : Bool) → (if t then done (p .got) else refused why at) ≡ done g → m ≡ done g
       go true d = p .read ∙ d
       go false d = never d
+
+-- ---- of what is read, only the place after it
+-- what is made of a value does not matter
+pub past-made : {A B : Type 0} (made : A → B) (m : Result (Got A)) → past {A = B} (result._>>=_ m λ g. done (record { value = made (g .value); next = g .next })) ≡ past m
+past-made made (done g) = refl
+past-made made (refused n d) = refl
+
+-- nor a first value, where the second part does not look at it
+pub past-both : {A B C : Type 0} (made : A → B → C) (r : ℕ → Result (Got B)) (m : Result (Got A))
+    → past {A = C} (result._>>=_ m λ g. result._>>=_ (r (g .next)) λ h. done (record { value = made (g .value) (h .value); next = h .next })) ≡ result._>>=_ (past m) (λ p. past (r p))
+past-both made r (done g) = past-made (made (g .value)) (r (g .next))
+past-both made r (refused n d) = refl

@@ -7,7 +7,7 @@ ghost use Rattle.definitions.specs.Board.{atMost};
 ghost use Rattle.definitions.specs.Reading.{mapped, readTerms, readComparison};
 ghost use Rattle.reader.specs.Said.{contextOf, saidStep, saidLiteral, Placed};
 ghost use Rattle.reader.specs.Parts.{past, coefficient, variable, readTerm};
-ghost use Rattle.reader.specs.Plain.{seenAt};
+ghost use Rattle.reader.specs.Seen.{seenAt};
 use super::Context;
 use super::Literal;
 use super::LiteralRead;
