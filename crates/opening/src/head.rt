@@ -1,5 +1,6 @@
 // The record's first bytes: version, stated length and the three counts.
 ghost use mathlib.Core.Path.{_≡_};
+ghost use Rattle.definitions.specs.Reading.{count};
 ghost use Rattle.reader.specs.Said.{saidNumber};
 ghost use Rattle.opening.specs.Said.{saidCounts};
 ghost use Rattle.opening.specs.Parts.{envelope, readCounts};
@@ -32,32 +33,18 @@ pub fn envelope_of(bytes: &[u8]) -> Number
     }
 }
 
+fn count_at(bytes: &[u8], at: usize, most: u32) -> Number
+    ensures { λ r. ⌜ saidNumber r ≡ count 0 most 2 (now (bytes .entry)) at ⌝ }
+{
+    number_at(bytes, at, 2, 0, most, Refusal::CountWrong { place: at })
+}
+
 pub fn counts_at(bytes: &[u8], at: usize) -> CountsRead
     ensures { λ r. ⌜ saidCounts r ≡ readCounts (now (bytes .entry)) at ⌝ }
 {
-    match number_at(bytes, at, 2, 0, 1024, Refusal::CountWrong { place: at }) {
-        Number::Value {
-            value: ints,
-            next: second,
-        } => match number_at(
-            bytes,
-            second,
-            2,
-            0,
-            4096,
-            Refusal::CountWrong { place: second },
-        ) {
-            Number::Value {
-                value: bools,
-                next: third,
-            } => match number_at(
-                bytes,
-                third,
-                2,
-                0,
-                4096,
-                Refusal::CountWrong { place: third },
-            ) {
+    match count_at(bytes, at, 1024) {
+        Number::Value { value: ints, next } => match count_at(bytes, next, 4096) {
+            Number::Value { value: bools, next } => match count_at(bytes, next, 4096) {
                 Number::Value {
                     value: clauses,
                     next,

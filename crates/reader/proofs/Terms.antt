@@ -17,7 +17,7 @@ use Rattle.definitions.specs.Reading.{Got, Context, big, twos, count, readTerms
 use Rattle.definitions.specs.declared.Refusal.{Refusal}
 use Rattle.laws.specs.Readings.{same}
 use Rattle.fields.proofs.Laws.{unsigned-got, signed-got}
-use Rattle.reader.specs.Parts.{past, numberFrom, wholeFrom, coefficient, variable, readTerm}
+use Rattle.reader.specs.Parts.{past, numberFrom, coefficient, variable, readTerm, constant}
 use Rattle.laws.specs.Reread.{termAt, termsAt, comparison-read}
 use Rattle.reader.specs.Seen.{seenAt}
 use Rattle.reader.proofs.Steps.{asked-got, passed, bind-bind, past-done, past-refused, past-made, past-both}
@@ -130,20 +130,17 @@ module _ (ctx : Context) (s : List ℕ) (at : ℕ) {n first : ℕ} (counted : nu
   terms-refused e = rw (counted, past-refused (readTerms ctx [] n s first) e)
 
   module _ {p : ℕ} (terms : past (readTerms ctx [] n s first) ≡ done p) where
-    abbrev constant : Result (Got ℤ)
-    constant = wholeFrom (Refusal.TermWrong p) (neg 1000000) (pos 1000000) 4 s p
-
-    pub constant-refused : {why d : ℕ} → constant ≡ refused why d → readComparison ctx s at ≡ refused why d
-    unfolding readComparison count numberFrom wholeFrom
+    pub constant-refused : {why d : ℕ} → constant s p ≡ refused why d → readComparison ctx s at ≡ refused why d
+    unfolding readComparison count numberFrom constant
     constant-refused e = let q = past-done (readTerms ctx [] n s first) terms in rw (counted, q .read, same (q .rest), e)
 
-    read : (h : Got (List Term)) → readTerms ctx [] n s first ≡ done h → h .next ≡ p → {k : ℤ} {end : ℕ} → constant ≡ done (record { value = k; next = end })
+    read : (h : Got (List Term)) → readTerms ctx [] n s first ≡ done h → h .next ≡ p → {k : ℤ} {end : ℕ} → constant s p ≡ done (record { value = k; next = end })
         → readComparison ctx s at ≡ done (record { value = record { terms = h .value; constant = k }; next = end })
-    unfolding readComparison count numberFrom wholeFrom
+    unfolding readComparison count numberFrom constant
     read h r x e = rw (counted, r, x, e)
 
     -- its terms are those that stand there
-    pub comparison-done : {k : ℤ} {end : ℕ} → constant ≡ done (record { value = k; next = end })
+    pub comparison-done : {k : ℤ} {end : ℕ} → constant s p ≡ done (record { value = k; next = end })
         → readComparison ctx s at ≡ done (record { value = record { terms = termsAt s at; constant = k }; next = end })
     comparison-done e =
         let q = past-done (readTerms ctx [] n s first) terms in

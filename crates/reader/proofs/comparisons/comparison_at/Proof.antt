@@ -31,8 +31,8 @@ past-terms-requires c κs =
 enum-known-place : tie.Need-enum-known-place
 enum-known-place c = search needs
 
-whole-at-requires : tie.Need-whole-at-requires
-whole-at-requires c κs = search needs
+constant-at-requires : tie.Need-constant-at-requires
+constant-at-requires c κs = search needs
 
 enum-known-value-2 : tie.Need-enum-known-value-2
 enum-known-value-2 c = search needs
@@ -48,11 +48,11 @@ enum-known-r-3 c = search needs
 
 returns : tie.Need-returns
 returns c =
-    (rw (comparison-done _ _ _ (told saidNumber (c .before .before .before .before .before .before .before .before .before .before .before .number-at .ensures) (c .before .before .before .before .before .before .before .before .before .value .given .1)) (told saidStep (c .before .before .before .before .before .before .before .past-terms .ensures) (c .before .before .before .before .before .place .given .1)) (told saidWhole (c .before .before .before .whole-at .ensures) (c .before .value2 .given .1)), toZ-ofZ (bound-fits (c .before .value2 .given .0 .0) (c .known-told3 .given .0 .1))), refl)
+    (rw (comparison-done _ _ _ (told saidNumber (c .before .before .before .before .before .before .before .before .before .before .before .number-at .ensures) (c .before .before .before .before .before .before .before .before .before .value .given .1)) (told saidStep (c .before .before .before .before .before .before .before .past-terms .ensures) (c .before .before .before .before .before .place .given .1)) (told saidWhole (c .before .before .before .constant-at .ensures) (c .before .value2 .given .1)), toZ-ofZ (bound-fits (c .before .value2 .given .0 .0) (c .known-told3 .given .0 .1))), refl)
 
 returns-2 : tie.Need-returns-2
 returns-2 c =
-    (rw (constant-refused _ _ _ (told saidNumber (c .before .before .before .before .before .before .before .before .before .before .before .number-at .ensures) (c .before .before .before .before .before .before .before .before .before .value .given .1)) (told saidStep (c .before .before .before .before .before .before .before .past-terms .ensures) (c .before .before .before .before .before .place .given .1)) (told saidWhole (c .before .before .before .whole-at .ensures) (c .before .r .given .1))), tt)
+    (rw (constant-refused _ _ _ (told saidNumber (c .before .before .before .before .before .before .before .before .before .before .before .number-at .ensures) (c .before .before .before .before .before .before .before .before .before .value .given .1)) (told saidStep (c .before .before .before .before .before .before .before .past-terms .ensures) (c .before .before .before .before .before .place .given .1)) (told saidWhole (c .before .before .before .constant-at .ensures) (c .before .r .given .1))), tt)
 
 returns-3 : tie.Need-returns-3
 returns-3 c =
@@ -72,7 +72,7 @@ comparison-at-spec =
     cast-past-terms
     past-terms-requires
     enum-known-place
-    whole-at-requires
+    constant-at-requires
     enum-known-value-2
     enum-known-r
     enum-known-r-2
