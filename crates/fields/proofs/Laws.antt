@@ -2,7 +2,7 @@
 use mathlib.Core.Path.{_≡_, refl, sym, ap, ap₂, _∙_}
 use mathlib.Core.Bool.{Bool, true, false}
 use mathlib.Core.List.{List}
-use Prim.Native.Nat.{ℕ, zero, suc, _+_, _*_, _≤_, _<_, _^_}
+use Prim.Native.Nat.{ℕ, _+_, _*_, _≤_, _<_, _^_}
 use native.Mathlib.Nat.{pow-suc, pow-le-pow-right}
 use native.Mathlib.Numerals.{add-one}
 use native.Mathlib.Omega.{arith}
@@ -18,6 +18,7 @@ use Rattle.definitions.specs.Result.{Result, done, refused}
 use Rattle.definitions.specs.Result as result
 use Rattle.definitions.specs.Reading.{Got, big, twos, unsigned, signed}
 use Rattle.laws.specs.Whole.{whole, sub-law, sfits}
+use Rattle.laws.specs.Readings.{big-below}
 
 -- what a call ensures of its result, where a match has told which case the result is
 pub told : {A B : Type 0} (f : A → B) {x y : A} {z : B} → f x ≡ z → x ≡ y → z ≡ f y
@@ -38,15 +39,10 @@ module _ (s : List ℕ) (at : ℕ) where
   unfolding big
   big-more n = rw add-one
 
-  module _ (byte : (i : ℕ) → Fits w8 (getD s i 0)) where
-    pub big-below : (n : ℕ) → big s at n < 256 ^ n
-    unfolding big
-    big-below zero = omega arith
-    big-below (suc n) = omega (arith, big-below n, byte (at + n), pow-suc 256 n)
-
-    -- what is computed on the way fits
-    pub big-room : (n : ℕ) → n < 4 → (getD s (at + n) 0 < 256) × (256 * big s at n + getD s (at + n) 0 < 256 ^ 4)
-    big-room n h = omega (arith, byte (at + n), big-more n, big-below (n + 1), power-most {n = n + 1} (omega arith))
+  -- what is computed on the way fits
+  pub big-room : ((i : ℕ) → Fits w8 (getD s i 0)) → (n : ℕ) → n < 4 → (getD s (at + n) 0 < 256) × (256 * big s at n + getD s (at + n) 0 < 256 ^ 4)
+  big-room byte n h =
+      omega (arith, byte (at + n), big-more n, big-below s (λ i. byte i .fits) at (n + 1), power-most {n = n + 1} (omega arith))
 
 -- the field where its bytes are there, and where they are not
 module _ (n : ℕ) (s : List ℕ) (at : ℕ) where

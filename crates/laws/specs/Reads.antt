@@ -64,7 +64,7 @@ unfolding bound
 reads-bound = reads-tested 5 (reads-signed 2) (is-within (neg 4096) (pos 4095))
 
 -- ---- bounds
-reads-bounds : Reads readBounds (Spelt GoodBounds boundsFields)
+pub reads-bounds : Reads readBounds (Spelt GoodBounds boundsFields)
 unfolding readBounds
 reads-bounds = reads-as (reads-bind reads-bound λ l. reads-mapped (λ u. record { lo = l; hi = u }) (reads-asked 5 reads-bound (at-mostZ l))) to from
   where

@@ -14,7 +14,7 @@ use Rattle.definitions.specs.Tools.{countUp}
 use Rattle.definitions.specs.Board.{Bounds, Term, Comparison, Board, boundsOf}
 use Rattle.definitions.specs.Result.{Result, done, refused, need}
 use Rattle.definitions.specs.Result as result
-use Rattle.definitions.specs.Reading.{Got, Context, times, big, twos, readComparison, readClause, readBody}
+use Rattle.definitions.specs.Reading.{Got, Context, times, big, twos, readBounds, readComparison, readClause, readBody}
 use Rattle.definitions.specs.Encoding.{K}
 use Rattle.definitions.specs.Operations.{readBoard, accepted}
 use Rattle.laws.specs.Lists.{counted-at}
@@ -22,7 +22,7 @@ use Rattle.laws.specs.Admitted.{Admitted, GoodComparison}
 use Rattle.laws.specs.Readings.{same, never, from-start}
 use Rattle.laws.specs.Spelling.{Field, several, integer, Stand, none, more, append-stand, stand-onward, boundsFields, termFields, comparisonFields, bodyFields}
 use Rattle.laws.specs.Grammar.{spelt, finds, found, reads-times}
-use Rattle.laws.specs.Reads.{reads-comparison, reads-clause, reads-body}
+use Rattle.laws.specs.Reads.{reads-bounds, reads-comparison, reads-clause, reads-body}
 
 -- ---- the record around its body
 pub record Wrapped (s : List ℕ) (B : Board) : Type 0 where
@@ -158,6 +158,12 @@ comparison-read ctx s at g e =
     comparison-stand (ctx .ints) s at (g .value) (g .next) (d .0) (d .1)
 
 -- ---- the board
+-- the variable table has 4 bytes for each variable
+pub table-read : (n : ℕ) (s : List ℕ) (at end : ℕ) (bs : List Bounds) → times n readBounds s at ≡ finds bs end → (length bs ≡ n) × (end ≡ at + 4 * length bs)
+table-read n s at end bs e =
+    let d = found (reads-times reads-bounds n .told s at bs end e) in
+    (d .0 .0, stand-row (boundsAt s) 4 boundsFields s (one-bounds s) at end bs (d .1) .1)
+
 abbrev pub contextOf : Board → Context
 contextOf B = record { version = 1; ints = length (B .bounds); bools = B .bools }
 

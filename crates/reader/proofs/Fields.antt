@@ -3,14 +3,13 @@ use mathlib.Core.Path.{_≡_, refl}
 use mathlib.Core.Bool.{Bool, true, false, not, _&&_}
 use mathlib.Core.List.{List}
 use Prim.Native.Nat.{ℕ, zero, suc, _+_, _≤_}
-use native.Mathlib.Omega.{arith}
 use lib.ListN.{length}
 use lib.Dec.{leb, leb·suc-zero}
 use lib.IntN.{ℤ, pos, negsuc}
 use Rattle.definitions.specs.Tools.{if_then_else_, neg, eqZ, within}
 use Rattle.definitions.specs.Result.{Result, done, refused}
 use Rattle.definitions.specs.Result as result
-use Rattle.definitions.specs.Reading.{Got, big, unsigned, signed}
+use Rattle.definitions.specs.Reading.{Got, big, signed}
 use Rattle.definitions.specs.declared.Refusal.{Refusal}
 use Rattle.fields.proofs.Laws.{unsigned-got}
 use Rattle.definitions.specs.Answers.{said}

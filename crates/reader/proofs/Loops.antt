@@ -4,23 +4,15 @@ use mathlib.Core.List.{List, _∷_}
 use Prim.Native.Nat.{ℕ, zero, suc, _-_, _≤_, _<_}
 use native.Mathlib.Numerals.{sub-one}
 use native.Mathlib.Omega.{arith}
-use Rattle.definitions.specs.Result.{Result, done, refused}
+use Rattle.definitions.specs.Result.{done, refused}
 use Rattle.definitions.specs.Result as result
-use Rattle.definitions.specs.Reading.{Got, Reader, times}
+use Rattle.definitions.specs.Reading.{Reader, times}
 use Rattle.reader.specs.Parts.{past}
+use Rattle.reader.proofs.Steps.{past-both}
 
 module _ {A : Type 0} (r : Reader A) (s : List ℕ) (place : ℕ) where
   times-past : (n : ℕ) → past (times (suc n) r s place) ≡ result._>>=_ (past (r s place)) (λ p. past (times n r s p))
-  times-past n = go (r s place)
-    where
-      led : (a : A) (m : Result (Got (List A))) → past {A = List A} (result._>>=_ m λ h. done (record { value = a ∷ h .value; next = h .next })) ≡ past m
-      led a (done h) = refl
-      led a (refused why d) = refl
-
-      go : (m : Result (Got A)) → past {A = List A} (result._>>=_ m λ g. result._>>=_ (times n r s (g .next)) λ h. done (record { value = g .value ∷ h .value; next = h .next }))
-          ≡ result._>>=_ (past m) (λ p. past (times n r s p))
-      go (done g) = led (g .value) (times n r s (g .next))
-      go (refused why d) = refl
+  times-past n = past-both _∷_ (times n r s) (r s place)
 
   pub next-part : (left : ℕ) {p : ℕ} → 0 < left → past (r s place) ≡ done p → past (times left r s place) ≡ past (times (left - 1) r s p)
   next-part zero h e = absurd (omega arith)

@@ -1,19 +1,13 @@
 -- Results one after another: what was read where the last of them is done. Assumes nothing.
-use mathlib.Core.Path.{_≡_, refl, sym, ap, _∙_}
+use mathlib.Core.Path.{_≡_, refl, sym, _∙_}
 use mathlib.Core.Bool.{Bool, true, false}
 use Prim.Native.Nat.{ℕ}
-use native.Mathlib.Omega.{arith}
 use Rattle.definitions.specs.Tools.{if_then_else_}
 use Rattle.definitions.specs.Result.{Result, done, refused}
 use Rattle.definitions.specs.Result as result
 use Rattle.definitions.specs.Reading.{Got}
+use Rattle.laws.specs.Readings.{never}
 use Rattle.reader.specs.Parts.{past}
-
-never : {A B : Type 0} {a : A} {n d : ℕ} → refused n d ≡ done a → B
-never e = absurd (let z : _≡_ {A = ℕ} 0 1 = cc in omega arith)
-
-pub same : {A : Type 0} {a b : A} → done a ≡ done b → a ≡ b
-same e = cc
 
 -- the first of two was done, and the second
 pub record Passed {A B : Type 0} (m : Result A) (f : A → Result B) (b : B) : Type 0 where
@@ -56,3 +50,15 @@ module _ {A : Type 0} where
       go : (t : Bool) → (if t then done (p .got) else refused why at) ≡ done g → m ≡ done g
       go true d = p .read ∙ d
       go false d = never d
+
+-- ---- of what is read, only the place after it
+-- what is made of a value does not matter
+pub past-made : {A B : Type 0} (made : A → B) (m : Result (Got A)) → past {A = B} (result._>>=_ m λ g. done (record { value = made (g .value); next = g .next })) ≡ past m
+past-made made (done g) = refl
+past-made made (refused n d) = refl
+
+-- nor a first value, where the second part does not look at it
+pub past-both : {A B C : Type 0} (made : A → B → C) (r : ℕ → Result (Got B)) (m : Result (Got A))
+    → past {A = C} (result._>>=_ m λ g. result._>>=_ (r (g .next)) λ h. done (record { value = made (g .value) (h .value); next = h .next })) ≡ result._>>=_ (past m) (λ p. past (r p))
+past-both made r (done g) = past-made (made (g .value)) (r (g .next))
+past-both made r (refused n d) = refl

@@ -1,7 +1,7 @@
--- The terms of a comparison: those seen before, one term more, and that what was read is what stands there. Assumes nothing.
+-- A comparison: the variables seen before, one term more, and the parts together. Assumes nothing.
 use mathlib.Core.Path.{_≡_, refl, sym, ap, _∙_}
-use mathlib.Core.Bool.{Bool, true, false, not, _&&_, _||_}
-use mathlib.Core.List.{List, [], _∷_, map}
+use mathlib.Core.Bool.{false, not, _&&_, _||_}
+use mathlib.Core.List.{List, [], _∷_}
 use Prim.Native.Nat.{ℕ, zero, suc, _+_, _*_, _-_, _≤_, _<_}
 use native.Mathlib.Numerals.{add-one, sub-one}
 use native.Mathlib.Nat.{sub-zero}
@@ -9,23 +9,23 @@ use native.Mathlib.Omega.{arith}
 use lib.ListN.{length}
 use lib.Dec.{ltb, eqb}
 use lib.IntN.{ℤ, pos}
-use Rattle.definitions.specs.Tools.{any, neg, eqZ, within, countUp}
+use Rattle.definitions.specs.Tools.{any, neg, eqZ, within}
 use Rattle.definitions.specs.Board.{Term}
 use Rattle.definitions.specs.Result.{Result, done, refused}
 use Rattle.definitions.specs.Result as result
-use Rattle.definitions.specs.Reading.{Got, Context, asked, big, twos, unsigned, signed, readTerms}
+use Rattle.definitions.specs.Reading.{Got, Context, big, twos, count, readTerms, readComparison}
 use Rattle.definitions.specs.declared.Refusal.{Refusal}
+use Rattle.laws.specs.Readings.{same}
 use Rattle.fields.proofs.Laws.{unsigned-got, signed-got}
-use Rattle.reader.specs.Parts.{past, numberFrom, coefficient, variable, readTerm}
-use Rattle.laws.specs.Reread.{termsAt}
-use Rattle.reader.specs.Plain.{termAt, seenAt}
-use Rattle.reader.proofs.Fields.{number-got}
-use Rattle.reader.proofs.Steps.{asked-got, same, passed, bind-bind, past-done, past-refused}
+use Rattle.reader.specs.Parts.{past, numberFrom, coefficient, variable, readTerm, constant}
+use Rattle.laws.specs.Reread.{termAt, termsAt, comparison-read}
+use Rattle.reader.specs.Seen.{seenAt}
+use Rattle.reader.proofs.Steps.{asked-got, passed, bind-bind, past-done, past-refused, past-made, past-both}
 
 -- ---- the variables seen before
 module _ (s : List ℕ) (first x : ℕ) where
   pub seen-turn : (n : ℕ) → 0 < n → any (eqb x) (seenAt s first n) ≡ eqb x (big s (first + 3 * (n - 1) + 1) 2) || any (eqb x) (seenAt s first (n - 1))
-  unfolding seenAt termAt
+  unfolding seenAt
   seen-turn zero h = absurd (omega arith)
   seen-turn (suc n) h = rw sub-one
 
@@ -44,21 +44,11 @@ unfolding variable
 variable-got ctx seen s at e = unsigned-got 2 s at (asked-got 7 at (λ x. ltb x (ctx .ints)) (asked-got 7 at (λ x. not (any (eqb x) seen)) e))
 
 module _ (ctx : Context) (seen : List ℕ) (s : List ℕ) (at : ℕ) where
-  -- of a term that is only tested, the coefficient's value does not matter to the variable
   pub term-past : past (readTerm ctx seen s at) ≡ result._>>=_ (past (coefficient s at)) (λ p. past (variable ctx seen s p))
   unfolding readTerm
-  term-past = go (coefficient s at)
-    where
-      inner : (a : ℤ) (m : Result (Got ℕ)) → past {A = Term} (result._>>=_ m (λ h. done (record { value = record { coef = a; var = h .value }; next = h .next }))) ≡ past m
-      inner a (done h) = refl
-      inner a (refused n d) = refl
+  term-past = past-both (λ a x. record { coef = a; var = x }) (variable ctx seen s) (coefficient s at)
 
-      go : (m : Result (Got ℤ)) → past {A = Term} (result._>>=_ m (λ g. result._>>=_ (variable ctx seen s (g .next)) (λ h. done (record { value = record { coef = g .value; var = h .value }; next = h .next }))))
-          ≡ result._>>=_ (past m) (λ p. past (variable ctx seen s p))
-      go (done g) = inner (g .value) (variable ctx seen s (g .next))
-      go (refused n d) = refl
-
-  pub term-got : {g : Got Term} → readTerm ctx seen s at ≡ done g
+  term-got : {g : Got Term} → readTerm ctx seen s at ≡ done g
       → (g ≡ record { value = record { coef = twos 1 (big s at 1); var = big s (at + 1) 2 }; next = at + 1 + 2 }) × (at + 1 + 2 ≤ length s)
   unfolding readTerm
   term-got {g} e =
@@ -72,7 +62,7 @@ module _ (ctx : Context) (seen : List ℕ) (s : List ℕ) (at : ℕ) where
       join a x c v d = rw (← d, v .0, c) (refl, rw c at (v .1))
 
   -- the terms are one and the others
-  pub terms-more : (n : ℕ) → readTerms ctx seen (suc n) s at
+  terms-more : (n : ℕ) → readTerms ctx seen (suc n) s at
       ≡ result._>>=_ (readTerm ctx seen s at) (λ g. result._>>=_ (readTerms ctx (g .value .var ∷ seen) n s (g .next)) (λ h. done (record { value = g .value ∷ h .value; next = h .next })))
   unfolding readTerms readTerm coefficient variable
   terms-more n =
@@ -81,10 +71,6 @@ module _ (ctx : Context) (seen : List ℕ) (s : List ℕ) (at : ℕ) where
       (coefficient s at)
 
 -- ---- the terms that begin at a place
-past-led : {A : Type 0} (a : A) (m : Result (Got (List A))) → past {A = List A} (result._>>=_ m λ h. done (record { value = a ∷ h .value; next = h .next })) ≡ past m
-past-led a (done h) = refl
-past-led a (refused n d) = refl
-
 module _ (ctx : Context) (s : List ℕ) (first : ℕ) where
   abbrev at : ℕ → ℕ
   at i = first + 3 * i
@@ -92,13 +78,12 @@ module _ (ctx : Context) (s : List ℕ) (first : ℕ) where
   abbrev term : ℕ → Result (Got Term)
   term i = readTerm ctx (seenAt s first i) s (at i)
 
-  term-there : (i : ℕ) {g : Got Term} → term i ≡ done g → (g ≡ record { value = termAt s first i; next = at (suc i) }) × (at (suc i) ≤ length s)
-  unfolding termAt
+  term-there : (i : ℕ) {g : Got Term} → term i ≡ done g → (g ≡ record { value = termAt s (at i); next = at (suc i) }) × (at (suc i) ≤ length s)
   term-there i e =
       let n : at i + 1 + 2 ≡ at (suc i) = omega arith in
       rw (← n) (term-got ctx (seenAt s first i) s (at i) e)
 
-  pub terms-turn : (i left : ℕ) {p : ℕ} → past (term i) ≡ done p
+  terms-turn : (i left : ℕ) {p : ℕ} → past (term i) ≡ done p
       → (p ≡ at (suc i)) × ((p ≤ length s) × (past (readTerms ctx (seenAt s first i) (suc left) s (at i)) ≡ past (readTerms ctx (seenAt s first (suc i)) left s p)))
   unfolding seenAt
   terms-turn i left {p} d =
@@ -106,7 +91,7 @@ module _ (ctx : Context) (s : List ℕ) (first : ℕ) where
       let t = term-there i (q .read) in
       let n : at (suc i) ≡ p = ap (λ g. g .next) (sym (t .0)) ∙ same (q .rest) in
       rw (terms-more ctx (seenAt s first i) s (at i) left, q .read, t .0, ← n)
-      (refl, (t .1, past-led (termAt s first i) (readTerms ctx (termAt s first i .var ∷ seenAt s first i) left s (at (suc i)))))
+      (refl, (t .1, past-made (λ ts. termAt s (at i) ∷ ts) (readTerms ctx (termAt s (at i) .var ∷ seenAt s first i) left s (at (suc i)))))
 
   module _ (n : ℕ) where
     abbrev all : Result ℕ
@@ -138,26 +123,26 @@ module _ (ctx : Context) (s : List ℕ) (first : ℕ) where
     unfolding readTerms
     passing-all {i} h o = let e : n - i ≡ 0 = omega arith in rw (← o .others, e)
 
-  -- where they are read they are what stands there
-  terms-are : (i n : ℕ) {g : Got (List Term)} → readTerms ctx (seenAt s first i) n s (at i) ≡ done g → g .value ≡ map (termAt s first) (countUp i n)
-  unfolding readTerms seenAt
-  terms-are i zero e = ap (λ g. g .value) (sym (same e))
-  terms-are i (suc n) {g} e =
-      let p = passed (term i) _ (sym (terms-more ctx (seenAt s first i) s (at i) n) ∙ e) in
-      let t : term i ≡ done (record { value = termAt s first i; next = at (suc i) }) = p .read ∙ ap done (term-there i (p .read) .0) in
-      let q = passed (readTerms ctx (termAt s first i .var ∷ seenAt s first i) n s (at (suc i))) _ (rw t at (sym (terms-more ctx (seenAt s first i) s (at i) n) ∙ e)) in
-      ap (λ g. g .value) (sym (same (q .rest))) ∙ ap (λ ts. termAt s first i ∷ ts) (terms-are (suc i) n (q .read))
+-- ---- the comparison: a count, terms that are passed, a constant
+module _ (ctx : Context) (s : List ℕ) (at : ℕ) {n first : ℕ} (counted : numberFrom (Refusal.CountWrong at) 1 3 1 s at ≡ done (record { value = n; next = first })) where
+  pub terms-refused : {why d : ℕ} → past (readTerms ctx [] n s first) ≡ refused why d → readComparison ctx s at ≡ refused why d
+  unfolding readComparison count numberFrom
+  terms-refused e = rw (counted, past-refused (readTerms ctx [] n s first) e)
 
--- the terms behind a count
-pub terms-placed : (wrong : Refusal) (least most : ℕ) (ctx : Context) (s : List ℕ) (at : ℕ) {n first p : ℕ} → numberFrom wrong least most 1 s at ≡ done (record { value = n; next = first })
-    → past (readTerms ctx [] n s first) ≡ done p → readTerms ctx [] n s first ≡ done (record { value = termsAt s at; next = p })
-unfolding seenAt termAt termsAt
-terms-placed wrong least most ctx s at {n} {first} {p} c d =
-    let q = past-done (readTerms ctx [] n s first) d in
-    let f = number-got wrong least most 1 s at c .0 in
-    let z : first ≡ first + 3 * 0 = omega arith in
-    let v = terms-are ctx s first 0 n {g = q .got} (rw (← z) (q .read)) in
-    q .read ∙ ap done (both (q .got) (v ∙ rw (ap (λ g. g .value) f, ap (λ g. g .next) f)) (same (q .rest)))
-  where
-    both : (g : Got (List Term)) {ts : List Term} {p : ℕ} → g .value ≡ ts → g .next ≡ p → g ≡ record { value = ts; next = p }
-    both g e e′ = rw (← e, ← e′)
+  module _ {p : ℕ} (terms : past (readTerms ctx [] n s first) ≡ done p) where
+    pub constant-refused : {why d : ℕ} → constant s p ≡ refused why d → readComparison ctx s at ≡ refused why d
+    unfolding readComparison count numberFrom constant
+    constant-refused e = let q = past-done (readTerms ctx [] n s first) terms in rw (counted, q .read, same (q .rest), e)
+
+    read : (h : Got (List Term)) → readTerms ctx [] n s first ≡ done h → h .next ≡ p → {k : ℤ} {end : ℕ} → constant s p ≡ done (record { value = k; next = end })
+        → readComparison ctx s at ≡ done (record { value = record { terms = h .value; constant = k }; next = end })
+    unfolding readComparison count numberFrom constant
+    read h r x e = rw (counted, r, x, e)
+
+    -- its terms are those that stand there
+    pub comparison-done : {k : ℤ} {end : ℕ} → constant s p ≡ done (record { value = k; next = end })
+        → readComparison ctx s at ≡ done (record { value = record { terms = termsAt s at; constant = k }; next = end })
+    comparison-done e =
+        let q = past-done (readTerms ctx [] n s first) terms in
+        let r = read (q .got) (q .read) (same (q .rest)) e in
+        rw (← comparison-read ctx s at _ r .terms) r

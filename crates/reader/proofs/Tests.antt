@@ -1,5 +1,5 @@
 -- A test `a < b` of signed numbers, as the definitions have it. Assumes nothing.
-use mathlib.Core.Path.{_≡_, refl, _∙_}
+use mathlib.Core.Path.{_≡_, refl}
 use mathlib.Core.Bool.{Bool, true, false, not}
 use Prim.Native.Nat.{_<_, _^_}
 use lib.IntN.{ℤ}

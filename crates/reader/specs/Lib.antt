@@ -1,3 +1,3 @@
 pub mod Said
 pub mod Parts
-pub mod Plain
+pub mod Seen

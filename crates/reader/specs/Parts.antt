@@ -33,3 +33,7 @@ readTerm ctx seen = do
   a ← coefficient
   x ← variable ctx seen
   give (record { coef = a; var = x })
+
+-- a comparison's constant
+unfoldable pub constant : Reader ℤ
+constant = asked 7 (within (neg 1000000) (pos 1000000)) (signed 4)

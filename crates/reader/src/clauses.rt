@@ -18,14 +18,8 @@ fn boolean_at(rules: &[u8], known: Context, kind: u32, at: usize) -> LiteralRead
     requires { ⌜ kind ≤ 1 ⌝ }
     ensures { λ r. ⌜ (saidLiteral (now (rules .entry)) r ≡ ofKind (contextOf known) kind (now (rules .entry)) at) × Placed at r ⌝ }
 {
-    match number_at(
-        rules,
-        at,
-        2,
-        1,
-        known.bools,
-        Refusal::LiteralWrong { place: at },
-    ) {
+    let wrong = Refusal::LiteralWrong { place: at };
+    match number_at(rules, at, 2, 1, known.bools, wrong) {
         Number::Value { value, next } => {
             if kind == 0 {
                 LiteralRead::Got(Literal::Boolean(value), next)

@@ -5,9 +5,9 @@ ghost use lib.ListN.{length};
 ghost use Rattle.definitions.specs.Tools.{[], any, eqb};
 ghost use Rattle.definitions.specs.Board.{atMost};
 ghost use Rattle.definitions.specs.Reading.{mapped, readTerms, readComparison};
-ghost use Rattle.reader.specs.Said.{contextOf, saidStep, saidLiteral, Placed};
-ghost use Rattle.reader.specs.Parts.{past, coefficient, variable, readTerm};
-ghost use Rattle.reader.specs.Plain.{seenAt};
+ghost use Rattle.reader.specs.Said.{contextOf, saidWhole, saidStep, saidLiteral, Placed};
+ghost use Rattle.reader.specs.Parts.{past, coefficient, variable, readTerm, constant};
+ghost use Rattle.reader.specs.Seen.{seenAt};
 use super::Context;
 use super::Literal;
 use super::LiteralRead;
@@ -95,19 +95,19 @@ fn past_terms(rules: &[u8], known: Context, first: usize, n: usize) -> Step
     Step::Next(place)
 }
 
+fn constant_at(rules: &[u8], at: usize) -> Whole
+    ensures { λ r. ⌜ saidWhole r ≡ constant (now (rules .entry)) at ⌝ }
+{
+    let wrong = Refusal::TermWrong { place: at };
+    whole_at(rules, at, 4, -1000000, 1000000, wrong)
+}
+
 pub fn comparison_at(rules: &[u8], known: Context, at: usize) -> LiteralRead
     ensures { λ r. ⌜ (saidLiteral (now (rules .entry)) r ≡ mapped atMost (readComparison (contextOf known)) (now (rules .entry)) at) × Placed at r ⌝ }
 {
     match number_at(rules, at, 1, 1, 3, Refusal::CountWrong { place: at }) {
         Number::Value { value, next } => match past_terms(rules, known, next, value as usize) {
-            Step::Next(place) => match whole_at(
-                rules,
-                place,
-                4,
-                -1000000,
-                1000000,
-                Refusal::TermWrong { place: place },
-            ) {
+            Step::Next(place) => match constant_at(rules, place) {
                 Whole::Value { value, next } => LiteralRead::Got(
                     Literal::Comparison {
                         place: at,

@@ -2,7 +2,7 @@
 use borrow.Author.Needs.{needs}
 use native.Mathlib.Omega.{arith}
 use mir.Facts.{toZ-ofZ}
-use Rattle.fields.proofs.Laws.{big-below}
+use Rattle.laws.specs.Readings.{big-below}
 use Rattle.fields.proofs.plain_signed.Statement.{statement}
 use Rattle.fields.proofs.plain_signed.Tie as tie
 
@@ -11,7 +11,7 @@ plain-requires c κs = search needs
 
 twos-complement-requires : tie.Need-twos-complement-requires
 twos-complement-requires c κs =
-    (omega arith, rw (c .plain .ensures) (big-below _ _ (c .before .shared-slice-known .given) _))
+    (omega arith, rw (c .plain .ensures) (big-below _ (λ i. c .before .shared-slice-known .given i .fits) _ _))
 
 returns : tie.Need-returns
 returns c =

@@ -2,8 +2,9 @@
 use borrow.Author.Needs.{needs}
 use mathlib.Core.Path.{ap}
 use mir.Facts.{toZ-ofZ}
-use Rattle.definitions.specs.Reading.{unsigned, signed}
-use Rattle.fields.proofs.Laws.{told, unsigned-got, big-below}
+use Rattle.laws.specs.Readings.{big-below}
+use Rattle.definitions.specs.Reading.{signed}
+use Rattle.fields.proofs.Laws.{told, unsigned-got}
 use Rattle.fields.specs.Said.{saidUnsigned}
 use Rattle.fields.proofs.signed_at.Statement.{statement}
 use Rattle.fields.proofs.signed_at.Tie as tie
@@ -24,7 +25,7 @@ returns c =
 
 twos-complement-requires : tie.Need-twos-complement-requires
 twos-complement-requires c κs =
-    (c .before .before .before .before .before .pre, rw (ap (λ g. g .value) (unsigned-got _ _ _ (told (saidUnsigned (c .before .before .before .before .before .args .at)) (c .before .before .before .unsigned-at .ensures) (c .before .value .given .1)) .0)) (big-below _ _ (c .before .before .before .before .shared-slice-known .given) _))
+    (c .before .before .before .before .before .pre, rw (ap (λ g. g .value) (unsigned-got _ _ _ (told (saidUnsigned (c .before .before .before .before .before .args .at)) (c .before .before .before .unsigned-at .ensures) (c .before .value .given .1)) .0)) (big-below _ (λ i. c .before .before .before .before .shared-slice-known .given i .fits) _ _))
 
 returns-2 : tie.Need-returns-2
 unfolding signed

@@ -2,17 +2,15 @@
 use borrow.Author.Needs.{needs}
 use mathlib.Core.Path.{refl, ap}
 use native.Mathlib.Omega.{arith}
-use Rattle.definitions.specs.Tools.{[]}
 use mir.Facts.{toZ-ofZ}
-use Rattle.definitions.specs.Reading.{count, readTerms, readComparison}
+use Rattle.definitions.specs.Reading.{count, readComparison}
 use Rattle.definitions.specs.declared.Refusal.{Refusal}
 use Rattle.fields.proofs.Laws.{told}
-use Rattle.reader.specs.Said.{contextOf, saidNumber, saidWhole, saidStep}
-use Rattle.reader.specs.Parts.{numberFrom, wholeFrom}
+use Rattle.reader.specs.Said.{saidNumber, saidWhole, saidStep}
+use Rattle.reader.specs.Parts.{numberFrom}
 use Rattle.reader.proofs.Tests.{bound-fits}
-use Rattle.reader.proofs.Steps.{past-refused}
 use Rattle.reader.proofs.Fields.{number-got}
-use Rattle.reader.proofs.Terms.{terms-placed}
+use Rattle.reader.proofs.Terms.{terms-refused, constant-refused, comparison-done}
 use Rattle.reader.proofs.comparisons.comparison_at.Statement.{statement}
 use Rattle.reader.proofs.comparisons.comparison_at.Tie as tie
 
@@ -33,8 +31,8 @@ past-terms-requires c κs =
 enum-known-place : tie.Need-enum-known-place
 enum-known-place c = search needs
 
-whole-at-requires : tie.Need-whole-at-requires
-whole-at-requires c κs = search needs
+constant-at-requires : tie.Need-constant-at-requires
+constant-at-requires c κs = search needs
 
 enum-known-value-2 : tie.Need-enum-known-value-2
 enum-known-value-2 c = search needs
@@ -49,24 +47,19 @@ enum-known-r-3 : tie.Need-enum-known-r-3
 enum-known-r-3 c = search needs
 
 returns : tie.Need-returns
-unfolding count readComparison numberFrom wholeFrom
 returns c =
-    let n = told saidNumber (c .before .before .before .before .before .before .before .before .before .before .before .number-at .ensures) (c .before .before .before .before .before .before .before .before .before .value .given .1) in
-    (rw (n, terms-placed _ 1 3 _ _ (c .before .before .before .before .before .before .before .before .before .before .before .before .before .args .at) n (told saidStep (c .before .before .before .before .before .before .before .past-terms .ensures) (c .before .before .before .before .before .place .given .1)), told saidWhole (c .before .before .before .whole-at .ensures) (c .before .value2 .given .1), toZ-ofZ (bound-fits (c .before .value2 .given .0 .0) (c .known-told3 .given .0 .1))), refl)
+    (rw (comparison-done _ _ _ (told saidNumber (c .before .before .before .before .before .before .before .before .before .before .before .number-at .ensures) (c .before .before .before .before .before .before .before .before .before .value .given .1)) (told saidStep (c .before .before .before .before .before .before .before .past-terms .ensures) (c .before .before .before .before .before .place .given .1)) (told saidWhole (c .before .before .before .constant-at .ensures) (c .before .value2 .given .1)), toZ-ofZ (bound-fits (c .before .value2 .given .0 .0) (c .known-told3 .given .0 .1))), refl)
 
 returns-2 : tie.Need-returns-2
-unfolding count readComparison numberFrom wholeFrom
 returns-2 c =
-    let n = told saidNumber (c .before .before .before .before .before .before .before .before .before .before .before .number-at .ensures) (c .before .before .before .before .before .before .before .before .before .value .given .1) in
-    (rw (n, terms-placed _ 1 3 _ _ (c .before .before .before .before .before .before .before .before .before .before .before .before .before .args .at) n (told saidStep (c .before .before .before .before .before .before .before .past-terms .ensures) (c .before .before .before .before .before .place .given .1)), told saidWhole (c .before .before .before .whole-at .ensures) (c .before .r .given .1)), tt)
+    (rw (constant-refused _ _ _ (told saidNumber (c .before .before .before .before .before .before .before .before .before .before .before .number-at .ensures) (c .before .before .before .before .before .before .before .before .before .value .given .1)) (told saidStep (c .before .before .before .before .before .before .before .past-terms .ensures) (c .before .before .before .before .before .place .given .1)) (told saidWhole (c .before .before .before .constant-at .ensures) (c .before .r .given .1))), tt)
 
 returns-3 : tie.Need-returns-3
-unfolding count readComparison numberFrom wholeFrom
 returns-3 c =
-    (rw (told saidNumber (c .before .before .before .before .before .before .before .number-at .ensures) (c .before .before .before .before .before .value .given .1), past-refused (readTerms (contextOf (c .before .before .before .before .before .before .before .before .before .args .known)) [] (c .before .before .before .before .before .value .given .0 .0) (c .before .before .before .before .before .before .before .before .before .args .rules .now) (c .before .before .before .before .before .value .given .0 .1 .0)) (told saidStep (c .before .before .before .past-terms .ensures) (c .before .r2 .given .1))), tt)
+    (rw (terms-refused _ _ _ (told saidNumber (c .before .before .before .before .before .before .before .number-at .ensures) (c .before .before .before .before .before .value .given .1)) (told saidStep (c .before .before .before .past-terms .ensures) (c .before .r2 .given .1))), tt)
 
 returns-4 : tie.Need-returns-4
-unfolding count readComparison numberFrom wholeFrom
+unfolding count readComparison numberFrom
 returns-4 c =
     (rw (told saidNumber (c .before .before .before .number-at .ensures) (c .before .r3 .given .1)), tt)
 
@@ -79,7 +72,7 @@ comparison-at-spec =
     cast-past-terms
     past-terms-requires
     enum-known-place
-    whole-at-requires
+    constant-at-requires
     enum-known-value-2
     enum-known-r
     enum-known-r-2

@@ -1,12 +1,12 @@
 -- What is left to look at says as much as all.
 use borrow.Author.Needs.{needs}
-use Prim.Native.Nat.{_≤_, _*_, _+_, _-_}
+use Prim.Native.Nat.{_≤_, _-_}
 use mathlib.Core.Path.{_≡_, refl, sym, _∙_}
 use native.Mathlib.Omega.{arith}
 use borrow.Author.Tests.{eq-eqb, ne-eqb}
 use lib.Dec.{eqb}
 use Rattle.definitions.specs.Tools.{any}
-use Rattle.reader.specs.Plain.{seenAt}
+use Rattle.reader.specs.Seen.{seenAt}
 use Rattle.reader.proofs.Terms.{seen-turn, seen-none}
 use Rattle.reader.proofs.comparisons.is_repeated.Statement.{statement}
 use Rattle.reader.proofs.comparisons.is_repeated.Tie as tie

@@ -1,8 +1,7 @@
 -- After i terms those that are left read as all of them do.
 use borrow.Author.Needs.{needs}
-use Prim.Native.Nat.{_*_, _+_, _-_}
-use mathlib.Core.Path.{sym, _∙_}
-use native.Mathlib.Omega.{arith}
+use Prim.Native.Nat.{_-_}
+use mathlib.Core.Path.{sym}
 use Rattle.fields.proofs.Laws.{told}
 use Rattle.reader.specs.Said.{contextOf, saidStep}
 use Rattle.reader.proofs.Terms.{Passing, passing-none, passing-more, passing-stop, passing-all}

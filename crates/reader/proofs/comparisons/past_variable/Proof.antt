@@ -1,7 +1,6 @@
 -- Known first, then not seen before.
 use borrow.Author.Needs.{needs}
 use borrow.Author.Tests.{lt-ltb, le-ltb}
-use Rattle.definitions.specs.Reading.{asked}
 use Rattle.fields.proofs.Laws.{told}
 use Rattle.fields.specs.Said.{saidUnsigned}
 use Rattle.reader.specs.Parts.{variable}

@@ -1,0 +1,50 @@
+// The whole record: 01's refusals 1 to 8 for every input, or its counts and the place where its clauses begin.
+ghost use mathlib.Core.Path.{_≡_};
+ghost use Rattle.definitions.specs.Operations.{readBoard};
+ghost use Rattle.opening.specs.Said.{mapDone, headerOf, saidOpening};
+use definitions::Refusal;
+use reader::Number;
+
+pub mod body; // body.rt: what follows the counts
+pub mod head; // head.rt: version, stated length and counts
+pub mod table; // table.rt: the variables' bounds
+
+// The three counts and the place after them.
+pub struct Counts {
+    pub ints: u32,
+    pub bools: u32,
+    pub clauses: u32,
+}
+
+pub enum CountsRead {
+    Got(Counts, usize),
+    Refused(Refusal),
+}
+
+// What the later passes over an accepted record need: its counts, and the place where the clauses begin.
+pub struct Header {
+    pub ints: usize,
+    pub bools: usize,
+    pub clauses: usize,
+    pub rules: usize,
+}
+
+pub enum Opening {
+    Board(Header),
+    Refused(Refusal),
+}
+
+pub fn open(bytes: &[u8]) -> Opening
+    ensures { λ r. ⌜ saidOpening r ≡ mapDone headerOf (readBoard (now (bytes .entry))) ⌝ }
+{
+    match head::envelope_of(bytes) {
+        Number::Value {
+            value: version,
+            next,
+        } => match head::counts_at(bytes, next) {
+            CountsRead::Got(counts, next) => body::body_at(bytes, version, counts, next),
+            CountsRead::Refused(r) => Opening::Refused(r),
+        },
+        Number::Refused(r) => Opening::Refused(r),
+    }
+}
