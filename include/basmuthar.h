@@ -1,0 +1,130 @@
+/* basmuthar.h: five operations on board records, for programs in C and C++.
+ *
+ * A board record has bounded integer variables, Boolean variables and clauses. Basmuthar writes it as CNF by the
+ * order encoding and reads models back. The library is linked as libbasmuthar.a. It keeps nothing between calls:
+ * every list is lent by the caller.
+ *
+ * WHAT A CALLER OWES
+ *   Every pointer points to as many places as the length beside it says, and `answer` to four. No pointer is NULL,
+ *   also where its length is 0. A list that is written overlaps no other list of the same call, nor `answer`.
+ *   What the lists hold is free: every content has an answer.
+ *
+ * THE ANSWER
+ *   answer[0] is 0 where the call was accepted, and otherwise the number of the refusal.
+ *     accepted, Size and Compile:          { 0, N, M, K }
+ *     accepted, Decode, Judge and Image:   { 0, 0, 0, 0 }
+ *     refused:                             { number, detail, 0, 0 }
+ *   N is how many SAT variables there are, M how many clauses, K how many numbers the clause list has.
+ *   All four places are written by every call; what they held before does not matter.
+ *
+ * WHAT A REFUSAL LEAVES
+ *   A refused call changes nothing that was lent to it, `answer` apart. An accepted call changes exactly the places
+ *   that it is said to write.
+ *
+ * THE REFUSALS
+ *   number  when                                                                         detail
+ *        1  the record has more than 65,536 bytes                                        0
+ *        2  it has fewer than 5 bytes, or its stated length is not its length less 5     0
+ *        3  its version is not 1                                                         0
+ *        4  a count is outside its range                                                 place
+ *        5  a bound is outside its range, or an upper is below its lower                 place
+ *        6  a kind byte is above 2, or a Boolean number is outside 1 to m                place
+ *        7  a coefficient is 0 or out of range, a variable is unknown or stands twice
+ *           in a comparison, or a constant is out of range                               place
+ *        8  a field runs past the end, or bytes remain after the last clause             place
+ *        9  K is above 2,000,000,000                                                     0
+ *       10  the lent clause list is shorter than K                                       K
+ *       11  another lent list has the wrong length                                       length wanted
+ *       12  a model byte or Boolean byte is not 0 or 1                                   index
+ *       13  a clause does not hold                                                       its number from 0
+ *       14  a value is outside its bounds                                                index
+ *   m is how many Boolean variables the record has. A place is the offset in the record of the first byte of the field
+ *   that is wrong (the upper's, where it is below its lower), or of the first byte left over.
+ *   All operations look at the record first, in this order: 1; fewer than 5 bytes (2); 3; the stated length (2); the
+ *   body from left to right with 4 to 8, a field's missing bytes (8) before its value; bytes left over (8); 9. The
+ *   first condition that is met is the refusal given. What each operation tests after that stands with it.
+ */
+
+#ifndef BASMUTHAR_H
+#define BASMUTHAR_H
+
+#include <stddef.h>
+#include <stdint.h>
+
+#ifdef __cplusplus
+extern "C" {
+#endif
+
+/* The greatest number of bytes of a record that is not refused with 1. */
+#define BASMUTHAR_LONGEST_RECORD 65536
+
+/* The greatest K that is not refused with 9. */
+#define BASMUTHAR_LONGEST_LIST 2000000000
+
+/* Size: the three numbers of a record.
+ *
+ *   Reads    record.
+ *   Writes   nothing but the answer, { 0, N, M, K } where accepted.
+ *   Refuses  with 1 to 9, as said above.
+ */
+void basmuthar_size(const uint8_t *record, size_t record_len, uint64_t answer[4]);
+
+/* Compile: the clause list of a record.
+ *
+ *   Reads    record.
+ *   Writes   list[0] to list[K - 1]: each clause is its literals and then 0, a negated literal is a negative number.
+ *            Later places keep their numbers. The answer is { 0, N, M, K }, the same as Size's.
+ *   Refuses  with 1 to 9; then with 10 and detail K where list_len is below K. A longer list is welcome.
+ *
+ *   The numbers can be handed to the `add` of an IPASIR solver one after another.
+ */
+void basmuthar_compile(const uint8_t *record, size_t record_len, int32_t *list, size_t list_len, uint64_t answer[4]);
+
+/* Decode: the values of a model.
+ *
+ *   Reads    record, and model: N bytes, each 0 or 1; byte i is the truth of SAT variable i + 1.
+ *   Writes   all of values, one number for each integer variable: the least c within its bounds whose p(x,c) is true;
+ *            all of booleans, one byte for each Boolean variable, 0 or 1.
+ *   Refuses  with 1 to 9; then with 11 where model_len is not N, then where values_len is not the number of integer
+ *            variables, then where booleans_len is not the number of Boolean variables; then with 12 at the first
+ *            model byte that is neither 0 nor 1; then with 13 at the first clause of Compile's list, axioms among
+ *            them and counted from 0, none of whose literals holds in the model.
+ *
+ *   So exactly the models of the clause list are accepted, and what is written is a solution of the board.
+ */
+void basmuthar_decode(const uint8_t *record, size_t record_len, const uint8_t *model, size_t model_len,
+                      int32_t *values, size_t values_len, uint8_t *booleans, size_t booleans_len, uint64_t answer[4]);
+
+/* Judge: whether values and Booleans are a solution.
+ *
+ *   Reads    record, values (one for each integer variable) and booleans (one byte for each Boolean variable).
+ *   Writes   nothing but the answer.
+ *   Refuses  with 1 to 9; then with 11 where values_len is not the number of integer variables, then where
+ *            booleans_len is not the number of Boolean variables; then with 12 at the first Boolean byte that is
+ *            neither 0 nor 1; then with 14 at the first value outside its variable's bounds; then with 13 at the
+ *            first clause of the record, counted from 0, none of whose literals holds.
+ *
+ *   So exactly the solutions of the board are accepted.
+ */
+void basmuthar_judge(const uint8_t *record, size_t record_len, const int32_t *values, size_t values_len,
+                     const uint8_t *booleans, size_t booleans_len, uint64_t answer[4]);
+
+/* Image: the plain model of a solution.
+ *
+ *   Reads    record, values and booleans, as Judge does.
+ *   Writes   all of model, N bytes, each 0 or 1: every SAT variable is true exactly where what it stands for holds, a
+ *            Boolean variable itself, p(x,c) where x is at most c, a selector where its comparison holds.
+ *   Refuses  as Judge does, and with 11 where model_len is not N, after the lengths of values and booleans and before
+ *            12, 14 and 13.
+ *
+ *   Decode of the model gives the same values and Booleans back.
+ */
+void basmuthar_image(const uint8_t *record, size_t record_len, const int32_t *values, size_t values_len,
+                     const uint8_t *booleans, size_t booleans_len, uint8_t *model, size_t model_len,
+                     uint64_t answer[4]);
+
+#ifdef __cplusplus
+}
+#endif
+
+#endif /* BASMUTHAR_H */

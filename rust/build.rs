@@ -1,0 +1,28 @@
+//! Finds libbasmuthar.a: in the folder that BASMUTHAR_LIB_DIR names, or else in ../target/staticlib.
+
+use std::env;
+use std::path::{Path, PathBuf};
+use std::process;
+
+fn main() {
+    println!("cargo:rerun-if-env-changed=BASMUTHAR_LIB_DIR");
+    let folder = library_folder();
+    let library = folder.join("libbasmuthar.a");
+    println!("cargo:rerun-if-changed={}", library.display());
+    if !library.exists() {
+        eprintln!("There is no {}.", library.display());
+        eprintln!(
+            "Make it with `rt staticlib basmuthar`, or name its folder in BASMUTHAR_LIB_DIR."
+        );
+        process::exit(1);
+    }
+    println!("cargo:rustc-link-search=native={}", folder.display());
+    println!("cargo:rustc-link-lib=static=basmuthar");
+}
+
+/// A relative folder is meant from this crate's own.
+fn library_folder() -> PathBuf {
+    let here = env::var_os("CARGO_MANIFEST_DIR").expect("cargo names the crate's folder");
+    let named = env::var_os("BASMUTHAR_LIB_DIR").unwrap_or_else(|| "../target/staticlib".into());
+    Path::new(&here).join(named)
+}

@@ -1,0 +1,12 @@
+//! `board text`: a record as a readable board.
+
+use super::put;
+use crate::reading::board_of;
+use crate::wording::board_words;
+use std::fs;
+
+pub fn run(file: &str) -> Result<bool, String> {
+    let record = fs::read(file).map_err(|error| format!("{file}: {error}"))?;
+    basmuthar::size(&record).map_err(|refusal| format!("{file}: {refusal}"))?;
+    put(board_words(&board_of(&record)).as_bytes())
+}

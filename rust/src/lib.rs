@@ -1,0 +1,60 @@
+//! Board records to CNF by the order encoding, and models back: a safe wrapper of the proved library.
+//!
+//! A record has bounded integer variables, Boolean variables and clauses. Five operations stand over it:
+//!
+//! | operation | from | gives |
+//! |---|---|---|
+//! | [`size`] | a record | the three numbers N, M and K ([`Sizes`]) |
+//! | [`compile`] | a record | the clause list, written to a lent list |
+//! | [`decode`] | a record and a model | the values and Boolean bytes of the solution that the model stands for |
+//! | [`judge`] | a record, values and Boolean bytes | whether they are a solution |
+//! | [`image`] | a record, values and Boolean bytes | the plain model of that solution |
+//!
+//! Every operation takes every input: what is wrong is answered with a [`Refusal`], and then nothing that was lent
+//! has changed.
+//!
+//! # A worked example
+//!
+//! Two starts x and y in 0..2 that may not be equal: x - y at most -1, or -x + y at most -1.
+//!
+//! ```
+//! let record = [
+//!     1, 0, 0, 0, 0x27, // the version, and the length of what follows
+//!     0, 2, 0, 0, 0, 1, // two integer variables, no Boolean variable, one clause
+//!     0, 0, 0, 2, 0, 0, 0, 2, // x in 0..2, y in 0..2
+//!     2, // a clause of two literals, both of them comparisons
+//!     2, 2, 1, 0, 0, 0xFF, 0, 1, 0xFF, 0xFF, 0xFF, 0xFF, // x - y at most -1
+//!     2, 2, 0xFF, 0, 0, 1, 0, 1, 0xFF, 0xFF, 0xFF, 0xFF, // -x + y at most -1
+//! ];
+//!
+//! // The clause list, for a solver.
+//! let sizes = basmuthar::size(&record)?;
+//! assert_eq!((sizes.variables, sizes.clauses, sizes.numbers), (10, 17, 53));
+//! let mut list = vec![0; sizes.numbers];
+//! basmuthar::compile(&record, &mut list)?;
+//! assert_eq!(list[..4], [-1, 0, 4, 0]);
+//!
+//! // A solver's model, read back.
+//! let model = [0, 1, 1, 1, 0, 0, 1, 1, 1, 0];
+//! let (mut values, mut booleans) = ([0; 2], []);
+//! basmuthar::decode(&record, &model, &mut values, &mut booleans)?;
+//! assert_eq!(values, [0, 1]);
+//!
+//! // It is a solution, and this model is its plain one.
+//! basmuthar::judge(&record, &values, &booleans)?;
+//! let mut plain = vec![0; sizes.variables];
+//! basmuthar::image(&record, &values, &booleans, &mut plain)?;
+//! assert_eq!(plain, model);
+//!
+//! // Equal starts are no solution.
+//! let refusal = basmuthar::judge(&record, &[1, 1], &booleans).unwrap_err();
+//! assert_eq!(refusal.to_string(), "refusal 13: a clause does not hold, clause 0 counted from 0");
+//! # Ok::<(), basmuthar::Refusal>(())
+//! ```
+
+mod library;
+mod operations;
+mod refusal;
+
+pub use operations::{compile, decode, image, judge, size, Sizes};
+pub use refusal::Refusal;

@@ -1,0 +1,50 @@
+//! The C functions of libbasmuthar.a, as include/basmuthar.h has them.
+
+/// {0, N, M, K} (zeros for Decode, Judge and Image), or {refusal number, detail, 0, 0}.
+pub type Answer = [u64; 4];
+
+extern "C" {
+    pub fn basmuthar_size(record: *const u8, record_len: usize, answer: *mut Answer);
+
+    pub fn basmuthar_compile(
+        record: *const u8,
+        record_len: usize,
+        list: *mut i32,
+        list_len: usize,
+        answer: *mut Answer,
+    );
+
+    pub fn basmuthar_decode(
+        record: *const u8,
+        record_len: usize,
+        model: *const u8,
+        model_len: usize,
+        values: *mut i32,
+        values_len: usize,
+        booleans: *mut u8,
+        booleans_len: usize,
+        answer: *mut Answer,
+    );
+
+    pub fn basmuthar_judge(
+        record: *const u8,
+        record_len: usize,
+        values: *const i32,
+        values_len: usize,
+        booleans: *const u8,
+        booleans_len: usize,
+        answer: *mut Answer,
+    );
+
+    pub fn basmuthar_image(
+        record: *const u8,
+        record_len: usize,
+        values: *const i32,
+        values_len: usize,
+        booleans: *const u8,
+        booleans_len: usize,
+        model: *mut u8,
+        model_len: usize,
+        answer: *mut Answer,
+    );
+}

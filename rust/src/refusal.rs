@@ -1,0 +1,131 @@
+//! A refusal: its number, its detail, and the sentence that says both in plain words.
+
+use std::error::Error;
+use std::fmt;
+
+/// What is wrong with an input, by the number in the table of refusals, and where.
+#[derive(Debug, Clone, Copy, PartialEq, Eq)]
+pub struct Refusal {
+    /// The number of the refusal, from 1.
+    pub number: u64,
+    /// The place, length, index or clause number that goes with it; 0 where nothing does.
+    pub detail: u64,
+}
+
+/// What the detail of a refusal is.
+#[derive(Debug, Clone, Copy)]
+enum Detail {
+    Nothing,
+    Place,
+    Length,
+    Index,
+    Clause,
+}
+
+struct Row {
+    number: u64,
+    words: &'static str,
+    detail: Detail,
+}
+
+const fn row(number: u64, words: &'static str, detail: Detail) -> Row {
+    Row { number, words, detail }
+}
+
+const ROWS: [Row; 14] = [
+    row(1, "a record above 65,536 bytes", Detail::Nothing),
+    row(
+        2,
+        "a record of fewer than 5 bytes, or a stated length that is not the record's length less 5",
+        Detail::Nothing,
+    ),
+    row(3, "a version other than 1", Detail::Nothing),
+    row(4, "a count outside its range", Detail::Place),
+    row(
+        5,
+        "a bound outside its range, or an upper below its lower",
+        Detail::Place,
+    ),
+    row(
+        6,
+        "a kind byte above 2, or a Boolean number that the board does not have",
+        Detail::Place,
+    ),
+    row(
+        7,
+        "a coefficient 0 or out of range, an unknown or repeated variable, or a constant out of range",
+        Detail::Place,
+    ),
+    row(
+        8,
+        "a field that runs past the end, or bytes left over after the last clause",
+        Detail::Place,
+    ),
+    row(
+        9,
+        "a clause list of more than 2,000,000,000 numbers",
+        Detail::Nothing,
+    ),
+    row(10, "a lent clause list that is too short", Detail::Length),
+    row(11, "a lent list of the wrong length", Detail::Length),
+    row(12, "a model or Boolean byte that is not 0 or 1", Detail::Index),
+    row(13, "a clause does not hold", Detail::Clause),
+    row(14, "a value outside its bounds", Detail::Index),
+];
+
+impl Refusal {
+    /// Whether the detail is the offset in the record of what is wrong.
+    pub fn has_place(&self) -> bool {
+        matches!(self.row(), Some(row) if matches!(row.detail, Detail::Place))
+    }
+
+    fn row(&self) -> Option<&'static Row> {
+        ROWS.iter().find(|row| row.number == self.number)
+    }
+}
+
+impl fmt::Display for Refusal {
+    fn fmt(&self, out: &mut fmt::Formatter) -> fmt::Result {
+        let Refusal { number, detail } = self;
+        let Some(row) = self.row() else {
+            return write!(out, "refusal {number}, detail {detail}");
+        };
+        write!(out, "refusal {number}: {}", row.words)?;
+        match row.detail {
+            Detail::Nothing => Ok(()),
+            Detail::Place => write!(out, ", at byte {detail} of the record"),
+            Detail::Length => write!(out, ", length {detail} is wanted"),
+            Detail::Index => write!(out, ", at index {detail} counted from 0"),
+            Detail::Clause => write!(out, ", clause {detail} counted from 0"),
+        }
+    }
+}
+
+impl Error for Refusal {}
+
+#[cfg(test)]
+mod tests {
+    use super::*;
+
+    #[test]
+    fn every_number_has_its_sentence() {
+        for (index, row) in ROWS.iter().enumerate() {
+            assert_eq!(row.number, index as u64 + 1);
+        }
+    }
+
+    #[test]
+    fn a_sentence_names_the_refusal_and_the_place() {
+        let refusal = Refusal { number: 5, detail: 13 };
+        assert_eq!(
+            refusal.to_string(),
+            "refusal 5: a bound outside its range, or an upper below its lower, at byte 13 of the record"
+        );
+    }
+
+    #[test]
+    fn an_unknown_number_is_still_said() {
+        let refusal = Refusal { number: 99, detail: 7 };
+        assert_eq!(refusal.to_string(), "refusal 99, detail 7");
+    }
+}

@@ -1,0 +1,5 @@
+//! Tests of the program `board`, run as a user runs it.
+
+mod documents;
+mod run;
+mod solver;

@@ -1,0 +1,14 @@
+//! Tests of the wrapper: the five operations, called as a user of the crate calls them.
+
+mod cases;
+mod lent;
+mod pairing;
+mod refusals;
+mod trial;
+
+use basmuthar::Refusal;
+
+/// What a refused call answers.
+fn refused<T>(number: u64, detail: u64) -> Result<T, Refusal> {
+    Err(Refusal { number, detail })
+}

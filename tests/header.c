@@ -1,0 +1,69 @@
+/* Calls the five functions as a C or C++ program does: cases 12, 13 and 14 of the scope paper, and some refusals. */
+
+#include "basmuthar.h"
+
+#include <stdio.h>
+#include <string.h>
+
+/* x, y in 0..2; x - y at most -1, or -x + y at most -1. */
+static const uint8_t RECORD[44] = {
+    1, 0, 0, 0, 0x27, 0, 2, 0, 0, 0, 1, 0, 0, 0, 2, 0, 0, 0, 2, 2, 2, 2,
+    1, 0, 0, 0xFF, 0, 1, 0xFF, 0xFF, 0xFF, 0xFF, 2, 2, 0xFF, 0, 0, 1, 0, 1, 0xFF, 0xFF, 0xFF, 0xFF};
+
+static const uint8_t MODEL[10] = {0, 1, 1, 1, 0, 0, 1, 1, 1, 0};
+
+static int failures = 0;
+
+static void expect(const char *what, int is_so) {
+    if (!is_so) {
+        printf("not so: %s\n", what);
+        failures++;
+    }
+}
+
+static int answers(const uint64_t answer[4], uint64_t first, uint64_t second, uint64_t third, uint64_t fourth) {
+    return answer[0] == first && answer[1] == second && answer[2] == third && answer[3] == fourth;
+}
+
+static void size_and_compile(void) {
+    uint64_t answer[4] = {7, 7, 7, 7};
+    int32_t list[54];
+    int i;
+    basmuthar_size(RECORD, sizeof RECORD, answer);
+    expect("size is 10 17 53", answers(answer, 0, 10, 17, 53));
+    basmuthar_size(RECORD, 4, answer);
+    expect("four bytes are refused with 2", answers(answer, 2, 0, 0, 0));
+    for (i = 0; i < 54; i++) list[i] = 77;
+    basmuthar_compile(RECORD, sizeof RECORD, list, 52, answer);
+    expect("a list of 52 is refused with 10, 53", answers(answer, 10, 53, 0, 0));
+    expect("and is left", list[0] == 77 && list[51] == 77);
+    basmuthar_compile(RECORD, sizeof RECORD, list, 54, answer);
+    expect("a list of 54 is accepted", answers(answer, 0, 10, 17, 53));
+    expect("and its last place is left", list[0] == -1 && list[51] == 5 && list[52] == 0 && list[53] == 77);
+}
+
+static void decode_judge_and_image(void) {
+    uint64_t answer[4] = {7, 7, 7, 7};
+    int32_t values[2] = {77, 77};
+    uint8_t none[1] = {77}, model[10];
+    basmuthar_decode(RECORD, sizeof RECORD, MODEL, 10, values, 2, none, 0, answer);
+    expect("the model is accepted", answers(answer, 0, 0, 0, 0));
+    expect("and is x = 0, y = 1", values[0] == 0 && values[1] == 1 && none[0] == 77);
+    basmuthar_judge(RECORD, sizeof RECORD, values, 2, none, 0, answer);
+    expect("the values are a solution", answers(answer, 0, 0, 0, 0));
+    basmuthar_image(RECORD, sizeof RECORD, values, 2, none, 0, model, 10, answer);
+    expect("their image is accepted", answers(answer, 0, 0, 0, 0));
+    expect("and is the model", memcmp(model, MODEL, 10) == 0);
+    model[9] = 1;
+    basmuthar_decode(RECORD, sizeof RECORD, model, 10, values, 2, none, 0, answer);
+    expect("both selectors are refused with 13, 15", answers(answer, 13, 15, 0, 0));
+    values[1] = 0;
+    basmuthar_judge(RECORD, sizeof RECORD, values, 2, none, 0, answer);
+    expect("equal starts are refused with 13, 0", answers(answer, 13, 0, 0, 0));
+}
+
+int main(void) {
+    size_and_compile();
+    decode_judge_and_image();
+    return failures != 0;
+}
