@@ -89,6 +89,6 @@ pub fn signed_at(bytes: &[u8], at: usize, width: usize) -> Signed
     };
     Signed::Value {
         value: twos_complement(value, width),
-        next: next,
+        next,
     }
 }

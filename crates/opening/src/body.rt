@@ -58,7 +58,7 @@ pub fn body_at(bytes: &[u8], version: u32, counts: Counts, at: usize) -> Opening
     ensures { λ r. ⌜ saidOpening r ≡ bodyFrom version counts (now (bytes .entry)) at ⌝ }
 {
     let known = Context {
-        version: version,
+        version,
         ints: counts.ints,
         bools: counts.bools,
     };
@@ -70,7 +70,7 @@ pub fn body_at(bytes: &[u8], version: u32, counts: Counts, at: usize) -> Opening
                         ints: counts.ints as usize,
                         bools: counts.bools as usize,
                         clauses: counts.clauses as usize,
-                        rules: rules,
+                        rules,
                     })
                 } else {
                     Opening::Refused(Refusal::EndWrong { place: end })

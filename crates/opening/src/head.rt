@@ -50,9 +50,9 @@ pub fn counts_at(bytes: &[u8], at: usize) -> CountsRead
                     next,
                 } => CountsRead::Got(
                     Counts {
-                        ints: ints,
-                        bools: bools,
-                        clauses: clauses,
+                        ints,
+                        bools,
+                        clauses,
                     },
                     next,
                 ),

@@ -29,10 +29,7 @@ pub fn number_at(
     if most < value {
         return Number::Refused(wrong);
     }
-    Number::Value {
-        value: value,
-        next: next,
-    }
+    Number::Value { value, next }
 }
 
 pub fn whole_at(
@@ -55,8 +52,5 @@ pub fn whole_at(
     if most < value {
         return Whole::Refused(wrong);
     }
-    Whole::Value {
-        value: value,
-        next: next,
-    }
+    Whole::Value { value, next }
 }
