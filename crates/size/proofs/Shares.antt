@@ -10,19 +10,18 @@ use lib.IntN.{ℤ}
 use mir.Syntax.{w64}
 use mir.Val.{Fits}
 use lib.Signed.{leZ, _≤ℤ_, _<ℤ_}
-use Rattle.definitions.specs.Tools.{sum, if_then_else_}
 use Rattle.definitions.specs.Board.{Board, Clause, isTrue, isFalse, atMost, boundsOf}
 use Rattle.definitions.specs.Board as board
 use Rattle.definitions.specs.Result.{done}
 use Rattle.definitions.specs.Reading.{Context, times, readLiteral, readClause}
-use Rattle.definitions.specs.Encoding.{SatClause, sharp, literalNumber, least, tuplesOf}
+use Rattle.definitions.specs.Encoding.{sharp, literalNumber, least, tuplesOf}
 use Rattle.laws.specs.Whole.{whole}
 use Rattle.laws.specs.Admitted.{Admitted, GoodComparison}
 use Rattle.laws.specs.Boards.{boardOf}
 use Rattle.laws.specs.Grammar.{finds}
 use Rattle.laws.specs.Reread as reread
 use Rattle.laws.specs.Reread.{BoardRead, tableEnd}
-use Rattle.laws.specs.Pieces.{Piece, line, under, lineFrom, piecesFrom, left, left-start}
+use Rattle.laws.specs.Pieces.{Piece, line, lineFrom, piecesFrom, left, left-start}
 use Rattle.laws.specs.Ahead.{gotten, length-times, literalsAt, clausesAt, coming}
 use Rattle.laws.specs.Sizes.{pieceCount, piecePlaces, pieceSelectors, N-sum, M-sum, K-sum}
 use Rattle.laws.specs.Fits.{tuples-fit, N-fits, M-fits, K-fits}

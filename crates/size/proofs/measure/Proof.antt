@@ -1,13 +1,10 @@
+-- `size::measure` meets its contract.
 use Rattle.fields.proofs.Laws.{told}
 use Rattle.opening.specs.Said.{saidOpening}
 use Rattle.size.proofs.Answers.{opened, measured, too-long, unopened}
 use borrow.Author.Needs.{needs}
 use Rattle.size.proofs.measure.Statement.{statement}
 use Rattle.size.proofs.measure.Tie as tie
-use Rattle.size.proofs.measure.Reads as reads
-use Rattle.size.proofs.measure.Lts as lts
-use Rattle.opening.proofs.open.Reads as open-reads
-use Rattle.size.proofs.sums.totals_of.Reads as totals-of-reads
 
 open-requires : tie.Need-open-requires
 open-requires c κs = search needs

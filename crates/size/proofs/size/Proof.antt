@@ -1,12 +1,10 @@
+-- `size::size` meets its contract.
 use Rattle.fields.proofs.Laws.{told}
 use Rattle.size.specs.Said.{saidMeasured}
 use Rattle.size.proofs.Answers.{sized, unsized}
 use borrow.Author.Needs.{needs}
 use Rattle.size.proofs.size.Statement.{statement}
 use Rattle.size.proofs.size.Tie as tie
-use Rattle.size.proofs.size.Reads as reads
-use Rattle.size.proofs.size.Lts as lts
-use Rattle.size.proofs.measure.Reads as measure-reads
 
 measure-requires : tie.Need-measure-requires
 measure-requires c κs = search needs

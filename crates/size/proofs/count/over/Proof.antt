@@ -1,3 +1,4 @@
+-- `size::count::over` meets its contract.
 use mathlib.Core.Path.{_≡_, ap, _∙_}
 use native.Mathlib.Omega.{arith}
 use Prim.Native.Nat.{_+_}
@@ -5,16 +6,13 @@ use lib.IntN.{pos, natAbs}
 use Rattle.size.specs.Places.{over}
 use lib.Signed.{_≤ℤ_, yes-nonNeg, pos-natAbs}
 use mir.Syntax.{w32}
-use mir.Val.{SFits, toZ, ofZ}
+use mir.Val.{SFits}
 use mir.Facts.{toZ-ofZ, fits-natAbs}
 use Rattle.laws.specs.Whole.{whole}
 use Rattle.size.proofs.Tuples.{over-sign, over-near, over-is}
 use borrow.Author.Needs.{needs}
 use Rattle.size.proofs.count.over.Statement.{statement}
 use Rattle.size.proofs.count.over.Tie as tie
-use Rattle.size.proofs.count.over.Reads as reads
-use Rattle.size.proofs.count.over.Lts as lts
-use Rattle.walk.proofs.tuples.over_least.Reads as over-least-reads
 
 over-least-requires : tie.Need-over-least-requires
 over-least-requires c κs = search needs

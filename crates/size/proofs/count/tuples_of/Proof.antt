@@ -1,14 +1,10 @@
+-- `size::count::tuples_of` meets its contract.
 use mathlib.Core.Path.{sym, _∙_}
 use native.Mathlib.Omega.{arith}
 use Rattle.size.proofs.Tuples.{wide-some, over-some, tuples-are}
 use borrow.Author.Needs.{needs}
 use Rattle.size.proofs.count.tuples_of.Statement.{statement}
 use Rattle.size.proofs.count.tuples_of.Tie as tie
-use Rattle.size.proofs.count.tuples_of.Reads as reads
-use Rattle.size.proofs.count.tuples_of.Lts as lts
-use Rattle.size.proofs.count.over.Reads as over-reads
-use Rattle.size.proofs.count.triples.Reads as triples-reads
-use Rattle.size.proofs.count.wide.Reads as wide-reads
 
 over-requires : tie.Need-over-requires
 over-requires c κs = search needs

@@ -1,12 +1,10 @@
+-- `size::count::wide` meets its contract.
 use mathlib.Core.Path.{ap}
 use native.Mathlib.Omega.{arith}
 use Rattle.size.proofs.Tuples.{wide-small, wide-is}
 use borrow.Author.Needs.{needs}
 use Rattle.size.proofs.count.wide.Statement.{statement}
 use Rattle.size.proofs.count.wide.Tie as tie
-use Rattle.size.proofs.count.wide.Reads as reads
-use Rattle.size.proofs.count.wide.Lts as lts
-use Rattle.walk.proofs.tuples.place.Reads as place-reads
 
 place-requires : tie.Need-place-requires
 place-requires c κs = search needs

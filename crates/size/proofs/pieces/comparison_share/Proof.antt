@@ -1,3 +1,4 @@
+-- `size::pieces::comparison_share` meets its contract.
 use mathlib.Core.Path.{ap}
 use native.Mathlib.Omega.{arith}
 use mir.Syntax.{w32}
@@ -9,11 +10,6 @@ use Rattle.size.proofs.Shares.{met-terms, met-good, share-below, share-
 use borrow.Author.Needs.{needs}
 use Rattle.size.proofs.pieces.comparison_share.Statement.{statement}
 use Rattle.size.proofs.pieces.comparison_share.Tie as tie
-use Rattle.size.proofs.pieces.comparison_share.Reads as reads
-use Rattle.size.proofs.pieces.comparison_share.Lts as lts
-use Rattle.size.proofs.count.tuples_of.Reads as tuples-of-reads
-use Rattle.slots.proofs.comparisons.ready.Reads as ready-reads
-use Rattle.walk.proofs.tuples.least.Reads as least-reads
 
 cast-ready : tie.Need-cast-ready
 cast-ready c = search needs

@@ -1,3 +1,4 @@
+-- `size::pieces::share_of` meets its contract.
 use mathlib.Core.Path.{refl}
 use mathlib.Core.List.{[], _∷_}
 use native.Mathlib.Omega.{arith}
@@ -8,9 +9,6 @@ use Rattle.size.proofs.Shares.{line-fits, line-share}
 use borrow.Author.Needs.{needs}
 use Rattle.size.proofs.pieces.share_of.Statement.{statement}
 use Rattle.size.proofs.pieces.share_of.Tie as tie
-use Rattle.size.proofs.pieces.share_of.Reads as reads
-use Rattle.size.proofs.pieces.share_of.Lts as lts
-use Rattle.size.proofs.pieces.comparison_share.Reads as comparison-share-reads
 
 enum-known-piece : tie.Need-enum-known-piece
 enum-known-piece c = search needs

@@ -1,3 +1,4 @@
+-- `size::sums::rules_share` meets its contract.
 use borrow.Author.Needs.{needs}
 use Rattle.definitions.specs.Board.{boundsOf}
 use Rattle.laws.specs.Boards.{boardOf, opens-board, opens-admitted}
@@ -8,12 +9,6 @@ use Rattle.size.specs.Shares.{Adding}
 use Rattle.size.proofs.Shares.{start-sound, start-adding, meets, passes, ends, adding-more, next-fits, plus-fits}
 use Rattle.size.proofs.sums.rules_share.Statement.{statement}
 use Rattle.size.proofs.sums.rules_share.Tie as tie
-use Rattle.size.proofs.sums.rules_share.Reads as reads
-use Rattle.size.proofs.sums.rules_share.Lts as lts
-use Rattle.rules.proofs.start.Reads as start-reads
-use Rattle.rules.proofs.step.Reads as step-reads
-use Rattle.size.proofs.pieces.share_of.Reads as share-of-reads
-use Rattle.size.proofs.sums.added.Reads as added-reads
 
 abbrev Inv-loop : tie.InvT-loop
 Inv-loop bytes known clauses rules total₀ cursor₀ total cursor =

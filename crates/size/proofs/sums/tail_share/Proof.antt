@@ -1,3 +1,4 @@
+-- `size::sums::tail_share` meets its contract.
 use mathlib.Core.Path.{ap}
 use native.Mathlib.Omega.{arith}
 use Rattle.size.proofs.Numbers.{ints-few, bools-few, tail-inside, known}

@@ -1,3 +1,4 @@
+-- `size::sums::totals_of` meets its contract.
 use mathlib.Core.Path.{ap}
 use native.Mathlib.Omega.{arith}
 use Rattle.laws.specs.Boards.{opens-admitted}
@@ -5,10 +6,6 @@ use Rattle.size.proofs.Numbers.{first-is, n-fits, m-fits, k-fits, total
 use borrow.Author.Needs.{needs}
 use Rattle.size.proofs.sums.totals_of.Statement.{statement}
 use Rattle.size.proofs.sums.totals_of.Tie as tie
-use Rattle.size.proofs.sums.totals_of.Reads as reads
-use Rattle.size.proofs.sums.totals_of.Lts as lts
-use Rattle.size.proofs.sums.tail_share.Reads as tail-share-reads
-use Rattle.slots.proofs.variables.first_number.Reads as first-number-reads
 
 tail-share-requires : tie.Need-tail-share-requires
 tail-share-requires c κs = search needs
