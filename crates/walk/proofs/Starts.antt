@@ -3,7 +3,7 @@ use mathlib.Core.Path.{_≡_, refl, sym, ap, ap₂, _∙_}
 use mathlib.Core.List.{List, [], _∷_, _++_, map, zipWith, map-map}
 use Prim.Native.Nat.{ℕ, zero, suc, _-_}
 use native.Mathlib.Omega.{arith}
-use lib.ListN.{length, getD, replicate, length-replicate}
+use lib.ListN.{length, getD, replicate, length-map, length-replicate}
 use lib.Seq.{drop-at}
 use lib.IntN.{ℤ, pos, _+ℤ_, _-ℤ_}
 use lib.Signed.{_<ℤ_}
@@ -20,7 +20,7 @@ use Rattle.walk.specs.declared.Place.{Place}
 use Rattle.walk.specs.declared.At.{At}
 use Rattle.walk.specs.declared.At.the-variants.{End}
 use Rattle.walk.specs.Slots.{FairSlot, valueBounds, slotBounds, slotLiteral}
-use Rattle.walk.specs.Walks.{above, left, Fine, Over}
+use Rattle.walk.specs.Walks.{boundsAt, above, left, Fine, Over}
 use Rattle.walk.specs.Comparisons.{slotsOf, rangesOf, leastOf, overLeast, literalsOf, FairComparison, paddedRanges, placed, Walking, literalsAt, toCome}
 use Rattle.walk.proofs.Slots.{slot-near, slot-ordered}
 use Rattle.walk.proofs.Padding.{padded-length}
@@ -62,7 +62,7 @@ module _ (c : Comparison) (f : FairComparison c) where
       (tt, sym (ap (map (zipWith slotLiteral (slotsOf c))) (tuples-none (rangesOf c) s b)))
 
   -- ---- three places
-  ranges-fine : All (λ r. Fine (placed r)) R
+  pub ranges-fine : All (λ r. Fine (placed r)) R
   unfolding paddedRanges
   ranges-fine =
       all-append (λ r. Fine (placed r)) (replicate (3 - c .n) no-term) (rangesOf c) (none (3 - c .n))
@@ -120,3 +120,13 @@ module _ (c : Comparison) (f : FairComparison c) where
       ∙ map-map (literalsAt c) pad (tuples (rangesOf c) s)
       ∙ map-same (λ bs. literalsAt c (pad bs)) (zipWith slotLiteral (slotsOf c)) (tuples (rangesOf c) s)
       (all-every (λ bs. literalsAt c (pad bs) ≡ zipWith slotLiteral (slotsOf c) bs) unpadded (tuples (rangesOf c) s))
+
+  -- there are as many as offsets with their sum
+  pub start-count : (t : ℕ) → pos t ≡ overLeast c → length (literalsOf c) ≡ length (offsets (map (λ p. p .w) (map placed R)) t)
+  unfolding above literalsOf
+  start-count t e =
+      let bss = tuples (rangesOf c) s in
+      length-map bss (zipWith slotLiteral (slotsOf c))
+      ∙ sym (length-map bss (λ bs. replicate (3 - c .n) (pos 0) ++ bs))
+      ∙ ap length (sym (above-is t e))
+      ∙ length-map (offsets (map (λ p. p .w) (map placed R)) t) (boundsAt (map placed R))

@@ -96,7 +96,7 @@ pub fn least(c: Comparison) -> i32
 }
 
 // The j-th of three places. Those of terms that the comparison lacks stand in front and hold nothing.
-fn place(c: Comparison, j: usize) -> Place
+pub fn place(c: Comparison, j: usize) -> Place
     requires { ⌜ FairComparison c × (j < 3) ⌝ }
     ensures { λ r. ⌜ r ≡ placed (getD (paddedRanges c) j no-term) ⌝ }
 {
