@@ -1,3 +1,4 @@
 pub mod Places
 pub mod Shares
 pub mod Said
+pub mod Outcome

@@ -1,4 +1,5 @@
 -- `size::measure` meets its contract.
+use native.Mathlib.Omega.{arith}
 use Rattle.fields.proofs.Laws.{told}
 use Rattle.opening.specs.Said.{saidOpening}
 use Rattle.size.proofs.Answers.{opened, measured, too-long, unopened}
@@ -21,11 +22,11 @@ enum-known-r c = search needs
 
 returns : tie.Need-returns
 returns c =
-    measured _ _ (told saidOpening (c .before .before .before .before .before .before .«open» .ensures) (c .before .before .before .before .header .given .1)) _ (c .before .before .totals-of .ensures) (c .if1 .taken)
+    measured _ _ (told saidOpening (c .before .before .before .before .before .before .«open» .ensures) (c .before .before .before .before .header .given .1)) _ (c .before .before .totals-of .ensures) (omega (arith, c .if1 .taken))
 
 returns-2 : tie.Need-returns-2
 returns-2 c =
-    too-long _ _ (told saidOpening (c .before .before .before .before .before .before .«open» .ensures) (c .before .before .before .before .header .given .1)) _ (c .before .before .totals-of .ensures) (c .if1 .left)
+    too-long _ _ (told saidOpening (c .before .before .before .before .before .before .«open» .ensures) (c .before .before .before .before .header .given .1)) _ (c .before .before .totals-of .ensures) (omega (arith, c .if1 .left))
 
 returns-3 : tie.Need-returns-3
 returns-3 c =
