@@ -1,0 +1,3 @@
+pub mod Bounded
+pub mod Passing
+pub mod Sums
