@@ -1,4 +1,4 @@
-// Judge's and Image's checks of lists that have the right lengths: refusals 12, 14 and 13, in this order.
+// Judge's and Image's checks of the lists that they are lent: refusals 11, 12, 14 and 13, in this order.
 use crate::clauses::first_failing;
 use crate::values::first_outside;
 use definitions::Refusal;
@@ -18,7 +18,22 @@ ghost use Rattle.laws.specs.Boards.{Opens, boardOf};
 ghost use Rattle.lent.specs.Said.{saidFound};
 ghost use Rattle.opening.specs.Said.{headerOf};
 ghost use Rattle.judge.specs.Suited.{Near};
-ghost use Rattle.judge.specs.Checks.{Long, solving};
+ghost use Rattle.judge.specs.Checks.{Long, fitting, solving};
+
+// Refusal 11 for the values and for the Booleans.
+pub fn lengths(header: Header, values: &[i32], booleans: &[u8]) -> Verdict
+    ensures { λ r. ⌜ saidVerdict r ≡ fitting header (now (values .entry)) (now (booleans .entry)) ⌝ }
+{
+    let ints = header.ints;
+    let bools = header.bools;
+    if values.len() != ints {
+        return Verdict::Refused(Refusal::LentWrong { wanted: ints });
+    }
+    if booleans.len() != bools {
+        return Verdict::Refused(Refusal::LentWrong { wanted: bools });
+    }
+    Verdict::Accepted
+}
 
 // The rules are the record's tail.
 fn first_broken(bytes: &[u8], header: Header, values: &[i32], booleans: &[u8]) -> Found
