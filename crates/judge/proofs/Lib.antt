@@ -1,0 +1,4 @@
+pub mod Bounded
+pub mod Checked
+pub mod Passing
+pub mod Sums

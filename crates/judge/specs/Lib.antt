@@ -1,0 +1,3 @@
+pub mod Suited
+pub mod Checks
+pub mod Outcome

@@ -1,0 +1,32 @@
+-- Values and Booleans that suit a record: as many as it has variables, the values no greater than bounds are.
+use mathlib.Core.Path.{_≡_}
+use mathlib.Core.List.{List}
+use Prim.Native.Nat.{ℕ, _≤_}
+use lib.ListN.{length, getD}
+use lib.IntN.{ℤ, pos, natAbs, _*ℤ_}
+use Rattle.definitions.specs.Tools.{All}
+use Rattle.definitions.specs.Board.{Term}
+use Rattle.definitions.specs.Reading.{Context}
+use Rattle.laws.specs.Admitted.{GoodComparison}
+use Rattle.reader.specs.declared.Literal.{Literal}
+use Rattle.slots.specs.Ready.{comparisonAt}
+use Rattle.slots.specs.Terms.{TermsStand}
+
+abbrev pub Near : List ℤ → Type 0
+Near values = All (λ v. natAbs v ≤ 4096) values
+
+pub record Suited (ctx : Context) (values : List ℤ) (booleans : List ℕ) : Type 0 where
+  pub ints : length values ≡ ctx .ints
+  pub bools : length booleans ≡ ctx .bools
+  pub near : Near values
+
+-- a term's value
+abbrev pub product : List ℤ → Term → ℤ
+product values t = t .coef *ℤ getD values (t .var) (pos 0)
+
+-- what is known of a literal that was read
+abbrev pub Known : List ℕ → ℕ → ℕ → Literal → Type 0
+Known rules ints bools (Literal.Boolean b) = (1 ≤ b) × (b ≤ bools)
+Known rules ints bools (Literal.Negated b) = (1 ≤ b) × (b ≤ bools)
+Known rules ints bools (Literal.Comparison place constant) =
+    TermsStand rules place × GoodComparison ints (comparisonAt rules place constant)
