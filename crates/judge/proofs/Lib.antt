@@ -1,4 +1,5 @@
 pub mod Bounded
 pub mod Checked
+pub mod Judged
 pub mod Passing
 pub mod Sums

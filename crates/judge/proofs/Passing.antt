@@ -30,7 +30,7 @@ use Rattle.judge.specs.Suited.{Suited, Known}
 
 -- ---- parts that were read before: the first, and those after it
 module _ {A : Type 0} (r : Reader A) (t : List ℕ) (at : ℕ) {k n : ℕ} (e : k ≡ suc n) (d : times k r t at ≡ done (gotten (times k r t at))) where
-  pub never-refused : {why p : ℕ} → r t at ≡ refused why p → ⊥
+  never-refused : {why p : ℕ} → r t at ≡ refused why p → ⊥
   never-refused f = never (sym f ∙ times-parts r t at {k = k} {n = n} e d .read)
 
   module _ (g : Got A) (f : r t at ≡ done g) where
@@ -39,12 +39,12 @@ module _ {A : Type 0} (r : Reader A) (t : List ℕ) (at : ℕ) {k n : ℕ} (e : 
         let q = times-parts r t at {k = k} {n = n} e d in
         ap (λ h. gotten (times n r t (h .next))) (same (sym f ∙ q .read)) ∙ ap gotten (q .rest)
 
-    pub others : times n r t (g .next) ≡ done (gotten (times n r t (g .next)))
+    others : times n r t (g .next) ≡ done (gotten (times n r t (g .next)))
     others =
         let q = times-parts r t at {k = k} {n = n} e d in
         ap (λ h. times n r t (h .next)) (same (sym f ∙ q .read)) ∙ q .rest ∙ ap done (sym rest)
 
-    pub parts : gotten (times k r t at) .value ≡ g .value ∷ gotten (times n r t (g .next)) .value
+    parts : gotten (times k r t at) .value ≡ g .value ∷ gotten (times n r t (g .next)) .value
     parts =
         let q = times-parts r t at {k = k} {n = n} e d in
         rw (rest, same (sym f ∙ q .read)) (ap (λ h. h .value) (q .joined))
@@ -85,7 +85,7 @@ module _ (ctx : Context) (t : List ℕ) where
     literal-read at e d f = never-refused (readLiteral ctx) t at e d f
 
   -- ---- a clause
-  pub clause-counted : (at : ℕ) {g : Got ℕ} → count 0 64 1 t at ≡ done g → readClause ctx t at ≡ times (g .value) (readLiteral ctx) t (g .next)
+  clause-counted : (at : ℕ) {g : Got ℕ} → count 0 64 1 t at ≡ done g → readClause ctx t at ≡ times (g .value) (readLiteral ctx) t (g .next)
   unfolding readClause
   clause-counted at e = ap (λ m. result._>>=_ m (λ g. times (g .value) (readLiteral ctx) t (g .next))) e
 

@@ -5,7 +5,7 @@ use Rattle.definitions.specs.Answers.{saidVerdict}
 use Rattle.fields.proofs.Laws.{told}
 use Rattle.laws.specs.Boards.{boardOf}
 use Rattle.size.specs.Said.{saidMeasured}
-use Rattle.judge.proofs.Checked.{judge-is, judge-not, measured, not-measured, long-enough}
+use Rattle.judge.proofs.Judged.{judge-is, judge-not, measured, not-measured, long-enough}
 use borrow.Author.Needs.{needs}
 use Rattle.judge.proofs.judge.Statement.{statement}
 use Rattle.judge.proofs.judge.Tie as tie

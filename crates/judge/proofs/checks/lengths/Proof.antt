@@ -1,5 +1,5 @@
 -- `judge::checks::lengths` meets its contract.
-use Rattle.judge.proofs.Checked.{values-wrong, booleans-wrong, both-long}
+use Rattle.judge.proofs.Judged.{values-wrong, booleans-wrong, both-long}
 use Rattle.judge.proofs.checks.lengths.Statement.{statement}
 use Rattle.judge.proofs.checks.lengths.Tie as tie
 
