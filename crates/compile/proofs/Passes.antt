@@ -1,41 +1,35 @@
 -- The passes over an accepted record's variables and over the pieces of its rules. Assumes nothing.
-use mathlib.Core.Path.{_≡_, refl, sym, ap, ap₂, _∙_, subst}
-use mathlib.Core.Bool.{true}
+use mathlib.Core.Path.{_≡_, sym, ap, ap₂, _∙_}
 use mathlib.Core.List.{List, [], _∷_, _++_}
 use Prim.Native.Nat.{ℕ, _+_, _≤_, _<_}
 use native.Mathlib.Omega.{arith}
-use lib.ListN.{length, drop}
+use lib.ListN.{length}
 use lib.IntN.{ℤ, pos, _+ℤ_, _-ℤ_}
 use Rattle.definitions.specs.Tools.{neg}
 use Rattle.definitions.specs.Board.{Board, Clause}
 use Rattle.definitions.specs.Board as board
-use Rattle.definitions.specs.Result.{done}
-use Rattle.definitions.specs.Reading.{Context, times, readClause}
+use Rattle.definitions.specs.Reading.{Context}
 use Rattle.definitions.specs.Encoding.{selector, minus, width, first, number, literalNumber}
 use Rattle.laws.specs.Whole.{whole, add-law, sub-law, part-law, neg-law}
-use Rattle.laws.specs.Admitted.{Admitted, GoodBounds, GoodComparison}
+use Rattle.laws.specs.Admitted.{Admitted, GoodBounds}
 use Rattle.laws.specs.Fits.{first-most}
-use Rattle.laws.specs.Boards.{boardOf, opens-board, opens-admitted}
+use Rattle.laws.specs.Boards.{boardOf, opens-admitted}
 use Rattle.laws.specs.Written.{written}
-use Rattle.laws.specs.Grammar.{finds}
-use Rattle.laws.specs.Reread.{tableEnd}
-use Rattle.laws.specs.Pieces.{Piece, line, under, pieceClauses, lineFrom, left, piecesFrom, left-start}
-use Rattle.laws.specs.Ahead.{gotten, literalsAt, clausesAt, coming}
-use Rattle.reader.specs.Said.{contextOf}
+use Rattle.laws.specs.Pieces.{Piece, line, under, pieceClauses, lineFrom}
 use Rattle.reader.specs.declared.Context as reader
 use Rattle.rules.specs.declared.Cursor.{Cursor}
 use Rattle.rules.specs.declared.Piece as code
 use Rattle.rules.specs.declared.Stepped.{Stepped}
-use Rattle.rules.specs.Cursors.{comparisonAt, Stands, Held, saidPiece, selectorsTo, Sound, Onward, Went, atStart, comingAt}
+use Rattle.rules.specs.Cursors.{Held, saidPiece, selectorsTo, Onward, Went, comingAt}
+use Rattle.size.specs.Shares.{Known}
 use Rattle.slots.specs.declared.Bounds.{Bounds}
 use Rattle.slots.specs.Variables.{boundsRead, BoundsOf, bounds-same}
-use Rattle.slots.specs.Terms.{TermsStand}
 use Rattle.walk.specs.declared.Comparison.{Comparison}
 use Rattle.walk.specs.Comparisons.{Shows}
 use Rattle.writing.specs.Numbers.{underLead, lead-some, lead-none, under-is}
 use Rattle.writing.specs.Axioms.{axiomNumbers}
 use Rattle.writing.specs.Lines.{lineNumbers, line-is}
-use Rattle.compile.specs.Lists.{Known, axiomsFrom, axioms-more, pieceNumbers, piecesNumbers, pieces-more, pieces-end}
+use Rattle.compile.specs.Lists.{axiomsFrom, axioms-more, pieceNumbers, piecesNumbers, pieces-more, pieces-end}
 
 -- the same numbers, written
 pub renamed : (old : List ℤ) {f g : List ℤ} → f ≡ g → {n : ℕ} {out : List ℤ} → (n ≡ length f) × (out ≡ written f old) → (n ≡ length g) × (out ≡ written g old)
@@ -78,33 +72,6 @@ module _ (s : List ℕ) (known : reader.Context) (rules : List ℕ) (k : Known s
 
   pub few-selectors : (n j : ℕ) → n ≡ first (boardOf s) (length (boardOf s .bounds)) → j ≤ 300000 → n + j < 20000000
   few-selectors n j e h = omega (arith, first-most (boardOf s) (opens-admitted s (k .opens)) (length (boardOf s .bounds)))
-
-  module _ (place : ℕ) (constant : ℤ) (t : Stands (contextOf known) rules place constant) where
-    pub terms-stand : TermsStand rules place
-    terms-stand = record { few = t .few; room = t .room }
-
-    pub comparison-good : GoodComparison (length (boardOf s .bounds)) (comparisonAt rules place constant)
-    comparison-good = subst (λ x. GoodComparison (x .ints) (comparisonAt rules place constant)) (k .context) (t .good)
-
-  -- where a pass starts
-  abbrev n : ℕ
-  n = length (boardOf s .clauses)
-
-  read : times n (readClause (contextOf known)) rules 0 ≡ finds (boardOf s .clauses) (length (drop (tableEnd (boardOf s)) s))
-  read = ap₂ (λ x u. times n (readClause x) u 0) (k .context) (k .tail) ∙ opens-board s (k .opens) .clauses
-
-  pub start-sound : Sound (contextOf known) rules (atStart n)
-  unfolding literalsAt clausesAt
-  start-sound =
-      record {
-        readable = record { literals = refl; clauses = read ∙ ap (λ z. done (gotten z)) (sym read) };
-        few = omega (arith, opens-admitted s (k .opens) .rules);
-        short = omega arith;
-      }
-
-  pub start-coming : comingAt (contextOf known) rules (atStart n) ≡ piecesFrom 0 (boardOf s .clauses)
-  unfolding comingAt coming literalsAt clausesAt
-  start-coming = ap (λ z. left true 0 [] (gotten z .value)) read ∙ left-start true (boardOf s .clauses)
 
 -- ---- a step of a pass
 module _ (B : Board) (ctx : Context) (t : List ℕ) (c : Cursor) where

@@ -4,27 +4,16 @@ use mathlib.Core.List.{List, [], _∷_, _++_, map, flatten}
 use Prim.Native.Nat.{ℕ, suc, _+_, _-_, _≤_, _<_}
 use native.Mathlib.Numerals.{add-one}
 use native.Mathlib.Omega.{arith}
-use lib.ListN.{length, drop}
+use lib.ListN.{length}
 use lib.IntN.{ℤ}
 use Rattle.definitions.specs.Tools.{countUp}
 use Rattle.definitions.specs.Board.{Board, boundsOf, variables}
 use Rattle.definitions.specs.Encoding.{axiomsOf, axioms, rules, clauses, clauseList, width, first}
 use Rattle.laws.specs.Admitted.{Admitted}
 use Rattle.laws.specs.Terms.{good-bounds}
-use Rattle.laws.specs.Boards.{Opens, boardOf}
-use Rattle.laws.specs.Reread.{tableEnd}
-use Rattle.laws.specs.Reread as reread
 use Rattle.laws.specs.Pieces.{Piece, pieceClauses, clausesIn, piecesFrom, rules-pieces}
-use Rattle.reader.specs.Said.{contextOf}
-use Rattle.reader.specs.declared.Context.{Context}
 use Rattle.writing.specs.Numbers.{numbersOf, numbers-append}
 use Rattle.writing.specs.Axioms.{axiomNumbers, axioms-are}
-
--- what a pass over the rules is given: an accepted record, what it said before its clauses, and its tail
-pub record Known (s : List ℕ) (known : Context) (rules : List ℕ) : Type 0 where
-  pub opens : Opens s
-  pub context : contextOf known ≡ reread.contextOf (boardOf s)
-  pub tail : rules ≡ drop (tableEnd (boardOf s)) s
 
 -- ---- axioms, from variable x on
 unfoldable pub axiomsFrom : Board → ℕ → List ℤ

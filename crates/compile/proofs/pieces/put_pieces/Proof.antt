@@ -4,14 +4,15 @@ use mathlib.Core.Path.{ap}
 use Prim.Native.Nat.{_+_, _≤_}
 use native.Mathlib.Omega.{arith}
 use lib.ListN.{length}
-use Rattle.laws.specs.Boards.{boardOf}
+use Rattle.laws.specs.Boards.{boardOf, opens-board, opens-admitted}
 use Rattle.laws.specs.Pieces.{piecesFrom}
 use Rattle.laws.specs.Written.{rest-length}
 use Rattle.reader.specs.Said.{contextOf}
 use Rattle.rules.specs.Cursors.{saidPiece, Sound, comingAt, todo}
 use Rattle.writing.specs.Filling.{Filling, begin, room-before, room, room-for, next, part, ended}
 use Rattle.compile.specs.Lists.{pieceNumbers, piecesNumbers}
-use Rattle.compile.proofs.Passes.{start-sound, start-coming, meets, passes, ends}
+use Rattle.size.proofs.Shares.{start-sound, start-coming}
+use Rattle.compile.proofs.Passes.{meets, passes, ends}
 use Rattle.compile.proofs.pieces.put_pieces.Statement.{statement}
 use Rattle.compile.proofs.pieces.put_pieces.Tie as tie
 
@@ -27,7 +28,7 @@ start-requires c κs = search needs
 
 loop-holds : tie.Need-loop-holds Inv-loop μ-loop
 loop-holds c =
-    rw (c .start .ensures, c .before .before .before .pre .1) (start-sound _ _ _ (c .before .before .before .pre .0), begin _ _ _ (ap (piecesNumbers (boardOf (c .before .before .before .args .bytes .now))) (start-coming _ _ _ (c .before .before .before .pre .0))) (c .before .before .before .pre .3))
+    rw (c .start .ensures, c .before .before .before .pre .1) (start-sound _ _ (opens-admitted _ (c .before .before .before .pre .0 .opens)) (opens-board _ (c .before .before .before .pre .0 .opens)) _ _ (c .before .before .before .pre .0 .context) (c .before .before .before .pre .0 .tail), begin _ _ _ (ap (piecesNumbers (boardOf (c .before .before .before .args .bytes .now))) (start-coming _ _ (opens-admitted _ (c .before .before .before .pre .0 .opens)) (opens-board _ (c .before .before .before .pre .0 .opens)) _ _ (c .before .before .before .pre .0 .context) (c .before .before .before .pre .0 .tail))) (c .before .before .before .pre .3))
 
 step-requires : tie.Need-step-requires Inv-loop μ-loop
 step-requires c κs = c .loop .inv .0
