@@ -88,6 +88,7 @@ module _ (ctx : Context) (t : List ℕ) where
         rw (add-one, d) (rw d at (these (atMost (comparisonAt t place k)) e) ∙ left-selected (c .selector) (comparisonAt t place k) _ _),
         stands (c .place) place next k p e,
         onward (atMost (comparisonAt t place k)) e (c .selector + 1) (omega arith),
+        omega (arith, s .few),
       )
 
       pub goes-lone : c .led ≡ false → Went ctx t c (Stepped.Met (code.Piece.Lone place k) (behind c next (c .selector)))
@@ -96,6 +97,7 @@ module _ (ctx : Context) (t : List ℕ) where
         rw d (rw d at (these (atMost (comparisonAt t place k)) e) ∙ left-lone (c .selector) (comparisonAt t place k) _ _),
         stands (c .place) place next k p e,
         onward (atMost (comparisonAt t place k)) e (c .selector) (omega arith),
+        omega arith,
       )
 
     pub never-refused : {why d : ℕ} → readLiteral ctx t (c .place) ≡ refused why d → ⊥
@@ -136,7 +138,7 @@ module _ (ctx : Context) (t : List ℕ) where
 
       pub goes-line : lone (literalsAt ctx t n next .value) ≡ false → Went ctx t c (Stepped.Met (code.Piece.Line next n (c .selector)) (within c next n true))
       unfolding Went comingAt
-      goes-line d = (rw d at these-in, into .on .literals, onward-in true)
+      goes-line d = (rw d at these-in, into .on .literals, onward-in true, omega (arith, s .few, few-literals))
 
   pub ends : (c : Cursor) → c .literals ≤ 0 → c .clauses ≤ 0 → Went ctx t c Stepped.End
   unfolding Went comingAt

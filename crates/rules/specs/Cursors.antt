@@ -51,6 +51,12 @@ module _ (ctx : Context) (t : List ℕ) where
   Held (code.Piece.Lone place constant) = Stands ctx t place constant
   Held (code.Piece.Led j place constant) = Stands ctx t place constant
 
+  -- the selectors up to the end of a piece; a lone comparison has none
+  abbrev pub selectorsTo : code.Piece → ℕ
+  selectorsTo (code.Piece.Line place n j) = j + n
+  selectorsTo (code.Piece.Lone place constant) = 0
+  selectorsTo (code.Piece.Led j place constant) = j + 1
+
   unfoldable pub comingAt : Cursor → List Piece
   comingAt c = coming ctx t (c .led) (c .selector) (c .literals) (c .clauses) (c .place)
 
@@ -69,6 +75,6 @@ module _ (ctx : Context) (t : List ℕ) where
     pub less : todo c′ < todo c
 
   unfoldable pub Went : Cursor → Stepped → Type 0
-  Went c (Stepped.Met p c′) = (comingAt c ≡ saidPiece p ∷ comingAt c′) × Held p × Onward c c′
+  Went c (Stepped.Met p c′) = (comingAt c ≡ saidPiece p ∷ comingAt c′) × Held p × Onward c c′ × (selectorsTo p ≤ 300000)
   Went c (Stepped.Passed c′) = (comingAt c ≡ comingAt c′) × Onward c c′
   Went c Stepped.End = comingAt c ≡ []

@@ -1,0 +1,95 @@
+// The clauses of the rules, piece by piece: each piece goes into the part of the list that follows the numbers already written.
+ghost use mathlib.Core.Path.{_≡_};
+ghost use Prim.Native.Nat.{_≤_};
+ghost use lib.ListN.{length};
+ghost use Rattle.definitions.specs.Encoding.{first};
+ghost use Rattle.laws.specs.Boards.{boardOf};
+ghost use Rattle.laws.specs.Pieces.{piecesFrom};
+ghost use Rattle.laws.specs.Written.{written};
+ghost use Rattle.reader.specs.Said.{contextOf};
+ghost use Rattle.rules.specs.Cursors.{Held, saidPiece, selectorsTo};
+ghost use Rattle.size.specs.Shares.{Known};
+ghost use Rattle.compile.specs.Lists.{pieceNumbers, piecesNumbers};
+use reader::Context;
+use rules::Piece;
+use rules::Stepped;
+use rules::start;
+use rules::step;
+use slots::comparisons::ready;
+use writing::comparisons::put_comparison;
+use writing::lines::put_line;
+
+// The number `selectors` is that of the first selector.
+fn put_piece(
+    bytes: &[u8],
+    known: Context,
+    rules: &[u8],
+    selectors: u32,
+    piece: Piece,
+    list: &mut [i32],
+) -> usize
+    requires { ⌜ Known (now bytes) known (now rules) × (selectors ≡ first (boardOf (now bytes)) (length (boardOf (now bytes) .bounds))) × Held (contextOf known) (now rules) piece × (selectorsTo (contextOf known) (now rules) piece ≤ 300000) × (length (pieceNumbers (boardOf (now bytes)) (saidPiece (contextOf known) (now rules) piece)) ≤ length (now list)) ⌝ }
+    ensures { λ r. ⌜ (r ≡ length (pieceNumbers (boardOf (now (bytes .entry))) (saidPiece (contextOf known) (now (rules .entry)) piece))) × (now (list .exit) ≡ written (pieceNumbers (boardOf (now (bytes .entry))) (saidPiece (contextOf known) (now (rules .entry)) piece)) (now (list .entry))) ⌝ }
+{
+    let bools = known.bools as usize;
+    match piece {
+        Piece::Line {
+            place,
+            literals,
+            selector,
+        } => put_line(
+            rules,
+            known,
+            place,
+            literals,
+            selectors + selector as u32,
+            list,
+        ),
+        Piece::Lone { place, constant } => put_comparison(
+            ready(bytes, bools, rules, place, constant),
+            0,
+            list,
+        ),
+        Piece::Led {
+            selector,
+            place,
+            constant,
+        } => {
+            let number = selectors + selector as u32;
+            put_comparison(
+                ready(bytes, bools, rules, place, constant),
+                -(number as i32),
+                list,
+            )
+        }
+    }
+}
+
+pub fn put_pieces(
+    bytes: &[u8],
+    known: Context,
+    rules: &[u8],
+    clauses: usize,
+    selectors: u32,
+    list: &mut [i32],
+) -> usize
+    requires { ⌜ Known (now bytes) known (now rules) × (clauses ≡ length (boardOf (now bytes) .clauses)) × (selectors ≡ first (boardOf (now bytes)) (length (boardOf (now bytes) .bounds))) × (length (piecesNumbers (boardOf (now bytes)) (piecesFrom 0 (boardOf (now bytes) .clauses))) ≤ length (now list)) ⌝ }
+    ensures { λ r. ⌜ (r ≡ length (piecesNumbers (boardOf (now (bytes .entry))) (piecesFrom 0 (boardOf (now (bytes .entry)) .clauses)))) × (now (list .exit) ≡ written (piecesNumbers (boardOf (now (bytes .entry))) (piecesFrom 0 (boardOf (now (bytes .entry)) .clauses))) (now (list .entry))) ⌝ }
+{
+    let mut at: usize = 0;
+    let mut cursor = start(clauses);
+    loop {
+        match step(rules, known, cursor) {
+            Stepped::Met(piece, next) => {
+                at += put_piece(bytes, known, rules, selectors, piece, &mut list[at..]);
+                cursor = next;
+            }
+            Stepped::Passed(next) => {
+                cursor = next;
+            }
+            Stepped::End => {
+                return at;
+            }
+        }
+    }
+}

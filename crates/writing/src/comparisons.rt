@@ -1,0 +1,78 @@
+// A comparison's clauses, each led by the same literal: a negated selector's number, or none (0).
+ghost use mathlib.Core.Path.{_≡_};
+ghost use Prim.Native.Nat.{_≤_};
+ghost use mathlib.Core.List.{_++_};
+ghost use lib.ListN.{length};
+ghost use Rattle.laws.specs.Written.{written};
+ghost use Rattle.walk.specs.Comparisons.{FairComparison, Walking, literalsOf, present};
+ghost use Rattle.writing.specs.Numbers.{clause, leadOf, led, underLead};
+use walk::At;
+use walk::Comparison;
+use walk::Walk;
+use walk::tuples::first;
+use walk::tuples::least;
+use walk::tuples::literal_at;
+use walk::tuples::next;
+
+fn put_lead(lead: i32, list: &mut [i32]) -> usize
+    requires { ⌜ length (leadOf lead) ≤ length (now list) ⌝ }
+    ensures { λ r. ⌜ (r ≡ length (leadOf lead)) × (now (list .exit) ≡ written (leadOf lead) (now (list .entry))) ⌝ }
+{
+    if lead < 0 {
+        list[0] = lead;
+        return 1;
+    }
+    0
+}
+
+// The present tuple's literals and 0.
+fn put_literals(c: Comparison, w: Walk, list: &mut [i32]) -> usize
+    requires { ⌜ FairComparison c × Walking c (At.Tuple w) × (length (clause (present c w)) ≤ length (now list)) ⌝ }
+    ensures { λ r. ⌜ (r ≡ length (clause (present c w))) × (now (list .exit) ≡ written (clause (present c w)) (now (list .entry))) ⌝ }
+{
+    let mut i: usize = 0;
+    while i < c.n {
+        list[i] = literal_at(c, w, i);
+        i += 1;
+    }
+    list[i] = 0;
+    i + 1
+}
+
+fn put_tuple(c: Comparison, lead: i32, w: Walk, list: &mut [i32]) -> usize
+    requires { ⌜ FairComparison c × Walking c (At.Tuple w) × (length (clause (leadOf lead ++ present c w)) ≤ length (now list)) ⌝ }
+    ensures { λ r. ⌜ (r ≡ length (clause (leadOf lead ++ present c w))) × (now (list .exit) ≡ written (clause (leadOf lead ++ present c w)) (now (list .entry))) ⌝ }
+{
+    let at = put_lead(lead, list);
+    at + put_literals(c, w, &mut list[at..])
+}
+
+// A clause for each tuple.
+fn put_tuples(c: Comparison, lead: i32, list: &mut [i32]) -> usize
+    requires { ⌜ FairComparison c × (length (led lead (literalsOf c)) ≤ length (now list)) ⌝ }
+    ensures { λ r. ⌜ (r ≡ length (led lead (literalsOf c))) × (now (list .exit) ≡ written (led lead (literalsOf c)) (now (list .entry))) ⌝ }
+{
+    let mut at: usize = 0;
+    let mut tuple = first(c);
+    loop {
+        let At::Tuple(w) = tuple else {
+            break;
+        };
+        at += put_tuple(c, lead, w, &mut list[at..]);
+        tuple = next(w);
+    }
+    at
+}
+
+// Where the constant is below the least sum, the lead alone is the one clause.
+pub fn put_comparison(c: Comparison, lead: i32, list: &mut [i32]) -> usize
+    requires { ⌜ FairComparison c × (length (underLead lead c) ≤ length (now list)) ⌝ }
+    ensures { λ r. ⌜ (r ≡ length (underLead lead c)) × (now (list .exit) ≡ written (underLead lead c) (now (list .entry))) ⌝ }
+{
+    if c.constant < least(c) {
+        let at = put_lead(lead, list);
+        list[at] = 0;
+        return at + 1;
+    }
+    put_tuples(c, lead, list)
+}
