@@ -1,1 +1,5 @@
 pub mod Truth
+pub mod Given
+pub mod Goes
+pub mod Axioms
+pub mod Values

@@ -1,2 +1,11 @@
 // Reading a model back (01, Decode): the search for a clause that does not hold, then the values and the Booleans.
+
+// The first clause that does not hold, or that all do, and the number after the last.
+pub enum Checked {
+    Fails(usize),
+    Hold(usize),
+}
+
+pub mod axioms; // axioms.rt: the search over the axioms
 pub mod truth; // truth.rt: whether a literal holds in a model
+pub mod values; // values.rt: what is read back
