@@ -74,7 +74,7 @@ module _ (model : List ℕ) where
     pub steps-end : last ≤ v → Sought i all (Checked.Hold n)
     steps-end l = goes-end _ g (ap (map rises) (count-none v last l))
 
-or-false : (b : Bool) → (b || false) ≡ b
+pub or-false : (b : Bool) → (b || false) ≡ b
 or-false true = refl
 or-false false = refl
 

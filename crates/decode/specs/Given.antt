@@ -18,6 +18,10 @@ use Rattle.laws.specs.Layout.{first-next}
 use Rattle.opening.specs.Said.{headerOf}
 use Rattle.opening.specs.declared.Header.{Header}
 
+pub record Opened (s : List ℕ) (h : Header) : Type 0 where
+  pub opens : Opens s
+  pub header : h ≡ headerOf (boardOf s)
+
 pub record Given (s model : List ℕ) (h : Header) : Type 0 where
   pub opens : Opens s
   pub header : h ≡ headerOf (boardOf s)

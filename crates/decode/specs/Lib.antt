@@ -3,3 +3,5 @@ pub mod Given
 pub mod Goes
 pub mod Axioms
 pub mod Values
+pub mod Lines
+pub mod Tails
