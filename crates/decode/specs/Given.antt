@@ -51,6 +51,9 @@ module _ (s model : List ℕ) (h : Header) (g : Given s model h) where
   pub bools-is : h .bools ≡ boardOf s .bools
   bools-is = ap (λ z. z .bools) (g .header)
 
+  pub clauses-is : h .clauses ≡ length (boardOf s .clauses)
+  clauses-is = ap (λ z. z .clauses) (g .header)
+
   pub admitted : Admitted (boardOf s)
   admitted = opens-admitted s (g .opens)
 

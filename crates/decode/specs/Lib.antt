@@ -5,3 +5,4 @@ pub mod Axioms
 pub mod Values
 pub mod Lines
 pub mod Tails
+pub mod Passes
