@@ -44,6 +44,10 @@ variable-numbered B g x h =
       width-least (boundsOf B x) (good-bounds B (g .bounds) x h),
     )
 
+pub bools-most : (B : Board) → B .bools ≤ N B
+unfolding N
+bools-most B = omega arith
+
 module _ (s model : List ℕ) (h : Header) (g : Given s model h) where
   pub ints-is : h .ints ≡ length (boardOf s .bounds)
   ints-is = ap (λ z. z .ints) (g .header)

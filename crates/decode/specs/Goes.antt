@@ -60,3 +60,13 @@ module _ {i : ℕ} {all : List Bool} {n : ℕ} where
   pub goes-end : (rest : List Bool) → Goes i all n rest → rest ≡ [] → Sought i all (Checked.Hold n)
   unfolding Sought
   goes-end rest g e = g .on (Checked.Hold n) (rw e (refl, sym (add-zero n)))
+
+-- what an answer says
+module _ (i n : ℕ) (ts : List Bool) (r : Checked) (h : Sought i ts r) where
+  pub sought-refused : r ≡ Checked.Fails n → each 13 i ts ≡ refused 13 n
+  unfolding Sought
+  sought-refused e = rw e at h
+
+  pub sought-done : r ≡ Checked.Hold n → each 13 i ts ≡ done tt
+  unfolding Sought
+  sought-done e = (rw e at h) .0

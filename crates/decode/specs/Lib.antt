@@ -6,3 +6,4 @@ pub mod Values
 pub mod Lines
 pub mod Tails
 pub mod Passes
+pub mod Decoded

@@ -10,13 +10,15 @@ use Rattle.definitions.specs.Tools.{All, any}
 use Rattle.definitions.specs.Board.{Board, boundsOf}
 use Rattle.definitions.specs.Result.{done}
 use Rattle.definitions.specs.Reading.{Context, times, readClause}
-use Rattle.definitions.specs.Encoding.{SatClause, N, rules}
+use Rattle.definitions.specs.Encoding.{N, axioms, rules, clauses}
 use Rattle.laws.specs.Lists.{append-all}
 use Rattle.laws.specs.Admitted.{Admitted}
+use Rattle.laws.specs.Sizes.{M-is}
+use Rattle.laws.specs.Fits.{M-fits}
 use Rattle.laws.specs.Boards.{boardOf, Opens, opens-board, opens-admitted}
 use Rattle.laws.specs.Reread.{contextOf, tableEnd}
 use Rattle.laws.specs.Ahead.{literalsAt, clausesAt, coming}
-use Rattle.laws.specs.Pieces.{Piece, pieceClauses, piecesFrom, clausesIn, left-start}
+use Rattle.laws.specs.Pieces.{Piece, pieceClauses, piecesFrom, clausesIn, left-start, rules-pieces}
 use Rattle.laws.specs.Mentions as Mentions
 use Rattle.rules.specs.declared.Cursor.{Cursor}
 use Rattle.rules.specs.declared.Piece as code
@@ -182,3 +184,14 @@ module _ (s model : List ℕ) (o : Opens s) where
     sound = rw begins (Mentions.pieces-sound board (opens-admitted s o));
     readable = begin-sound;
   }
+
+-- ---- the axioms, and then the rules
+module _ (B : Board) (model t : List ℕ) where
+  pub clauses-split : map (trueClause B model) (clauses B) ≡ map (trueClause B model) (flatten (axioms B)) ++ testsOf B model t (piecesFrom 0 (B .clauses))
+  unfolding clauses rules testsOf
+  clauses-split =
+      map-append (trueClause B model) (flatten (axioms B)) (flatten (rules B))
+      ∙ ap (λ l. map (trueClause B model) (flatten (axioms B)) ++ map (trueClause B model) l) (rules-pieces (boundsOf B) 0 (B .clauses))
+
+  pub clauses-fit : Admitted B → length (map (trueClause B model) (clauses B)) < 2 ^ 63
+  clauses-fit g = omega (arith, length-map (clauses B) (trueClause B model), M-is B, M-fits B g)

@@ -1,6 +1,7 @@
 // The search over the rules: it stops at the first clause none of whose literals holds.
 use crate::Ahead;
 use crate::Checked;
+use crate::axioms::search_axioms;
 use crate::lines::known_of;
 use crate::pieces::clause_holds;
 use crate::pieces::lead_holds;
@@ -15,8 +16,10 @@ use walk::At;
 use walk::tuples::first;
 use walk::tuples::next;
 ghost use mathlib.Core.Path.{_≡_};
+ghost use mathlib.Core.List.{map};
 ghost use Prim.Native.Nat.{_+_, _<_};
 ghost use lib.ListN.{length, drop};
+ghost use Rattle.definitions.specs.Encoding.{clauses};
 ghost use Rattle.laws.specs.Boards.{boardOf};
 ghost use Rattle.laws.specs.Pieces.{piecesFrom};
 ghost use Rattle.laws.specs.Reread.{tableEnd};
@@ -24,6 +27,7 @@ ghost use Rattle.reader.specs.Said.{contextOf};
 ghost use Rattle.rules.specs.Cursors.{Sound};
 ghost use Rattle.decode.specs.Given.{Given};
 ghost use Rattle.decode.specs.Goes.{Sought};
+ghost use Rattle.decode.specs.Truth.{trueClause};
 ghost use Rattle.decode.specs.Passes.{Came, testsOf};
 
 fn next_piece(rules: &[u8], known: Context, cursor: Cursor) -> Ahead
@@ -80,4 +84,17 @@ pub fn search_rules(
         cursor = behind;
     };
     found
+}
+
+// All clauses: the axioms, then the rules, which stand from the end of the variable table on.
+pub fn search_clauses(bytes: &[u8], model: &[u8], header: Header) -> Checked
+    requires { ⌜ Given (now bytes) (now model) header ⌝ }
+    ensures { λ r. ⌜ Sought 0 (map (trueClause (boardOf (now (bytes .entry))) (now (model .entry))) (clauses (boardOf (now (bytes .entry))))) r ⌝ }
+{
+    let checked = search_axioms(bytes, model, header);
+    let Checked::Hold(number) = checked else {
+        return checked;
+    };
+    let place = header.rules;
+    search_rules(bytes, &bytes[place..], model, header, number)
 }
