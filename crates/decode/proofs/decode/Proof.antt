@@ -1,3 +1,4 @@
+-- `decode::decode` meets its contract.
 use Rattle.fields.proofs.Laws.{told}
 use Rattle.laws.specs.Boards.{boardOf}
 use Rattle.size.specs.Said.{saidMeasured}
@@ -5,10 +6,6 @@ use Rattle.decode.specs.Decoded.{measured, unmeasured, decode-is, decode
 use borrow.Author.Needs.{needs}
 use Rattle.decode.proofs.decode.Statement.{statement}
 use Rattle.decode.proofs.decode.Tie as tie
-use Rattle.decode.proofs.decode.Reads as reads
-use Rattle.decode.proofs.decode.Lts as lts
-use Rattle.decode.proofs.read_back.Reads as read-back-reads
-use Rattle.size.proofs.measure.Reads as measure-reads
 
 measure-requires : tie.Need-measure-requires
 measure-requires c κs = search needs

@@ -1,5 +1,5 @@
+-- `decode::read_back` meets its contract.
 use mathlib.Core.Path.{_≡_, sym, ap, _∙_}
-use Prim.Native.Nat.{_≤_}
 use native.Mathlib.Omega.{arith}
 use lib.ListN.{length, take}
 use Rattle.fields.proofs.Laws.{told}
@@ -12,12 +12,6 @@ use Rattle.decode.specs.Decoded.{model-wrong, values-wrong, booleans-wro
 use borrow.Author.Needs.{needs}
 use Rattle.decode.proofs.read_back.Statement.{statement}
 use Rattle.decode.proofs.read_back.Tie as tie
-use Rattle.decode.proofs.read_back.Reads as reads
-use Rattle.decode.proofs.read_back.Lts as lts
-use Rattle.decode.proofs.search.search_clauses.Reads as search-clauses-reads
-use Rattle.decode.proofs.values.write_booleans.Reads as write-booleans-reads
-use Rattle.decode.proofs.values.write_values.Reads as write-values-reads
-use Rattle.lent.proofs.first_bad_byte.Reads as first-bad-byte-reads
 
 returns : tie.Need-returns
 returns c =

@@ -1,11 +1,9 @@
+-- `decode::axioms::holds_from` meets its contract.
 use mathlib.Core.Path.{sym, _∙_}
 use Rattle.decode.specs.Axioms.{rises-on, rises-off}
 use borrow.Author.Needs.{needs}
 use Rattle.decode.proofs.axioms.holds_from.Statement.{statement}
 use Rattle.decode.proofs.axioms.holds_from.Tie as tie
-use Rattle.decode.proofs.axioms.holds_from.Reads as reads
-use Rattle.decode.proofs.axioms.holds_from.Lts as lts
-use Rattle.decode.proofs.truth.is_on.Reads as is-on-reads
 
 is-on-requires : tie.Need-is-on-requires
 is-on-requires c κs = search needs

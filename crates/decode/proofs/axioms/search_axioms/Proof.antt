@@ -1,5 +1,6 @@
+-- `decode::axioms::search_axioms` meets its contract.
 use borrow.Author.Needs.{needs}
-use mathlib.Core.Path.{_≡_, refl, sym, ap, _∙_}
+use mathlib.Core.Path.{_≡_, sym, ap, _∙_}
 use mathlib.Core.List.{map, flatten}
 use Prim.Native.Nat.{_+_, _-_, _≤_, _<_}
 use native.Mathlib.Omega.{arith}
@@ -16,11 +17,6 @@ use Rattle.decode.specs.Goes.{Goes, goes-start, goes-part, goes-fails, g
 use Rattle.decode.specs.Axioms.{axiomTests, axiomsFrom, axioms-all, axioms-first, axioms-none, axioms-fit}
 use Rattle.decode.proofs.axioms.search_axioms.Statement.{statement}
 use Rattle.decode.proofs.axioms.search_axioms.Tie as tie
-use Rattle.decode.proofs.axioms.search_axioms.Reads as reads
-use Rattle.decode.proofs.axioms.search_axioms.Lts as lts
-use Rattle.decode.proofs.axioms.search_variable.Reads as search-variable-reads
-use Rattle.slots.proofs.variables.bounds_of.Reads as bounds-of-reads
-use Rattle.slots.proofs.variables.width_of.Reads as width-of-reads
 
 abbrev Inv-loop : tie.InvT-loop
 Inv-loop bytes model header x₀ first₀ number₀ x first number =

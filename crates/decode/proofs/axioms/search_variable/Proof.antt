@@ -1,4 +1,4 @@
-use borrow.Author.Needs.{needs}
+-- `decode::axioms::search_variable` meets its contract.
 use mathlib.Core.Path.{sym, _∙_}
 use mathlib.Core.List.{map}
 use Prim.Native.Nat.{_+_, _-_, _≤_}
@@ -9,10 +9,6 @@ use Rattle.decode.specs.Goes.{Goes}
 use Rattle.decode.specs.Axioms.{rises, axiomTests, first-fails, last-fails, past-last, step-holds, step-fails, steps-end}
 use Rattle.decode.proofs.axioms.search_variable.Statement.{statement}
 use Rattle.decode.proofs.axioms.search_variable.Tie as tie
-use Rattle.decode.proofs.axioms.search_variable.Reads as reads
-use Rattle.decode.proofs.axioms.search_variable.Lts as lts
-use Rattle.decode.proofs.axioms.holds_from.Reads as holds-from-reads
-use Rattle.decode.proofs.truth.is_on.Reads as is-on-reads
 
 abbrev Inv-loop : tie.InvT-loop
 Inv-loop model first last number v₀ at₀ v at =

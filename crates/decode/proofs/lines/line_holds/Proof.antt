@@ -1,6 +1,6 @@
+-- `decode::lines::line_holds` meets its contract.
 use borrow.Author.Needs.{needs}
 use mathlib.Core.Path.{_≡_, refl, sym, ap, _∙_}
-use Prim.Native.Nat.{_+_, _≤_, _<_}
 use native.Mathlib.Omega.{arith}
 use lib.ListN.{length}
 use Rattle.fields.proofs.Laws.{told}
@@ -17,13 +17,6 @@ use Rattle.decode.specs.Truth.{trueClause}
 use Rattle.decode.specs.Lines.{Reading, literals-first, literals-there, literals-none, number-before, first-numbered, first-holds, first-passed, none-holds}
 use Rattle.decode.proofs.lines.line_holds.Statement.{statement}
 use Rattle.decode.proofs.lines.line_holds.Tie as tie
-use Rattle.decode.proofs.lines.line_holds.Reads as reads
-use Rattle.decode.proofs.lines.line_holds.Lts as lts
-use Rattle.decode.proofs.lines.known_of.Reads as known-of-reads
-use Rattle.decode.proofs.lines.literal_holds.Reads as literal-holds-reads
-use Rattle.decode.proofs.lines.selector_after.Reads as selector-after-reads
-use Rattle.reader.proofs.clauses.literal_at.Reads as literal-at-reads
-use Rattle.slots.proofs.variables.first_number.Reads as first-number-reads
 
 abbrev Inv-loop : tie.InvT-loop
 Inv-loop bytes rules model n at selector known selectors j₀ place₀ left₀ j place left =

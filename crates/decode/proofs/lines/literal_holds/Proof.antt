@@ -1,3 +1,4 @@
+-- `decode::lines::literal_holds` meets its contract.
 use mathlib.Core.Path.{sym, ap, _∙_}
 use mathlib.Core.Bool.{not}
 use Prim.Native.Nat.{_+_}
@@ -6,9 +7,6 @@ use Rattle.decode.specs.Lines.{signed}
 use borrow.Author.Needs.{needs}
 use Rattle.decode.proofs.lines.literal_holds.Statement.{statement}
 use Rattle.decode.proofs.lines.literal_holds.Tie as tie
-use Rattle.decode.proofs.lines.literal_holds.Reads as reads
-use Rattle.decode.proofs.lines.literal_holds.Lts as lts
-use Rattle.decode.proofs.truth.is_on.Reads as is-on-reads
 
 enum-known-literal : tie.Need-enum-known-literal
 enum-known-literal c = search needs

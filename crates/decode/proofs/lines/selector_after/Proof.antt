@@ -1,9 +1,8 @@
+-- `decode::lines::selector_after` meets its contract.
 use native.Mathlib.Omega.{arith}
 use borrow.Author.Needs.{needs}
 use Rattle.decode.proofs.lines.selector_after.Statement.{statement}
 use Rattle.decode.proofs.lines.selector_after.Tie as tie
-use Rattle.decode.proofs.lines.selector_after.Reads as reads
-use Rattle.decode.proofs.lines.selector_after.Lts as lts
 
 enum-told : tie.Need-enum-told
 enum-told c = search needs

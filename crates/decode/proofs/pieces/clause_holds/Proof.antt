@@ -1,6 +1,6 @@
-use borrow.Author.Needs.{needs}
+-- `decode::pieces::clause_holds` meets its contract.
 use mathlib.Core.Path.{_≡_, refl, sym, ap, _∙_}
-use Prim.Native.Nat.{_+_, _-_, _≤_}
+use Prim.Native.Nat.{_-_, _≤_}
 use native.Mathlib.Omega.{arith}
 use lib.ListN.{getD, drop}
 use lib.IntN.{pos}
@@ -14,10 +14,6 @@ use Rattle.decode.specs.Truth.{trueNumber}
 use Rattle.decode.specs.Tails.{InModel, any-hit, any-miss, any-none}
 use Rattle.decode.proofs.pieces.clause_holds.Statement.{statement}
 use Rattle.decode.proofs.pieces.clause_holds.Tie as tie
-use Rattle.decode.proofs.pieces.clause_holds.Reads as reads
-use Rattle.decode.proofs.pieces.clause_holds.Lts as lts
-use Rattle.decode.proofs.truth.holds.Reads as holds-reads
-use Rattle.walk.proofs.tuples.literal_at.Reads as literal-at-reads
 
 abbrev Inv-loop : tie.InvT-loop
 Inv-loop model lead c w i₀ i =

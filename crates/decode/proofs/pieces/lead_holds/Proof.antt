@@ -1,3 +1,4 @@
+-- `decode::pieces::lead_holds` meets its contract.
 use mathlib.Core.Path.{_≡_, sym, ap, _∙_}
 use mathlib.Core.Bool.{not}
 use native.Mathlib.Omega.{arith}
@@ -9,11 +10,6 @@ use Rattle.decode.specs.Tails.{negated-true, selector-numbered}
 use borrow.Author.Needs.{needs}
 use Rattle.decode.proofs.pieces.lead_holds.Statement.{statement}
 use Rattle.decode.proofs.pieces.lead_holds.Tie as tie
-use Rattle.decode.proofs.pieces.lead_holds.Reads as reads
-use Rattle.decode.proofs.pieces.lead_holds.Lts as lts
-use Rattle.decode.proofs.lines.line_holds.Reads as line-holds-reads
-use Rattle.decode.proofs.truth.is_on.Reads as is-on-reads
-use Rattle.slots.proofs.variables.first_number.Reads as first-number-reads
 
 enum-known-piece : tie.Need-enum-known-piece
 enum-known-piece c = search needs

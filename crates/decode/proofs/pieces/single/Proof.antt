@@ -1,10 +1,8 @@
-use borrow.Author.Needs.{needs}
+-- `decode::pieces::single` meets its contract.
 use mathlib.Core.Path.{refl}
 use Rattle.decode.specs.Tails.{single-is}
 use Rattle.decode.proofs.pieces.single.Statement.{statement}
 use Rattle.decode.proofs.pieces.single.Tie as tie
-use Rattle.decode.proofs.pieces.single.Reads as reads
-use Rattle.decode.proofs.pieces.single.Lts as lts
 
 returns : tie.Need-returns
 returns c = single-is _ refl refl

@@ -1,4 +1,5 @@
-use mathlib.Core.Path.{_≡_, sym, ap, _∙_}
+-- `decode::pieces::tails_at` meets its contract.
+use mathlib.Core.Path.{_≡_, ap, _∙_}
 use mir.Syntax.{w32}
 use mir.Val.{SFits}
 use mir.Facts.{toZ-ofZ}
@@ -13,11 +14,6 @@ use Rattle.decode.specs.Tails.{below-tails, above-tails}
 use borrow.Author.Needs.{needs}
 use Rattle.decode.proofs.pieces.tails_at.Statement.{statement}
 use Rattle.decode.proofs.pieces.tails_at.Tie as tie
-use Rattle.decode.proofs.pieces.tails_at.Reads as reads
-use Rattle.decode.proofs.pieces.tails_at.Lts as lts
-use Rattle.decode.proofs.pieces.single.Reads as single-reads
-use Rattle.slots.proofs.comparisons.ready.Reads as ready-reads
-use Rattle.walk.proofs.tuples.least.Reads as least-reads
 
 ready-requires : tie.Need-ready-requires
 ready-requires c κs =

@@ -1,3 +1,4 @@
+-- `decode::pieces::tails_of` meets its contract.
 use mathlib.Core.List.{[], _∷_}
 use mir.Facts.{toZ-ofZ}
 use Rattle.definitions.specs.Encoding.{minus, selector}
@@ -8,10 +9,6 @@ use Rattle.decode.specs.Tails.{line-tails}
 use borrow.Author.Needs.{needs}
 use Rattle.decode.proofs.pieces.tails_of.Statement.{statement}
 use Rattle.decode.proofs.pieces.tails_of.Tie as tie
-use Rattle.decode.proofs.pieces.tails_of.Reads as reads
-use Rattle.decode.proofs.pieces.tails_of.Lts as lts
-use Rattle.decode.proofs.pieces.single.Reads as single-reads
-use Rattle.decode.proofs.pieces.tails_at.Reads as tails-at-reads
 
 enum-told : tie.Need-enum-told
 enum-told c = search needs

@@ -1,12 +1,10 @@
+-- `decode::search::next_piece` meets its contract.
 use borrow.Author.Needs.{needs}
 use Rattle.reader.specs.Said.{contextOf}
 use Rattle.rules.specs.Cursors.{todo}
 use Rattle.decode.specs.Passes.{Onto, onto-start, onto-met, onto-passed, onto-end}
 use Rattle.decode.proofs.search.next_piece.Statement.{statement}
 use Rattle.decode.proofs.search.next_piece.Tie as tie
-use Rattle.decode.proofs.search.next_piece.Reads as reads
-use Rattle.decode.proofs.search.next_piece.Lts as lts
-use Rattle.rules.proofs.step.Reads as step-reads
 
 abbrev Inv-loop : tie.InvT-loop
 Inv-loop rules known at₀ at = Onto (contextOf known) rules at₀ at

@@ -1,3 +1,4 @@
+-- `decode::search::search_clauses` meets its contract.
 use mathlib.Core.Path.{_≡_, ap}
 use mathlib.Core.List.{[], map, flatten}
 use Prim.Native.Nat.{_-_, _≤_}
@@ -16,10 +17,6 @@ use Rattle.decode.specs.Passes.{testsOf, clauses-split, clauses-fit}
 use borrow.Author.Needs.{needs}
 use Rattle.decode.proofs.search.search_clauses.Statement.{statement}
 use Rattle.decode.proofs.search.search_clauses.Tie as tie
-use Rattle.decode.proofs.search.search_clauses.Reads as reads
-use Rattle.decode.proofs.search.search_clauses.Lts as lts
-use Rattle.decode.proofs.axioms.search_axioms.Reads as search-axioms-reads
-use Rattle.decode.proofs.search.search_rules.Reads as search-rules-reads
 
 search-axioms-requires : tie.Need-search-axioms-requires
 search-axioms-requires c κs = c .before .before .pre

@@ -1,5 +1,6 @@
+-- `decode::search::search_rules` meets its contract.
 use borrow.Author.Needs.{needs}
-use mathlib.Core.Path.{_≡_, refl, sym, ap, _∙_}
+use mathlib.Core.Path.{_≡_, sym, _∙_}
 use native.Mathlib.Omega.{arith}
 use lib.ListN.{length}
 use borrow.Author.Tests.{not-true, not-false}
@@ -12,16 +13,6 @@ use Rattle.decode.specs.Given.{ints-is, bools-is, clauses-is, admitted, 
 use Rattle.decode.specs.Passes.{came-met, came-none, Passing, Walks, passing-start, passing-end, walks-start, walks-end, walks-at, walks-next, walks-less, walks-numbered, walks-stop, walks-room}
 use Rattle.decode.proofs.search.search_rules.Statement.{statement}
 use Rattle.decode.proofs.search.search_rules.Tie as tie
-use Rattle.decode.proofs.search.search_rules.Reads as reads
-use Rattle.decode.proofs.search.search_rules.Lts as lts
-use Rattle.decode.proofs.lines.known_of.Reads as known-of-reads
-use Rattle.decode.proofs.pieces.clause_holds.Reads as clause-holds-reads
-use Rattle.decode.proofs.pieces.lead_holds.Reads as lead-holds-reads
-use Rattle.decode.proofs.pieces.tails_of.Reads as tails-of-reads
-use Rattle.decode.proofs.search.next_piece.Reads as next-piece-reads
-use Rattle.rules.proofs.start.Reads as start-reads
-use Rattle.walk.proofs.tuples.first.Reads as first-reads
-use Rattle.walk.proofs.tuples.next.Reads as next-reads
 
 abbrev Inv-loop : tie.InvT-loop
 Inv-loop bytes rules model header number known at₀ behind lead tails tuple₀ at tuple =

@@ -1,5 +1,6 @@
+-- `decode::values::value_of` meets its contract.
 use borrow.Author.Needs.{needs}
-use mathlib.Core.Path.{_≡_, refl, sym, ap, _∙_}
+use mathlib.Core.Path.{_≡_, refl, sym, _∙_}
 use Prim.Native.Nat.{_+_, _-_, _≤_, _<_}
 use native.Mathlib.Omega.{arith}
 use lib.IntN.{pos, _+ℤ_}
@@ -14,10 +15,6 @@ use Rattle.decode.specs.Given.{width-least}
 use Rattle.decode.specs.Values.{valueAfter, valueFrom, value-hit, value-miss, value-last}
 use Rattle.decode.proofs.values.value_of.Statement.{statement}
 use Rattle.decode.proofs.values.value_of.Tie as tie
-use Rattle.decode.proofs.values.value_of.Reads as reads
-use Rattle.decode.proofs.values.value_of.Lts as lts
-use Rattle.decode.proofs.truth.is_on.Reads as is-on-reads
-use Rattle.slots.proofs.variables.width_of.Reads as width-of-reads
 
 abbrev Inv-loop : tie.InvT-loop
 Inv-loop model first bounds width k₀ k =

@@ -1,5 +1,6 @@
+-- `decode::values::write_booleans` meets its contract.
 use borrow.Author.Needs.{needs}
-use mathlib.Core.Path.{_≡_, refl, sym, ap, _∙_}
+use mathlib.Core.Path.{_≡_, refl, ap, _∙_}
 use Prim.Native.Nat.{_-_, _≤_}
 use native.Mathlib.Omega.{arith}
 use lib.ListN.{length, getD, take, set, length-set}
@@ -8,8 +9,6 @@ use Rattle.laws.specs.Written.{written, written-none, written-take}
 use Rattle.decode.specs.Values.{written-all}
 use Rattle.decode.proofs.values.write_booleans.Statement.{statement}
 use Rattle.decode.proofs.values.write_booleans.Tie as tie
-use Rattle.decode.proofs.values.write_booleans.Reads as reads
-use Rattle.decode.proofs.values.write_booleans.Lts as lts
 
 abbrev Inv-loop : tie.InvT-loop
 Inv-loop model booleans₀ i₀ booleans i =

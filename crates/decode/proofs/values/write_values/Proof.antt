@@ -1,14 +1,14 @@
+-- `decode::values::write_values` meets its contract.
 use borrow.Author.Needs.{needs}
 use mathlib.Core.Path.{_≡_, refl, sym, ap, _∙_}
-use Prim.Native.Nat.{_+_, _-_, _≤_, _<_}
+use Prim.Native.Nat.{_-_, _≤_, _<_}
 use native.Mathlib.Omega.{arith}
 use lib.ListN.{length, getD, take, set, length-set}
-use lib.Seq.{length-take-le, take-all}
+use lib.Seq.{take-all}
 use lib.IntN.{pos}
 use mir.Syntax.{w32}
 use mir.Val.{SFits}
 use mir.Facts.{toZ-ofZ}
-use Rattle.definitions.specs.Board.{boundsOf}
 use Rattle.definitions.specs.Encoding.{width}
 use Rattle.definitions.specs.Encoding as Encoding
 use Rattle.definitions.specs.Meaning.{valuesOf}
@@ -20,11 +20,6 @@ use Rattle.decode.specs.Given.{ints-is, bools-is, admitted, short, varia
 use Rattle.decode.specs.Values.{value-is, values-length, values-at, written-all}
 use Rattle.decode.proofs.values.write_values.Statement.{statement}
 use Rattle.decode.proofs.values.write_values.Tie as tie
-use Rattle.decode.proofs.values.write_values.Reads as reads
-use Rattle.decode.proofs.values.write_values.Lts as lts
-use Rattle.decode.proofs.values.value_of.Reads as value-of-reads
-use Rattle.slots.proofs.variables.bounds_of.Reads as bounds-of-reads
-use Rattle.slots.proofs.variables.width_of.Reads as width-of-reads
 
 abbrev Inv-loop : tie.InvT-loop
 Inv-loop bytes model header values₀ x₀ first₀ values x first =
