@@ -1,0 +1,87 @@
+// Reading a model back (01, Decode): the search for a clause that does not hold, then the values and the Booleans.
+use crate::search::search_clauses;
+use crate::values::write_booleans;
+use crate::values::write_values;
+use definitions::Refusal;
+use definitions::Verdict;
+use lent::Found;
+use lent::first_bad_byte;
+use opening::Header;
+use rules::Cursor;
+use rules::Piece;
+use size::Measured;
+use size::measure;
+ghost use mathlib.Core.Path.{_≡_};
+ghost use Rattle.definitions.specs.Encoding.{N};
+ghost use Rattle.definitions.specs.Operations.{lending, Decode};
+ghost use Rattle.laws.specs.Boards.{boardOf};
+ghost use Rattle.decode.specs.Given.{Opened};
+ghost use Rattle.decode.specs.Decoded.{Leaves, readBack};
+
+// The first clause that does not hold, or that all do, and the number after the last.
+pub enum Checked {
+    Fails(usize),
+    Hold(usize),
+}
+
+// The next piece of the rules and where the pass stands behind it.
+pub enum Ahead {
+    Met(Piece, Cursor),
+    Nothing,
+}
+
+pub mod axioms; // axioms.rt: the search over the axioms
+pub mod lines; // lines.rt: the clause of a record clause's Booleans and selectors
+pub mod pieces; // pieces.rt: the clauses of a piece of the rules
+pub mod search; // search.rt: the search over the rules
+pub mod truth; // truth.rt: whether a literal holds in a model
+pub mod values; // values.rt: what is read back
+
+// What follows once the record is accepted: checks 11, 12 and 13, then the writing.
+fn read_back(
+    bytes: &[u8],
+    model: &[u8],
+    header: Header,
+    n: usize,
+    values: &mut [i32],
+    booleans: &mut [u8],
+) -> Verdict
+    requires { ⌜ Opened (now bytes) header × (n ≡ N (boardOf (now bytes))) ⌝ }
+    ensures { λ r. ⌜ Leaves (lending (now (values .entry), now (booleans .entry)) (readBack (boardOf (now (bytes .entry))) (now (model .entry)) (now (values .entry)) (now (booleans .entry)))) r (now (values .exit)) (now (booleans .exit)) ⌝ }
+{
+    if model.len() != n {
+        return Verdict::Refused(Refusal::LentWrong { wanted: n });
+    }
+    if values.len() != header.ints {
+        return Verdict::Refused(Refusal::LentWrong {
+            wanted: header.ints,
+        });
+    }
+    if booleans.len() != header.bools {
+        return Verdict::Refused(Refusal::LentWrong {
+            wanted: header.bools,
+        });
+    }
+    match first_bad_byte(model) {
+        Found::At(index) => Verdict::Refused(Refusal::ByteWrong { index: index }),
+        Found::Nothing => match search_clauses(bytes, model, header) {
+            Checked::Fails(number) => Verdict::Refused(Refusal::ClauseFails { number: number }),
+            Checked::Hold(_) => {
+                write_values(bytes, model, header, values);
+                write_booleans(model, booleans);
+                Verdict::Accepted
+            }
+        },
+    }
+}
+
+pub fn decode(bytes: &[u8], model: &[u8], values: &mut [i32], booleans: &mut [u8]) -> Verdict
+    ensures { λ r. ⌜ Leaves (Decode (now (bytes .entry)) (now (model .entry)) (now (values .entry)) (now (booleans .entry))) r (now (values .exit)) (now (booleans .exit)) ⌝ }
+{
+    match measure(bytes) {
+        Measured::Board(header, totals) => {
+            read_back(bytes, model, header, totals.n, values, booleans)
+        }
+        Measured::Refused(r) => Verdict::Refused(r),
+    }
+}

@@ -1,0 +1,96 @@
+// The clause of a record clause's Boolean literals and selectors.
+use crate::truth::is_on;
+use opening::Header;
+use reader::Context;
+use reader::Literal;
+use reader::LiteralRead;
+use reader::clauses::literal_at;
+use slots::variables::first_number;
+ghost use mathlib.Core.Path.{_≡_};
+ghost use Prim.Native.Nat.{_+_, _≤_, _<_};
+ghost use lib.ListN.{length};
+ghost use Rattle.definitions.specs.Tools.{All};
+ghost use Rattle.definitions.specs.Result.{done};
+ghost use Rattle.definitions.specs.Reading.{times, readLiteral};
+ghost use Rattle.reader.specs.Said.{contextOf};
+ghost use Rattle.laws.specs.Ahead.{literalsAt};
+ghost use Rattle.laws.specs.Boards.{boardOf};
+ghost use Rattle.laws.specs.Reread as reread;
+ghost use Rattle.laws.specs.Pieces.{lineFrom};
+ghost use Rattle.laws.specs.Mentions.{Mentions};
+ghost use Rattle.decode.specs.Given.{Given};
+ghost use Rattle.decode.specs.Truth.{trueClause};
+ghost use Rattle.decode.specs.Lines.{numberIn, signed, selectorAfter};
+
+pub fn known_of(header: Header) -> Context
+    requires { ⌜ (header .ints ≤ 1024) × (header .bools ≤ 4096) ⌝ }
+    ensures { λ r. ⌜ contextOf r ≡ record { version = 1; ints = header .ints; bools = header .bools } ⌝ }
+{
+    Context {
+        version: 1,
+        ints: header.ints as u32,
+        bools: header.bools as u32,
+    }
+}
+
+// The next selector is j of those that have the numbers from `selectors` on.
+fn literal_holds(model: &[u8], literal: Literal, selectors: usize, j: usize) -> bool
+    requires { ⌜ (1 ≤ numberIn (selectors + j) literal) × (numberIn (selectors + j) literal ≤ length (now model)) × (length (now model) < 2147483648) ⌝ }
+    ensures { λ r. ⌜ r ≡ signed (now (model .entry)) (selectors + j) literal ⌝ }
+{
+    match literal {
+        Literal::Boolean(b) => is_on(model, b as usize),
+        Literal::Negated(b) => !is_on(model, b as usize),
+        Literal::Comparison {
+            place: _,
+            constant: _,
+        } => is_on(model, selectors + j),
+    }
+}
+
+// The next selector behind a literal.
+fn selector_after(literal: Literal, j: usize) -> usize
+    requires { ⌜ numberIn j literal < 2147483648 ⌝ }
+    ensures { λ r. ⌜ r ≡ selectorAfter literal j ⌝ }
+{
+    match literal {
+        Literal::Boolean(_) => j,
+        Literal::Negated(_) => j,
+        Literal::Comparison {
+            place: _,
+            constant: _,
+        } => j + 1,
+    }
+}
+
+// Whether some literal of the line holds: n literals at a place, the first selector.
+pub fn line_holds(
+    bytes: &[u8],
+    rules: &[u8],
+    model: &[u8],
+    header: Header,
+    n: usize,
+    at: usize,
+    selector: usize,
+) -> bool
+    requires { ⌜ Given (now bytes) (now model) header × (times n (readLiteral (reread.contextOf (boardOf (now bytes)))) (now rules) at ≡ done (literalsAt (reread.contextOf (boardOf (now bytes))) (now rules) n at)) × All (Mentions (boardOf (now bytes))) (lineFrom selector (literalsAt (reread.contextOf (boardOf (now bytes))) (now rules) n at .value)) ⌝ }
+    ensures { λ r. ⌜ r ≡ trueClause (boardOf (now (bytes .entry))) (now (model .entry)) (lineFrom selector (literalsAt (reread.contextOf (boardOf (now (bytes .entry)))) (now (rules .entry)) n at .value)) ⌝ }
+{
+    let known = known_of(header);
+    let selectors = first_number(bytes, header.bools, header.ints) as usize;
+    let mut j = selector;
+    let mut place = at;
+    let mut left = n;
+    while 0 < left {
+        let LiteralRead::Got(literal, next) = literal_at(rules, known, place) else {
+            return false;
+        };
+        if literal_holds(model, literal, selectors, j) {
+            return true;
+        }
+        j = selector_after(literal, j);
+        place = next;
+        left -= 1;
+    }
+    false
+}

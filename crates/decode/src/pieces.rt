@@ -1,0 +1,123 @@
+// The clauses of a piece of the rules: each is the piece's lead and, behind it, the literals of a tuple.
+use crate::lines::line_holds;
+use crate::truth::holds;
+use crate::truth::is_on;
+use opening::Header;
+use rules::Piece;
+use slots::comparisons::ready;
+use slots::variables::first_number;
+use walk::At;
+use walk::Comparison;
+use walk::Slot;
+use walk::Walk;
+use walk::tuples::least;
+use walk::tuples::literal_at;
+ghost use mathlib.Core.Path.{_≡_};
+ghost use mathlib.Core.List.{[], _∷_};
+ghost use mathlib.Core.Bool.{_||_};
+ghost use Prim.Native.Nat.{_+_, _≤_, _<_};
+ghost use lib.ListN.{length};
+ghost use Rattle.definitions.specs.Tools.{All, any};
+ghost use Rattle.definitions.specs.Board as board;
+ghost use Rattle.laws.specs.Boards.{boardOf};
+ghost use Rattle.laws.specs.Reread.{contextOf};
+ghost use Rattle.laws.specs.Pieces.{under};
+ghost use Rattle.laws.specs.Mentions.{Sound};
+ghost use Rattle.rules.specs.Cursors.{saidPiece, Held, comparisonAt, Stands};
+ghost use Rattle.walk.specs.Comparisons.{FairComparison, Walking, present};
+ghost use Rattle.slots.specs.Ready.{ReadyFor};
+ghost use Rattle.decode.specs.Given.{Given, Opened};
+ghost use Rattle.decode.specs.Truth.{trueClause, trueNumber};
+ghost use Rattle.decode.specs.Tails.{leadOf, Tails, Single, InModel, TailsOf};
+
+// Whether the piece's lead holds: of a line, some literal; of a comparison, its negated selector.
+pub fn lead_holds(bytes: &[u8], rules: &[u8], model: &[u8], header: Header, piece: Piece) -> bool
+    requires { ⌜ Given (now bytes) (now model) header × Held (contextOf (boardOf (now bytes))) (now rules) piece × Sound (boardOf (now bytes)) (saidPiece (contextOf (boardOf (now bytes))) (now rules) piece) ⌝ }
+    ensures { λ r. ⌜ r ≡ trueClause (boardOf (now (bytes .entry))) (now (model .entry)) (leadOf (saidPiece (contextOf (boardOf (now (bytes .entry)))) (now (rules .entry)) piece)) ⌝ }
+{
+    match piece {
+        Piece::Line {
+            place,
+            literals,
+            selector,
+        } => line_holds(bytes, rules, model, header, literals, place, selector),
+        Piece::Lone {
+            place: _,
+            constant: _,
+        } => false,
+        Piece::Led {
+            selector,
+            place: _,
+            constant: _,
+        } => {
+            let first = first_number(bytes, header.bools, header.ints) as usize;
+            !is_on(model, first + selector)
+        }
+    }
+}
+
+// A comparison of no terms that has one tuple, without literals.
+fn single() -> Comparison
+    ensures { λ r. ⌜ Single r ⌝ }
+{
+    Comparison {
+        n: 0,
+        slots: [Slot {
+            coefficient: 0,
+            lower: 0,
+            upper: 0,
+            first: 0,
+        }; 3],
+        constant: -1,
+    }
+}
+
+// The comparison at a place, or a single clause where its constant is below the least sum.
+fn tails_at(bytes: &[u8], rules: &[u8], header: Header, place: usize, constant: i32) -> Comparison
+    requires { ⌜ Opened (now bytes) header × Stands (contextOf (boardOf (now bytes))) (now rules) place constant ⌝ }
+    ensures { λ r. ⌜ TailsOf (boardOf (now (bytes .entry))) (comparisonAt (now (rules .entry)) place constant) r ⌝ }
+{
+    let c = ready(bytes, header.bools, rules, place, constant);
+    if constant < least(c) {
+        return single();
+    }
+    c
+}
+
+// What is walked for the clauses of a piece.
+pub fn tails_of(bytes: &[u8], rules: &[u8], header: Header, piece: Piece) -> Comparison
+    requires { ⌜ Opened (now bytes) header × Held (contextOf (boardOf (now bytes))) (now rules) piece ⌝ }
+    ensures { λ r. ⌜ Tails (boardOf (now (bytes .entry))) (saidPiece (contextOf (boardOf (now (bytes .entry)))) (now (rules .entry)) piece) r ⌝ }
+{
+    match piece {
+        Piece::Line {
+            place: _,
+            literals: _,
+            selector: _,
+        } => single(),
+        Piece::Lone { place, constant } => tails_at(bytes, rules, header, place, constant),
+        Piece::Led {
+            selector: _,
+            place,
+            constant,
+        } => tails_at(bytes, rules, header, place, constant),
+    }
+}
+
+// Whether the lead or some literal of the present tuple holds.
+pub fn clause_holds(model: &[u8], lead: bool, c: Comparison, w: Walk) -> bool
+    requires { ⌜ FairComparison c × Walking c (At.Tuple w) × All (InModel (now model)) (present c w) × (length (now model) < 2147483648) ⌝ }
+    ensures { λ r. ⌜ r ≡ (lead || any (trueNumber (now (model .entry))) (present c w)) ⌝ }
+{
+    if lead {
+        return true;
+    }
+    let mut i: usize = 0;
+    while i < c.n {
+        if holds(model, literal_at(c, w, i)) {
+            return true;
+        }
+        i += 1;
+    }
+    false
+}

@@ -1,0 +1,100 @@
+// The search over the rules: it stops at the first clause none of whose literals holds.
+use crate::Ahead;
+use crate::Checked;
+use crate::axioms::search_axioms;
+use crate::lines::known_of;
+use crate::pieces::clause_holds;
+use crate::pieces::lead_holds;
+use crate::pieces::tails_of;
+use opening::Header;
+use reader::Context;
+use rules::Cursor;
+use rules::Stepped;
+use rules::start;
+use rules::step;
+use walk::At;
+use walk::tuples::first;
+use walk::tuples::next;
+ghost use mathlib.Core.Path.{_≡_};
+ghost use mathlib.Core.List.{map};
+ghost use Prim.Native.Nat.{_+_, _<_};
+ghost use lib.ListN.{length, drop};
+ghost use Rattle.definitions.specs.Encoding.{clauses};
+ghost use Rattle.laws.specs.Boards.{boardOf};
+ghost use Rattle.laws.specs.Pieces.{piecesFrom};
+ghost use Rattle.laws.specs.Reread.{tableEnd};
+ghost use Rattle.reader.specs.Said.{contextOf};
+ghost use Rattle.rules.specs.Cursors.{Sound};
+ghost use Rattle.decode.specs.Given.{Given};
+ghost use Rattle.decode.specs.Goes.{Sought};
+ghost use Rattle.decode.specs.Truth.{trueClause};
+ghost use Rattle.decode.specs.Passes.{Came, testsOf};
+
+fn next_piece(rules: &[u8], known: Context, cursor: Cursor) -> Ahead
+    requires { ⌜ Sound (contextOf known) (now rules) cursor ⌝ }
+    ensures { λ r. ⌜ Came (contextOf known) (now (rules .entry)) cursor r ⌝ }
+{
+    let mut at = cursor;
+    loop {
+        match step(rules, known, at) {
+            Stepped::Met(piece, behind) => {
+                return Ahead::Met(piece, behind);
+            }
+            Stepped::Passed(behind) => {
+                at = behind;
+            }
+            Stepped::End => {
+                return Ahead::Nothing;
+            }
+        }
+    }
+}
+
+// The clauses are counted from `number` on.
+pub fn search_rules(
+    bytes: &[u8],
+    rules: &[u8],
+    model: &[u8],
+    header: Header,
+    number: usize,
+) -> Checked
+    requires { ⌜ Given (now bytes) (now model) header × (now rules ≡ drop (tableEnd (boardOf (now bytes))) (now bytes)) × (number + length (testsOf (boardOf (now bytes)) (now model) (now rules) (piecesFrom 0 (boardOf (now bytes) .clauses))) < 9223372036854775808) ⌝ }
+    ensures { λ r. ⌜ Sought number (testsOf (boardOf (now (bytes .entry))) (now (model .entry)) (now (rules .entry)) (piecesFrom 0 (boardOf (now (bytes .entry)) .clauses))) r ⌝ }
+{
+    let known = known_of(header);
+    let mut at = number;
+    let mut cursor = start(header.clauses);
+    let found = 'search: loop {
+        let Ahead::Met(piece, behind) = next_piece(rules, known, cursor) else {
+            break 'search Checked::Hold(at);
+        };
+        let lead = lead_holds(bytes, rules, model, header, piece);
+        let tails = tails_of(bytes, rules, header, piece);
+        let mut tuple = first(tails);
+        loop {
+            let At::Tuple(w) = tuple else {
+                break;
+            };
+            if !clause_holds(model, lead, tails, w) {
+                break 'search Checked::Fails(at);
+            }
+            at += 1;
+            tuple = next(w);
+        }
+        cursor = behind;
+    };
+    found
+}
+
+// All clauses: the axioms, then the rules, which stand from the end of the variable table on.
+pub fn search_clauses(bytes: &[u8], model: &[u8], header: Header) -> Checked
+    requires { ⌜ Given (now bytes) (now model) header ⌝ }
+    ensures { λ r. ⌜ Sought 0 (map (trueClause (boardOf (now (bytes .entry))) (now (model .entry))) (clauses (boardOf (now (bytes .entry))))) r ⌝ }
+{
+    let checked = search_axioms(bytes, model, header);
+    let Checked::Hold(number) = checked else {
+        return checked;
+    };
+    let place = header.rules;
+    search_rules(bytes, &bytes[place..], model, header, number)
+}
