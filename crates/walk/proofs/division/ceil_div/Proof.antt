@@ -1,3 +1,4 @@
+-- `walk::division::ceil_div` meets its contract.
 use mathlib.Core.Path.{_≡_, _∙_, ap}
 use native.Mathlib.Omega.{arith}
 use lib.IntN.{ℤ, pos, natAbs, _-ℤ_}

@@ -1,3 +1,4 @@
+-- `walk::division::floor_div` meets its contract.
 use mathlib.Core.Path.{_∙_}
 use native.Mathlib.Omega.{arith}
 use Prim.Native.Nat.{_≤_}

@@ -1,3 +1,4 @@
+-- `walk::terms::literal` meets its contract.
 use mathlib.Core.Path.{_≡_, sym, ap, _∙_}
 use native.Mathlib.Omega.{arith}
 use lib.IntN.{pos, negℤ, natAbs, _-ℤ_}

@@ -1,3 +1,4 @@
+-- `walk::terms::order_number` meets its contract.
 use borrow.Author.Needs.{needs}
 use Rattle.walk.proofs.Slots.{number-fits, number-is}
 use Rattle.walk.proofs.terms.order_number.Statement.{statement}

@@ -1,3 +1,4 @@
+-- `walk::terms::slot_range` meets its contract.
 use lib.IntN.{pos}
 use lib.Signed.{_≤ℤ_, _<ℤ_}
 use Rattle.laws.specs.Whole.{whole, back}

@@ -1,3 +1,4 @@
+-- `walk::tuples::bound` meets its contract.
 use mathlib.Core.Path.{_≡_}
 use native.Mathlib.Omega.{arith}
 use lib.IntN.{pos, _+ℤ_}

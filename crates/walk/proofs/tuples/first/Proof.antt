@@ -1,3 +1,4 @@
+-- `walk::tuples::first` meets its contract.
 use mathlib.Core.Path.{_≡_, sym, ap, _∙_, subst}
 use mathlib.Core.List.{List, [], _∷_, map}
 use lib.IntN.{pos, natAbs}

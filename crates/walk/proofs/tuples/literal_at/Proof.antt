@@ -1,3 +1,4 @@
+-- `walk::tuples::literal_at` meets its contract.
 use mathlib.Core.Path.{sym, ap, _∙_}
 use lib.ListN.{getD}
 use mir.Syntax.{w32}

@@ -1,3 +1,4 @@
+-- `walk::tuples::lowest` meets its contract.
 use mathlib.Core.Path.{sym, ap, subst, _∙_}
 use native.Mathlib.Omega.{arith}
 use borrow.Author.Needs.{needs}

@@ -1,3 +1,4 @@
+-- `walk::tuples::next` meets its contract.
 use mathlib.Core.Path.{sym, subst}
 use native.Mathlib.Omega.{arith}
 use borrow.Author.Needs.{needs}

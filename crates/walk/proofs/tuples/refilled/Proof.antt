@@ -1,3 +1,4 @@
+-- `walk::tuples::refilled` meets its contract.
 use mathlib.Core.Path.{ap}
 use Prim.Native.Nat.{_-_}
 use borrow.Author.Needs.{needs}
