@@ -41,9 +41,6 @@ unsaid-said (Refusal.ValueOutside d) = refl
 told : {A S : Type 0} (say : A → S) (back : S → A) → ((a : A) → back (say a) ≡ a) → (a b : A) → say a ≡ say b → a ≡ b
 told say back e a b h = sym (e a) ∙ ap back h ∙ e b
 
-pub one-refusal : (r r′ : Refusal) → said r ≡ said r′ → r ≡ r′
-one-refusal = told said unsaid unsaid-said
-
 pub one-verdict : (v v′ : Verdict) → saidVerdict v ≡ saidVerdict v′ → v ≡ v′
 one-verdict = told saidVerdict back is
   where

@@ -154,9 +154,6 @@ module _ {A : Type 0} where
 
   -- n is how many are left after the first: a loop that counts down gives `left ≡ suc (left - 1)`
   module _ (r : Reader A) (s : List ℕ) (at : ℕ) where
-    pub times-none : {k : ℕ} → k ≡ 0 → times k r s at ≡ done (record { value = []; next = at })
-    times-none e = rw e
-
     pub times-more : {k n : ℕ} {g : Got A} → k ≡ suc n → r s at ≡ done g → times k r s at ≡ led (g .value) (times n r s (g .next))
     times-more {n = n} {g} e d = rw (e, d) (join (times n r s (g .next)))
       where

@@ -100,10 +100,6 @@ mul-law (negsuc a) (pos b) = omega (arith, neg-pos (suc a * b))
 mul-law (negsuc a) (negsuc b) = omega arith
 
 -- the range of a signed width: `SFits w z` is a record that omega enters, `mag z < 2 ^ hbits w`
-pub mag-law : (a : ℤ) → (pp a ≤ mag a) × (nn a ≤ suc (mag a))
-mag-law (pos a) = omega arith
-mag-law (negsuc a) = omega arith
-
 mag-of : (a : ℤ) (k : ℕ) → (pp a < nn a + k) × (nn a ≤ pp a + k) → mag a < k
 mag-of (pos a) k h = omega arith
 mag-of (negsuc a) k h = omega arith
@@ -247,9 +243,6 @@ zero-sub a = +ℤ-idl (negℤ a)
 -- a test `a == b` of signed numbers leaves an equation of their bits
 pub bits-is : {w : Width} {z : ℤ} {n : ℕ} → SFits w z → ofZ w z ≡ n → z ≡ toZ w n
 bits-is {w} f e = sym (toZ-ofZ f) ∙ ap (toZ w) e
-
-pub bits-same : {w : Width} {x y : ℤ} → SFits w x → SFits w y → ofZ w x ≡ ofZ w y → x ≡ y
-bits-same f g e = bits-is f e ∙ toZ-ofZ g
 
 pub ne-in : (a b : ℤ) → (a ≡ b → ⊥) → pp a + nn b ≢ pp b + nn a
 ne-in a b n e = n (eq-out a b e)
