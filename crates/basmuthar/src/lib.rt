@@ -17,7 +17,9 @@ ghost use Rattle.basmuthar.specs.Interface.{sizesWritten, verdictWritten
 fn refusal_written(r: Refusal) -> [u64; 4]
     ensures { λ a. ⌜ a ≡ verdictWritten (refusal r) ⌝ }
 {
-    [number_of(r), detail_of(r), 0, 0]
+    let number = number_of(r);
+    let detail = detail_of(r);
+    [number, detail, 0, 0]
 }
 
 fn sizes_written(sizing: Sizing) -> [u64; 4]

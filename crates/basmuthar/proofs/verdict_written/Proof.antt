@@ -16,7 +16,7 @@ refusal-written-requires : tie.Need-refusal-written-requires
 refusal-written-requires c κs = search needs
 
 returns : tie.Need-returns
-returns c = search needs
+returns c = ap (λ v. verdictWritten (saidVerdict v)) (sym (c .enum-told .given .1))
 
 returns-2 : tie.Need-returns-2
 returns-2 c =
