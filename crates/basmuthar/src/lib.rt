@@ -1,14 +1,14 @@
-// The operations for callers in C, Rust and other languages: include/basmuthar.h says what they owe and what they are given.
-// A caller in Rattle takes size::size, compile::compile, decode::decode and judge::judge from their own crates.
-use answers::detail_of;
-use answers::number_of;
-use compile::compile;
-use decode::decode;
-use definitions::Refusal;
-use definitions::Sizing;
-use definitions::Verdict;
-use judge::judge;
-use size::size;
+// The operations for callers. C and other languages call the exported functions (include/basmuthar.h says what a caller owes
+// and is given). A crate in Rattle depends on basmuthar and definitions, and calls the operations by their own names.
+pub use answers::detail_of;
+pub use answers::number_of;
+pub use compile::compile;
+pub use decode::decode;
+pub use definitions::Refusal;
+pub use definitions::Sizing;
+pub use definitions::Verdict;
+pub use judge::judge;
+pub use size::size;
 ghost use mathlib.Core.Path.{_≡_};
 ghost use Rattle.definitions.specs.Answers.{refusal, saidSizing, saidVerdict};
 ghost use Rattle.definitions.specs.Operations.{Compile, Decode, Judge, Size};
