@@ -5,6 +5,7 @@ use crate::printing::put_verdict;
 use crate::records::AT_MOST_7;
 use crate::records::EITHER_FIRST;
 use crate::records::FEW_TUPLES;
+use crate::records::IMPOSSIBLE;
 use crate::records::MODEL;
 use crate::records::SINGLE_TERMS;
 use crate::records::WIDE_SUM;
@@ -41,6 +42,12 @@ fn few_tuples() {
     );
     // the last clause, and the place after it
     put_list(&list[15329..15334]);
+}
+
+fn below_least() {
+    let mut list = [99; 33];
+    put_sizing(b"case 5", compile(&IMPOSSIBLE, &mut list));
+    put_list(&list);
 }
 
 fn selectors() {
@@ -96,6 +103,7 @@ fn main() {
     refused_sizes();
     list_lengths();
     few_tuples();
+    below_least();
     selectors();
     models();
     lengths_in_order();

@@ -5,6 +5,11 @@ pub const AT_MOST_7: [u8; 32] = *b"\x01\0\0\0\x1B\0\x02\0\0\0\x01\
     \0\x02\0\x06\0\x02\0\x06\
     \x01\x02\x02\x01\0\0\x01\0\x01\0\0\0\x07";
 
+// Case 5: x, y in 0..3, x + y at most -2.
+pub const IMPOSSIBLE: [u8; 32] = *b"\x01\0\0\0\x1B\0\x02\0\0\0\x01\
+    \0\0\0\x03\0\0\0\x03\
+    \x01\x02\x02\x01\0\0\x01\0\x01\xFF\xFF\xFF\xFE";
+
 // Case 8: x in 0..3, x at most 1 or x at most 2.
 pub const SINGLE_TERMS: [u8; 34] = *b"\x01\0\0\0\x1D\0\x01\0\0\0\x01\
     \0\0\0\x03\
