@@ -52,7 +52,7 @@ MUTANTS = [
 
 
 def changed(crates, changes):
-    """Makes the changes, and answers what stood in the files before, or nothing where a text does not stand there once."""
+    """Makes the changes; answers what stood in the files before, and whether each text stood there once."""
     before = {}
     for file, old, new in changes:
         path = crates / file
