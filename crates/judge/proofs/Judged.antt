@@ -14,13 +14,10 @@ use Rattle.definitions.specs.Result.{Result, done, refused, _>>_, need, each}
 use Rattle.definitions.specs.Result as result
 use Rattle.definitions.specs.Meaning.{assigned, inBounds, holds}
 use Rattle.definitions.specs.Operations.{accepted, long, bits, judged, Judge}
-use Rattle.laws.specs.Boards.{boardOf, Opens, board-is, opens}
+use Rattle.laws.specs.Boards.{boardOf, Opens}
 use Rattle.opening.specs.declared.Header.{Header}
-use Rattle.opening.specs.Said.{mapDone, headerOf}
-use Rattle.laws.specs.Readings.{same, never}
-use Rattle.laws.specs.Reread.{accepted-parts}
-use Rattle.size.specs.declared.Totals.{Totals}
-use Rattle.size.specs.Said.{measuredOf}
+use Rattle.opening.specs.Said.{headerOf}
+use Rattle.laws.specs.Readings.{never}
 use Rattle.judge.specs.Checks.{Long, fitting, solving}
 
 -- ---- lengths
@@ -88,24 +85,7 @@ pub judge-not : (s : List ℕ) (values : List ℤ) (booleans : List ℕ) {n i : 
 unfolding Judge
 judge-not s values booleans e = rw (not-judged s values booleans (λ B. done tt) e)
 
--- what `measure`'s answer tells of the record
 module _ (s : List ℕ) where
-  pub measured : {h : Header} {t : Totals} → mapDone measuredOf (accepted s) ≡ done (h, t) → (accepted s ≡ done (boardOf s)) × Opens s × (h ≡ headerOf (boardOf s))
-  measured {h} {t} = go (accepted s) refl
-    where
-      go : (m : Result Board) → accepted s ≡ m → mapDone measuredOf m ≡ done (h, t) → (accepted s ≡ done (boardOf s)) × Opens s × (h ≡ headerOf (boardOf s))
-      go (done B) e d =
-          let r = accepted-parts s B .0 e .0 in
-          (e ∙ ap done (sym (board-is s B r)), opens s B r, ap (λ z. z .0) (sym (same d)) ∙ ap headerOf (sym (board-is s B r)))
-      go (refused n i) e d = never d
-
-  pub not-measured : {n i : ℕ} → mapDone measuredOf (accepted s) ≡ refused n i → accepted s ≡ refused n i
-  not-measured {n} {i} = go (accepted s)
-    where
-      go : (m : Result Board) → mapDone measuredOf m ≡ refused n i → m ≡ refused n i
-      go (done B) d = never (sym d)
-      go (refused why p) d = cc
-
   pub long-enough : (header : Header) (values : List ℤ) (booleans : List ℕ) → Opens s → header ≡ headerOf (boardOf s) → fitting header values booleans ≡ done tt → Long s header values booleans
   long-enough header values booleans o e f =
       let l = fitted header values booleans f in

@@ -2,3 +2,4 @@ pub mod Places
 pub mod Shares
 pub mod Said
 pub mod Outcome
+pub mod Told

@@ -6,8 +6,8 @@ use Rattle.fields.proofs.Laws.{told}
 use Rattle.laws.specs.Boards.{boardOf}
 use Rattle.laws.specs.Sizes.{K-is}
 use Rattle.size.specs.Said.{saidMeasured}
-use Rattle.compile.proofs.Compiled.{measures, too-short, compiled, unmeasured}
-use borrow.Author.Needs.{needs}
+use Rattle.size.specs.Told.{measured}
+use Rattle.compile.proofs.Compiled.{too-short, compiled, unmeasured}
 use Rattle.compile.proofs.compile.Statement.{statement}
 use Rattle.compile.proofs.compile.Tie as tie
 
@@ -19,7 +19,7 @@ enum-known-header c = search needs
 
 put-list-requires : tie.Need-put-list-requires
 put-list-requires c κs =
-    let m = measures (c .before .before .before .before .before .before .before .before .args .bytes .now) (c .before .before .before .before .before .before .before .before .args .list .now) _ _ (told saidMeasured (c .before .before .before .before .before .before .measure .ensures) (c .before .before .before .before .header .given .1)) in (m .opened, m .header, omega (arith, c .before .if1 .left, ap (λ z. z .k) (m .totals), K-is (boardOf (c .before .before .before .before .before .before .before .before .args .bytes .now))))
+    let m = measured (c .before .before .before .before .before .before .before .before .args .bytes .now) (told saidMeasured (c .before .before .before .before .before .before .measure .ensures) (c .before .before .before .before .header .given .1)) in (m .opens, m .header, omega (arith, c .before .if1 .left, ap (λ z. z .k) (m .totals), K-is (boardOf (c .before .before .before .before .before .before .before .before .args .bytes .now))))
 
 enum-known-r : tie.Need-enum-known-r
 enum-known-r c = search needs
