@@ -1,4 +1,5 @@
-// Image: the plain model of a solution, part by part. The parts of Booleans and order variables are here; the selectors' part and the operation are not yet.
+// Image: the plain model of a solution, part by part. The operation is not yet here.
 
 pub mod parts; // parts.rt: the bytes of Booleans and of order variables
+pub mod selectors; // selectors.rt: the bytes of the selectors
 pub mod variables; // variables.rt: the order variables of all variables
