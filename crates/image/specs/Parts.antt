@@ -12,9 +12,9 @@ use Rattle.definitions.specs.Tools.{countUp, size, range, if_then_else_}
 use Rattle.definitions.specs.Board.{Board, Bounds, Comparison, Clause, boundsOf, variables, isTrue, isFalse, atMost}
 use Rattle.definitions.specs.Encoding.{Atom, bool, order, selector, orders, comparisons, selected, selections, atoms, width}
 use Rattle.definitions.specs.Meaning.{Assignment, on, compares, selection, truth, plainModel}
-use Rattle.laws.specs.Whole.{whole, add-law, sub-law, suc-law}
 use Rattle.laws.specs.Lists.{all-every, counted-at, length-countUp, map-same, map-flatten, map-at}
 use Rattle.laws.specs.Ranges.{range-shift}
+use Rattle.laws.specs.Layout.{spread}
 use Rattle.laws.specs.Pieces.{Piece, line, under, compared, used, lone, opening, piecesFrom}
 
 abbrev pub bit : Bool → ℕ
@@ -56,11 +56,7 @@ module _ (value lower : ℤ) (width : ℕ) where
 -- how many order variables a variable has
 width-is : (b : Bounds) → size (sucℤ (b .hi) -ℤ (b .lo -ℤ pos 1)) ≡ width b
 unfolding width
-width-is b =
-    let l = b .lo -ℤ pos 1 in
-    let d = b .hi -ℤ b .lo in
-    let e : sucℤ (b .hi) -ℤ l ≡ d +ℤ pos 2 = omega (whole, sub-law (sucℤ (b .hi)) l, suc-law (b .hi), sub-law (b .lo) (pos 1), add-law d (pos 2), sub-law (b .hi) (b .lo)) in
-    ap size e
+width-is b = ap size (spread (b .lo) (b .hi))
 
 module _ (B : Board) (a : Assignment) where
   pub orders-from : (x : ℕ) → orderBytes B a x ≡ orderFrom (a .α x) (boundsOf B x .lo) (width (boundsOf B x))

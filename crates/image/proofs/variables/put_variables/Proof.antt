@@ -1,6 +1,6 @@
 -- `image::variables::put_variables` meets its contract: what is written and the bytes from variable x on are all the bytes.
 use borrow.Author.Needs.{needs}
-use mathlib.Core.Path.{_≡_, refl}
+use mathlib.Core.Path.{refl}
 use mathlib.Core.List.{[]}
 use Prim.Native.Nat.{_+_, _-_, _≤_}
 use native.Mathlib.Omega.{arith}
@@ -58,19 +58,21 @@ part-put-orders-end c = search needs
 
 put-orders-requires : tie.Need-put-orders-requires Inv-loop μ-loop
 put-orders-requires c κs =
+    let start = c .before .before .before .before .before .before .before .before .before in
     let b = c .before .before .before .before .bounds-of .result in
     let w = c .before .before .before .width-of .result in
-    let f = orderFrom (getD (c .before .before .before .before .before .before .before .before .before .args .values .now) (c .before .before .before .before .before .before .loop .x) (pos 0)) (b .lower) w in
-    let next = orders-next (boardOf (c .before .before .before .before .before .before .before .before .before .args .bytes .now)) (c .before .before .before .before .before .before .before .before .before .args .values .now) (c .before .before .before .before .before .before .loop .x) (omega (arith, c .before .before .before .before .before .loop-test .taken, c .before .before .before .before .before .before .before .before .before .pre .1)) b w (c .before .before .before .before .bounds-of .ensures) (c .before .before .before .width-of .ensures) in
-    (rw (toZ-ofZ (lower-fits b (c .before .before .before .before .bounds-of .ensures .good))) (lower-small b (c .before .before .before .before .bounds-of .ensures .good)), omega (arith, c .before .before .before .width-of .ensures, width-most _ (c .before .before .before .before .bounds-of .ensures .good)), omega (arith, rest-length (c .before .before .before .before .before .before .loop .model) (c .before .before .before .before .before .before .loop .at), room-for (c .before .before .before .before .before .before .loop .inv .0) f _ next, orders-length (getD (c .before .before .before .before .before .before .before .before .before .args .values .now) (c .before .before .before .before .before .before .loop .x) (pos 0)) (b .lower) w))
+    let f = orderFrom (getD (start .args .values .now) (c .before .before .before .before .before .before .loop .x) (pos 0)) (b .lower) w in
+    let next = orders-next (boardOf (start .args .bytes .now)) (start .args .values .now) (c .before .before .before .before .before .before .loop .x) (omega (arith, c .before .before .before .before .before .loop-test .taken, start .pre .1)) b w (c .before .before .before .before .bounds-of .ensures) (c .before .before .before .width-of .ensures) in
+    (rw (toZ-ofZ (lower-fits b (c .before .before .before .before .bounds-of .ensures .good))) (lower-small b (c .before .before .before .before .bounds-of .ensures .good)), omega (arith, c .before .before .before .width-of .ensures, width-most _ (c .before .before .before .before .bounds-of .ensures .good)), omega (arith, rest-length (c .before .before .before .before .before .before .loop .model) (c .before .before .before .before .before .before .loop .at), room-for (c .before .before .before .before .before .before .loop .inv .0) f _ next, orders-length (getD (start .args .values .now) (c .before .before .before .before .before .before .loop .x) (pos 0)) (b .lower) w))
 
 add-at : tie.Need-add-at Inv-loop μ-loop
 add-at c =
+    let start = c .before .before .before .before .before .before .before .before .before .before .before .before in
     let b = c .before .before .before .before .before .before .before .bounds-of .result in
     let w = c .before .before .before .before .before .before .width-of .result in
-    let f = orderFrom (getD (c .before .before .before .before .before .before .before .before .before .before .before .before .args .values .now) (c .before .before .before .before .before .before .before .before .before .loop .x) (pos 0)) (b .lower) w in
-    let next = orders-next (boardOf (c .before .before .before .before .before .before .before .before .before .before .before .before .args .bytes .now)) (c .before .before .before .before .before .before .before .before .before .before .before .before .args .values .now) (c .before .before .before .before .before .before .before .before .before .loop .x) (omega (arith, c .before .before .before .before .before .before .before .before .loop-test .taken, c .before .before .before .before .before .before .before .before .before .before .before .before .pre .1)) b w (c .before .before .before .before .before .before .before .bounds-of .ensures) (c .before .before .before .before .before .before .width-of .ensures) in
-    let h : c .before .before .before .before .before .before .before .before .before .loop .at + c .before .before .put-orders .result ≤ length (c .before .before .before .before .before .before .before .before .before .before .before .before .args .model .now) = omega (arith, c .before .before .put-orders .ensures .0, c .before .before .before .before .before .before .before .before .before .loop .inv .0 .long, room-for (c .before .before .before .before .before .before .before .before .before .loop .inv .0) f _ next, orders-length (getD (c .before .before .before .before .before .before .before .before .before .before .before .before .args .values .now) (c .before .before .before .before .before .before .before .before .before .loop .x) (pos 0)) (b .lower) w) in
+    let f = orderFrom (getD (start .args .values .now) (c .before .before .before .before .before .before .before .before .before .loop .x) (pos 0)) (b .lower) w in
+    let next = orders-next (boardOf (start .args .bytes .now)) (start .args .values .now) (c .before .before .before .before .before .before .before .before .before .loop .x) (omega (arith, c .before .before .before .before .before .before .before .before .loop-test .taken, start .pre .1)) b w (c .before .before .before .before .before .before .before .bounds-of .ensures) (c .before .before .before .before .before .before .width-of .ensures) in
+    let h : c .before .before .before .before .before .before .before .before .before .loop .at + c .before .before .put-orders .result ≤ length (start .args .model .now) = omega (arith, c .before .before .put-orders .ensures .0, c .before .before .before .before .before .before .before .before .before .loop .inv .0 .long, room-for (c .before .before .before .before .before .before .before .before .before .loop .inv .0) f _ next, orders-length (getD (start .args .values .now) (c .before .before .before .before .before .before .before .before .before .loop .x) (pos 0)) (b .lower) w) in
     search needs
 
 add-x : tie.Need-add-x Inv-loop μ-loop
@@ -81,11 +83,12 @@ loop-less c = search needs
 
 loop-again : tie.Need-loop-again Inv-loop μ-loop
 loop-again c =
+    let start = c .before .before .before .before .before .before .before .before .before .before .before .before in
     let b = c .before .before .before .before .before .before .before .bounds-of .result in
     let w = c .before .before .before .before .before .before .width-of .result in
-    let f = orderFrom (getD (c .before .before .before .before .before .before .before .before .before .before .before .before .args .values .now) (c .before .before .before .before .before .before .before .before .before .loop .x) (pos 0)) (b .lower) w in
-    let next = orders-next (boardOf (c .before .before .before .before .before .before .before .before .before .before .before .before .args .bytes .now)) (c .before .before .before .before .before .before .before .before .before .before .before .before .args .values .now) (c .before .before .before .before .before .before .before .before .before .loop .x) (omega (arith, c .before .before .before .before .before .before .before .before .loop-test .taken, c .before .before .before .before .before .before .before .before .before .before .before .before .pre .1)) b w (c .before .before .before .before .before .before .before .bounds-of .ensures) (c .before .before .before .before .before .before .width-of .ensures) in
-    (part (c .before .before .before .before .before .before .before .before .before .loop .inv .0) f _ next _ _ (omega (arith, c .before .before .put-orders .ensures .0, orders-length (getD (c .before .before .before .before .before .before .before .before .before .before .before .before .args .values .now) (c .before .before .before .before .before .before .before .before .before .loop .x) (pos 0)) (b .lower) w)) (rw (toZ-ofZ (lower-fits b (c .before .before .before .before .before .before .before .bounds-of .ensures .good)), toZ-ofZ (bound-fits _ (c .before .before .before .before .before .put-orders-arg .given))) at (c .before .before .put-orders .ensures .1)), omega (arith, c .before .before .before .before .before .before .before .before .loop-test .taken))
+    let f = orderFrom (getD (start .args .values .now) (c .before .before .before .before .before .before .before .before .before .loop .x) (pos 0)) (b .lower) w in
+    let next = orders-next (boardOf (start .args .bytes .now)) (start .args .values .now) (c .before .before .before .before .before .before .before .before .before .loop .x) (omega (arith, c .before .before .before .before .before .before .before .before .loop-test .taken, start .pre .1)) b w (c .before .before .before .before .before .before .before .bounds-of .ensures) (c .before .before .before .before .before .before .width-of .ensures) in
+    (part (c .before .before .before .before .before .before .before .before .before .loop .inv .0) f _ next _ _ (omega (arith, c .before .before .put-orders .ensures .0, orders-length (getD (start .args .values .now) (c .before .before .before .before .before .before .before .before .before .loop .x) (pos 0)) (b .lower) w)) (rw (toZ-ofZ (lower-fits b (c .before .before .before .before .before .before .before .bounds-of .ensures .good)), toZ-ofZ (bound-fits _ (c .before .before .before .before .before .put-orders-arg .given))) at (c .before .before .put-orders .ensures .1)), omega (arith, c .before .before .before .before .before .before .before .before .loop-test .taken))
 
 same-length : tie.Need-same-length Inv-loop μ-loop
 same-length c = c .before .loop .inv .0 .long
