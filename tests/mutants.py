@@ -28,7 +28,7 @@ MUTANTS = [
     ("the selector left off a single-term comparison", [
         ("compile/src/pieces.rt",
          "                -(number as i32),",
-         "                if ready(bytes, bools, rules, place, constant).n == 1 { 0 } else { -(number as i32) },")]),
+         "                if ready(bytes, numbers, rules, place, constant).n == 1 { 0 } else { -(number as i32) },")]),
     ("one selector for a whole clause", [
         ("writing/src/lines.rt", "number += selectors_of(literal);", ""),
         ("rules/src/lib.rt", "after(c, next, c.selector + 1)", "after(c, next, c.selector)")]),
