@@ -13,7 +13,7 @@ use Rattle.laws.specs.Boards.{boardOf}
 use Rattle.laws.specs.Layout.{N-is}
 use Rattle.laws.specs.Written.{written, rest, back, rest-length, written-all}
 use Rattle.opening.specs.declared.Header.{Header}
-use Rattle.writing.specs.Filling.{Filling, begun, room, room-for, part, last}
+use Rattle.laws.specs.Filling.{Filling, begun, room, room-for, part, last}
 use Rattle.image.specs.Parts.{bit, booleanBytes, orderBytes, selectorBytes, booleans-length, plain-parts}
 use Rattle.image.specs.Variables.{ordersFrom}
 use Rattle.image.specs.Checks.{Writable}

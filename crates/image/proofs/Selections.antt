@@ -8,13 +8,14 @@ use Rattle.definitions.specs.Reading.{Context}
 use Rattle.definitions.specs.Encoding.{selections}
 use Rattle.definitions.specs.Meaning.{Assignment, compares}
 use Rattle.laws.specs.Boards.{boardOf, opens-board, opens-admitted}
+use Rattle.laws.specs.Reread.{comparisonAt}
 use Rattle.laws.specs.Written.{written}
 use Rattle.reader.specs.declared.Context as reader
 use Rattle.reader.specs.Said.{contextOf}
 use Rattle.rules.specs.declared.Cursor.{Cursor}
 use Rattle.rules.specs.declared.Piece as code
 use Rattle.rules.specs.declared.Stepped.{Stepped}
-use Rattle.rules.specs.Cursors.{comparisonAt, Stands, Sound, Onward, Went, atStart}
+use Rattle.rules.specs.Cursors.{Stands, Sound, Onward, Went, atStart}
 use Rattle.size.specs.Shares.{Known}
 use Rattle.size.proofs.Shares.{start-sound, start-coming}
 use Rattle.image.specs.Parts.{bit, selectorBytes, ledIn, led-selected}

@@ -2,7 +2,7 @@
 use Prim.Native.Nat.{_+_, _≤_}
 use native.Mathlib.Omega.{arith}
 use lib.ListN.{length}
-use Rattle.writing.specs.Filling.{room-before, room}
+use Rattle.laws.specs.Filling.{room-before, room}
 use Rattle.image.proofs.Joined.{booleans-room, after-booleans, orders-room, after-orders, selectors-room, after-selectors}
 use borrow.Author.Needs.{needs}
 use Rattle.image.proofs.put_model.Statement.{statement}

@@ -11,7 +11,7 @@ use Rattle.reader.specs.Said.{contextOf}
 use Rattle.rules.specs.Cursors.{Sound, atStart, todo}
 use Rattle.rules.proofs.Steps.{constant-fits}
 use Rattle.image.specs.Parts.{bit}
-use Rattle.writing.specs.Filling.{Filling, begin, room, next, one, ended}
+use Rattle.laws.specs.Filling.{Filling, begin, room, next, one, ended}
 use Rattle.image.proofs.Selections.{the-next, coming, coming-length, leads, past-line, past-lone, passes, ends}
 use Rattle.image.proofs.selectors.put_led.Statement.{statement}
 use Rattle.image.proofs.selectors.put_led.Tie as tie

@@ -12,7 +12,7 @@ use Rattle.definitions.specs.Meaning.{assigned}
 use Rattle.laws.specs.Fits.{width-most}
 use Rattle.laws.specs.Boards.{boardOf}
 use Rattle.laws.specs.Written.{rest-length}
-use Rattle.writing.specs.Filling.{Filling, begin, room, room-for, part, ended}
+use Rattle.laws.specs.Filling.{Filling, begin, room, room-for, part, ended}
 use Rattle.slots.specs.Variables.{lower-fits}
 use Rattle.image.specs.Parts.{orderFrom, orders-length}
 use Rattle.image.specs.Variables.{ordersFrom, orders-end, orders-next, lower-small}
