@@ -3,7 +3,7 @@ use mathlib.Core.Path.{_≡_, sym, _∙_}
 use mathlib.Core.List.{List}
 use Prim.Native.Nat.{ℕ}
 use lib.IntN.{ℤ}
-use Rattle.definitions.specs.Operations.{Size, Compile, Decode, Judge}
+use Rattle.definitions.specs.Operations.{Size, Compile, Decode, Judge, Image}
 use Rattle.basmuthar.specs.Interface.{sizesWritten, verdictWritten}
 
 one : {A : Type 0} {x y z : A} → x ≡ z → y ≡ z → x ≡ y
@@ -27,3 +27,7 @@ module _ (s : List ℕ) (a a′ : List ℕ) where
   module _ (values : List ℤ) (booleans : List ℕ) where
     pub one-judge : a ≡ verdictWritten (Judge s values booleans) → a′ ≡ verdictWritten (Judge s values booleans) → a ≡ a′
     one-judge = one
+
+    pub one-image : (model l l′ : List ℕ) → (a ≡ verdictWritten (Image s values booleans model .answer)) × (l ≡ Image s values booleans model .left)
+        → (a′ ≡ verdictWritten (Image s values booleans model .answer)) × (l′ ≡ Image s values booleans model .left) → (a ≡ a′) × (l ≡ l′)
+    one-image model l l′ h k = (one (h .0) (k .0), one (h .1) (k .1))

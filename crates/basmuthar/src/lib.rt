@@ -7,11 +7,12 @@ pub use decode::decode;
 pub use definitions::Refusal;
 pub use definitions::Sizing;
 pub use definitions::Verdict;
+pub use image::image;
 pub use judge::judge;
 pub use size::size;
 ghost use mathlib.Core.Path.{_≡_};
 ghost use Rattle.definitions.specs.Answers.{refusal, saidSizing, saidVerdict};
-ghost use Rattle.definitions.specs.Operations.{Compile, Decode, Judge, Size};
+ghost use Rattle.definitions.specs.Operations.{Compile, Decode, Image, Judge, Size};
 ghost use Rattle.basmuthar.specs.Interface.{sizesWritten, verdictWritten};
 
 fn refusal_written(r: Refusal) -> [u64; 4]
@@ -79,4 +80,18 @@ pub extern "C" fn basmuthar_judge(
     ensures { λ _. ⌜ now (answer .exit) ≡ verdictWritten (Judge (now (bytes .entry)) (now (values .entry)) (now (booleans .entry))) ⌝ }
 {
     *answer = verdict_written(judge(bytes, values, booleans));
+}
+
+#[no_mangle]
+pub extern "C" fn basmuthar_image(
+    bytes: &[u8],
+    values: &[i32],
+    booleans: &[u8],
+    model: &mut [u8],
+    answer: &mut [u64; 4],
+)
+    ensures { λ _. ⌜ now (answer .exit) ≡ verdictWritten (Image (now (bytes .entry)) (now (values .entry)) (now (booleans .entry)) (now (model .entry)) .answer) ⌝ }
+    ensures { λ _. ⌜ now (model .exit) ≡ Image (now (bytes .entry)) (now (values .entry)) (now (booleans .entry)) (now (model .entry)) .left ⌝ }
+{
+    *answer = verdict_written(image(bytes, values, booleans, model));
 }
