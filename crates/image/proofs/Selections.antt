@@ -1,18 +1,15 @@
 -- A pass over the rules that writes a byte for each comparison under a selector. Assumes nothing.
-use mathlib.Core.Path.{_≡_, refl, sym, ap, _∙_}
+use mathlib.Core.Path.{_≡_, sym, ap, _∙_}
 use mathlib.Core.List.{List, [], _∷_}
-use Prim.Native.Nat.{ℕ, suc, _+_, _≤_, _<_}
-use native.Mathlib.Numerals.{add-one}
-use native.Mathlib.Omega.{arith}
-use lib.ListN.{length, getD, take, drop, set, length-drop, length-set, length-map}
-use lib.Seq.{drop-cons}
+use Prim.Native.Nat.{ℕ}
+use lib.ListN.{length, length-map}
 use lib.IntN.{ℤ}
 use Rattle.definitions.specs.Reading.{Context}
 use Rattle.definitions.specs.Encoding.{selections}
 use Rattle.definitions.specs.Meaning.{Assignment, compares}
 use Rattle.laws.specs.Boards.{boardOf, opens-board, opens-admitted}
 use Rattle.laws.specs.Reread.{comparisonAt}
-use Rattle.laws.specs.Written.{written, written-none}
+use Rattle.laws.specs.Written.{written}
 use Rattle.reader.specs.declared.Context as reader
 use Rattle.reader.specs.Said.{contextOf}
 use Rattle.rules.specs.declared.Cursor.{Cursor}
@@ -23,48 +20,10 @@ use Rattle.size.specs.Shares.{Known}
 use Rattle.size.proofs.Shares.{start-sound, start-coming}
 use Rattle.image.specs.Parts.{bit, selectorBytes, ledIn, led-selected}
 use Rattle.image.specs.Selectors.{ledAt}
-use Rattle.image.proofs.Filling.{put, all-put}
 
--- ---- the model as it is filled
--- `all` has room in the model as it was, `old`; its first `at` bytes are in the model as it is, `todo` are left
-pub record Putting (all todo old model : List ℕ) (at : ℕ) : Type 0 where
-  pub held : model ≡ written (take at all) old
-  pub left : drop at all ≡ todo
-  pub reached : at ≤ length all
-  pub fit : length all ≤ length old
-  pub long : length model ≡ length old
-
-pub begin : (all old : List ℕ) → length all ≤ length old → Putting all all old old 0
-begin all old fit = record { held = written-none old; left = refl; reached = omega arith; fit = fit; long = refl }
-
-pub ended : {all todo old model : List ℕ} {at : ℕ} → Putting all todo old model at → todo ≡ [] → (at ≡ length all) × (model ≡ written all old)
-ended {all} {todo} {old} {model} {at} p e =
-    let over : length all ≤ at = omega (arith, length-drop at all, ap length (p .left), ap length e) in
-    (omega (arith, p .reached), all-put all old model at (p .held) over)
-
-module _ {all todo old model : List ℕ} {at : ℕ} (p : Putting all todo old model at) where
-  pub next : {todo′ : List ℕ} → todo ≡ todo′ → Putting all todo′ old model at
-  next e = rw (← e) p
-
-  module _ (u : ℕ) (todo′ : List ℕ) (e : todo ≡ u ∷ todo′) where
-    some : at < length all
-    some = omega (arith, length-drop at all, ap length (p .left), ap length e)
-
-    pub room : at < length model
-    room = omega (arith, some, p .fit, p .long)
-
-    split : u ∷ todo′ ≡ getD all at 0 ∷ drop (suc at) all
-    split = sym e ∙ sym (p .left) ∙ drop-cons all at 0 some
-
-    -- one byte
-    pub one : {v : ℕ} → v ≡ u → Putting all todo′ old (set model at v) (at + 1)
-    one {v} f = record {
-      held = put all old model at (p .held) v (f ∙ ap (λ l. getD l 0 0) split) some (omega (arith, some, p .fit));
-      left = ap (λ k. drop k all) (add-one at) ∙ sym (ap (drop 1) split);
-      reached = omega (arith, some);
-      fit = p .fit;
-      long = length-set model at v ∙ p .long;
-    }
+-- the byte that is put is the next
+pub the-next : {u v : ℕ} {todo todo′ : List ℕ} → todo ≡ u ∷ todo′ → v ≡ u → todo ≡ v ∷ todo′
+the-next {todo′ = todo′} e f = e ∙ ap (λ b. b ∷ todo′) (sym f)
 
 -- ---- a step of the pass
 module _ (a : Assignment) (ctx : Context) (t : List ℕ) where
