@@ -21,7 +21,7 @@ use Rattle.definitions.specs.declared.Sizing.{Sizing}
 use Rattle.io.specs.Counts.{Counts}
 use Rattle.laws.specs.Written.{written}
 use Rattle.dimacs.specs.Decimals.{digits-length}
-use Rattle.dimacs.specs.Lines.{withEnd, line}
+use Rattle.dimacs.specs.Lines.{Put, withEnd, line}
 use Rattle.dimacs.specs.Entries.{entries, entries-length}
 
 -- how many numbers of the list an answer speaks of
@@ -90,10 +90,10 @@ cnf-length n m list = omega (arith, length-append (line (ascii "p cnf ") n m) (e
 -- ---- the whole text, at the start of the buffer that it was put into
 pub printed-is : (s : List ℕ) (r : Sizing) (left : List ℤ) (n : ℕ) (out out′ : List ℕ)
     → saidSizing r ≡ Compile s (replicate 16384 (pos 0)) .answer → left ≡ Compile s (replicate 16384 (pos 0)) .left
-    → n ≡ length (shown (saidSizing r) left) → out′ ≡ written (shown (saidSizing r) left) out
+    → Put (shown (saidSizing r) left) out n out′
     → Counts n out′ × (take n out′ ≡ printed s)
 unfolding printed written
-printed-is s r left n out out′ ea el en eo =
+printed-is s r left n out out′ ea el p =
     let text = shown (saidSizing r) left in
-    let t : take n out′ ≡ text = ap (take n) eo ∙ take-at text (drop (length text) out) n (sym en) in
-    ((omega (arith, ap length eo, length-append text (drop (length text) out)), en ∙ ap length (sym t)), t ∙ ap₂ shown ea el)
+    let t : take n out′ ≡ text = ap (take n) (p .1) ∙ take-at text (drop (length text) out) n (sym (p .0)) in
+    ((omega (arith, p .0, ap length (p .1), length-append text (drop (length text) out)), p .0 ∙ ap length (sym t)), t ∙ ap₂ shown ea el)
