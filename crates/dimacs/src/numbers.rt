@@ -1,11 +1,11 @@
 // Numbers as text: each function writes at the start of the buffer that it is lent, and answers how many bytes.
 ghost use mathlib.Core.Path.{_≡_};
 ghost use Prim.Native.Nat.{_≤_};
-ghost use mathlib.Core.List.{flatten, map};
 ghost use lib.ListN.{length};
 ghost use lib.IntN.{natAbs};
 ghost use Rattle.definitions.specs.Dimacs.{decimal, entry};
 ghost use Rattle.dimacs.specs.Lines.{Put, withEnd};
+ghost use Rattle.dimacs.specs.Entries.{entries};
 
 pub fn put_decimal(n: u64, out: &mut [u8]) -> usize
     requires { ⌜ length (decimal n) ≤ length (now out) ⌝ }
@@ -55,8 +55,8 @@ fn put_entry(number: i32, out: &mut [u8]) -> usize
 }
 
 pub fn put_entries(list: &[i32], out: &mut [u8]) -> usize
-    requires { ⌜ length (flatten (map entry (now list))) ≤ length (now out) ⌝ }
-    ensures { λ r. ⌜ Put (flatten (map entry (now (list .entry)))) (now (out .entry)) r (now (out .exit)) ⌝ }
+    requires { ⌜ length (entries (now list)) ≤ length (now out) ⌝ }
+    ensures { λ r. ⌜ Put (entries (now (list .entry))) (now (out .entry)) r (now (out .exit)) ⌝ }
 {
     let mut i: usize = 0;
     let mut at: usize = 0;

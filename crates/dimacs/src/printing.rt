@@ -1,7 +1,6 @@
 // All that the program prints for a record, in a buffer.
-ghost use mathlib.Core.Path.{_≡_};
 ghost use Prim.Native.Nat.{_+_, _*_, _≤_};
-ghost use lib.ListN.{length, take};
+ghost use lib.ListN.{length};
 ghost use Rattle.io.specs.Counts.{Counts};
 ghost use Rattle.definitions.specs.Answers.{saidSizing};
 ghost use Rattle.definitions.specs.Dimacs.{shown, printed};
@@ -67,7 +66,7 @@ fn put_shown(answer: Sizing, list: &[i32], out: &mut [u8]) -> usize
 // The program's text: it fits, as a line takes at most 64 bytes and a number at most 22 (64 bits in decimal, a minus, what ends it).
 pub fn put_printed(bytes: &[u8], out: &mut [u8; 360512]) -> usize
     ensures { λ r. ⌜ Counts r (now (out .exit)) ⌝ }
-    ensures { λ r. ⌜ take r (now (out .exit)) ≡ printed (now (bytes .entry)) ⌝ }
+    ensures { λ r. ⌜ Put (printed (now (bytes .entry))) (now (out .entry)) r (now (out .exit)) ⌝ }
 {
     let mut list = [0i32; 16384];
     let answer = compile(bytes, &mut list);

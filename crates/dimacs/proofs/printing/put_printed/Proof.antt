@@ -3,6 +3,9 @@ use borrow.Author.Needs.{needs}
 use native.Mathlib.Omega.{arith}
 use lib.ListN.{replicate}
 use lib.IntN.{pos}
+use Rattle.definitions.specs.Answers.{saidSizing}
+use Rattle.definitions.specs.Dimacs.{shown}
+use Rattle.dimacs.specs.Lines.{put-counts, retold}
 use Rattle.dimacs.specs.Shown.{listed-fits, printed-is}
 use Rattle.dimacs.proofs.printing.put_printed.Statement.{statement}
 use Rattle.dimacs.proofs.printing.put_printed.Tie as tie
@@ -26,7 +29,10 @@ returns : tie.Need-returns
 returns c =
     let z = c .before .before .before .before .compile in
     let s = c .before .before .before .before .before .before .before in
-    printed-is (s .args .bytes .now) (z .result) (z .last .1 .0) (c .put-shown .result) (s .args .out .now) _ (z .ensures .0) (z .ensures .1) (c .put-shown .ensures)
+    let p = c .put-shown in (
+      put-counts (shown (saidSizing (z .result)) (z .last .1 .0)) (s .args .out .now) (p .result) _ (p .ensures),
+      retold _ _ _ _ _ (printed-is (s .args .bytes .now) (z .result) (z .last .1 .0) (z .ensures .0) (z .ensures .1)) (p .ensures),
+    )
 
 pub put-printed-spec : {M : Type 1} → statement M
 put-printed-spec =
