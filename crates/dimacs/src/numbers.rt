@@ -7,7 +7,7 @@ ghost use Rattle.definitions.specs.Dimacs.{decimal, entry};
 ghost use Rattle.dimacs.specs.Lines.{Put, withEnd};
 ghost use Rattle.dimacs.specs.Entries.{entries};
 
-pub fn put_decimal(n: u64, out: &mut [u8]) -> usize
+fn put_decimal(n: u64, out: &mut [u8]) -> usize
     requires { ⌜ length (decimal n) ≤ length (now out) ⌝ }
     ensures { λ r. ⌜ Put (decimal n) (now (out .entry)) r (now (out .exit)) ⌝ }
 {
