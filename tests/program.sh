@@ -147,16 +147,24 @@ head -c 70000 /dev/zero >"$work/record"
 "$program" <"$work/record" >"$work/wanted"
 arrives "70,000 bytes in pieces of 1,000" < <(dd bs=1000 if="$work/record" 2>/dev/null || true)
 
-# ---- standard input that cannot be read: nothing printed, a line on standard error
-unreadable() {
+# ---- a reader that is slow, with more than a pipe holds
+"$program" <"$work/full" >"$work/wanted"
+"$program" <"$work/full" | (sleep 0.3 && cat) >"$work/printed"
+cmp -s "$work/wanted" "$work/printed" || differs "a slow reader" "to a file" "$work/wanted"
+
+# ---- input that cannot be read and output that cannot be written: a line on standard error, nothing else
+complains() {
     if [ -s "$work/printed" ] || [ "$(wc -l <"$work/errors")" != 1 ]; then
-        echo "program.sh: standard input $1: not one line on standard error alone" >&2
+        echo "program.sh: $1: not one line on standard error alone" >&2
         exit 1
     fi
 }
 "$program" </ >"$work/printed" 2>"$work/errors"
-unreadable "a directory"
+complains "standard input a directory"
 "$program" <&- >"$work/printed" 2>"$work/errors"
-unreadable "closed"
+complains "standard input closed"
+: >"$work/printed"
+"$program" <crates/dimacs/stdin >/dev/full 2>"$work/errors"
+complains "no room for standard output"
 
-echo "program: $stated texts as 01 has them, $compared records as the second program, $pieces inputs in pieces, 2 that cannot be read"
+echo "program: $stated texts as 01 has them, $compared records as the second program, $pieces inputs in pieces, a slow reader, 3 complaints"

@@ -1,15 +1,16 @@
 -- Decimal digits: the last one after the others, and how many there are. Assumes nothing.
-use mathlib.Core.Path.{_≡_, refl, sym, ap, _∙_}
+use mathlib.Core.Path.{_≡_, sym, ap, _∙_}
 use mathlib.Core.Bool.{Bool, true, false}
 use mathlib.Core.List.{List, [], _∷_, _++_}
 use Prim.Native.Nat.{ℕ, zero, suc, _+_, _/_, _%_, _^_, _≤_, _<_}
-use borrow.Author.Tests.{ltb-true, ltb-false, lt-ltb, le-ltb}
+use borrow.Author.Tests.{lt-ltb, le-ltb}
 use native.Mathlib.Omega.{arith}
 use lib.Dec.{ltb}
 use lib.ListN.{length, set, length-append}
 use Rattle.definitions.specs.Tools.{if_then_else_}
 use Rattle.definitions.specs.Dimacs.{digits, decimal}
-use Rattle.laws.specs.Written.{written, written-length, written-one, written-snoc}
+use Rattle.laws.specs.Written.{written, written-one, written-snoc}
+use Rattle.dimacs.specs.Lines.{Put}
 
 -- room for a digit more changes nothing where there is room for all
 more-room : (f n : ℕ) → n < 10 ^ suc f → digits (suc f) n ≡ digits f n
@@ -38,21 +39,21 @@ digits-length (suc f) n = go (ltb n 10) (digits-length f (n / 10))
     go true h = omega arith
     go false h = omega (arith, length-append (digits f (n / 10)) ((48 + n % 10) ∷ []))
 
--- ---- digits written into a buffer
-pub first-digit : (n : ℕ) (out : List ℕ) → n < 10 → length (decimal n) ≤ length out → (1 ≡ length (decimal n)) × (set out 0 (48 + n) ≡ written (decimal n) out)
+-- ---- digits put into a buffer
+pub first-digit : (n : ℕ) (out : List ℕ) → n < 10 → length (decimal n) ≤ length out → Put (decimal n) out 1 (set out 0 (48 + n))
 first-digit n out small fit =
     let e = decimal-one n small in
     (sym (ap length e), written-one out (48 + n) (omega (arith, ap length e)) ∙ ap (λ z. written z out) (sym e))
 
-module _ (n : ℕ) (out : List ℕ) (f : n < 2 ^ 64) (h : 10 ≤ n) (fit : length (decimal n) ≤ length out) where
+module _ (n : ℕ) (f : n < 2 ^ 64) (h : 10 ≤ n) where
   pub shorter : length (decimal n) ≡ length (decimal (n / 10)) + 1
   shorter = ap length (decimal-more n f h) ∙ length-append (decimal (n / 10)) ((48 + n % 10) ∷ [])
 
-  pub last-digit : (at : ℕ) (now : List ℕ) → at ≡ length (decimal (n / 10)) → now ≡ written (decimal (n / 10)) out
-      → (at + 1 ≡ length (decimal n)) × (set now at (48 + n % 10) ≡ written (decimal n) out)
-  last-digit at now ea en = (
-    omega (arith, shorter),
-    ap (λ z. set z at (48 + n % 10)) en
-        ∙ written-snoc (decimal (n / 10)) out (48 + n % 10) at (sym ea) (omega (arith, shorter))
+  pub last-digit : (out : List ℕ) → length (decimal n) ≤ length out → (at : ℕ) (now : List ℕ) → Put (decimal (n / 10)) out at now
+      → Put (decimal n) out (at + 1) (set now at (48 + n % 10))
+  last-digit out fit at now p = (
+    omega (arith, p .0, shorter),
+    ap (λ z. set z at (48 + n % 10)) (p .1)
+        ∙ written-snoc (decimal (n / 10)) out (48 + n % 10) at (sym (p .0)) (omega (arith, p .0, shorter))
         ∙ ap (λ z. written z out) (sym (decimal-more n f h)),
   )

@@ -4,7 +4,7 @@ use mathlib.Core.List.{List, [], _∷_, _++_, map, flatten}
 use Prim.Native.Nat.{ℕ, zero, suc, _+_, _*_, _≤_, _<_}
 use native.Mathlib.Numerals.{add-one}
 use native.Mathlib.Omega.{arith}
-use lib.ListN.{length, getD, take, drop, length-append, drop-of-length-le}
+use lib.ListN.{length, getD, drop, length-append, drop-of-length-le}
 use lib.Seq.{drop-cons}
 use lib.IntN.{ℤ, pos, negsuc, natAbs}
 use lib.Signed.{_<ℤ_, _≤ℤ_}

@@ -1,5 +1,5 @@
 -- What is printed, as a line and the numbers of the list after it. Assumes nothing.
-use mathlib.Core.Path.{_≡_, refl, sym, ap, ap₂, _∙_}
+use mathlib.Core.Path.{_≡_, refl, sym, ap, ap₂}
 use mathlib.Core.Bool.{Bool, true, false}
 use mathlib.Core.List.{List, [], _∷_, _++_, append-assoc}
 use Prim.Native.Nat.{ℕ, _+_, _*_, _≤_}
@@ -7,7 +7,6 @@ use borrow.Author.Tests.{leb-true}
 use native.Mathlib.Omega.{arith}
 use lib.Dec.{leb}
 use lib.ListN.{length, take, drop, replicate, length-append}
-use lib.Seq.{take-at}
 use lib.IntN.{ℤ, pos}
 use Rattle.definitions.specs.Board.{Board}
 use Rattle.definitions.specs.Encoding.{K, clauseList}
@@ -18,8 +17,6 @@ use Rattle.definitions.specs.Answers.{said, saidSizing}
 use Rattle.definitions.specs.Dimacs.{ascii, decimal, shown, printed}
 use Rattle.definitions.specs.declared.Refusal.{Refusal}
 use Rattle.definitions.specs.declared.Sizing.{Sizing}
-use Rattle.io.specs.Counts.{Counts}
-use Rattle.laws.specs.Written.{written}
 use Rattle.dimacs.specs.Decimals.{digits-length}
 use Rattle.dimacs.specs.Lines.{withEnd, line}
 use Rattle.dimacs.specs.Entries.{entries, entries-length}
@@ -87,13 +84,8 @@ line-length w a b =
 pub cnf-length : (n m : ℕ) (list : List ℤ) → length (cnf n m list) ≤ 64 + 22 * length list
 cnf-length n m list = omega (arith, length-append (line (ascii "p cnf ") n m) (entries list), line-length (ascii "p cnf ") n m, entries-length list)
 
--- ---- the whole text, at the start of the buffer that it was put into
-pub printed-is : (s : List ℕ) (r : Sizing) (left : List ℤ) (n : ℕ) (out out′ : List ℕ)
-    → saidSizing r ≡ Compile s (replicate 16384 (pos 0)) .answer → left ≡ Compile s (replicate 16384 (pos 0)) .left
-    → n ≡ length (shown (saidSizing r) left) → out′ ≡ written (shown (saidSizing r) left) out
-    → Counts n out′ × (take n out′ ≡ printed s)
-unfolding printed written
-printed-is s r left n out out′ ea el en eo =
-    let text = shown (saidSizing r) left in
-    let t : take n out′ ≡ text = ap (take n) eo ∙ take-at text (drop (length text) out) n (sym en) in
-    ((omega (arith, ap length eo, length-append text (drop (length text) out)), en ∙ ap length (sym t)), t ∙ ap₂ shown ea el)
+-- ---- the whole text
+pub printed-is : (s : List ℕ) (r : Sizing) (left : List ℤ) → saidSizing r ≡ Compile s (replicate 16384 (pos 0)) .answer → left ≡ Compile s (replicate 16384 (pos 0)) .left
+    → shown (saidSizing r) left ≡ printed s
+unfolding printed
+printed-is s r left ea el = ap₂ shown ea el

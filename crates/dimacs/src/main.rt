@@ -13,6 +13,11 @@ fn readable() -> bool {
     libc::read(STDIN_FILENO, &mut nothing) >= 0
 }
 
+fn complain(what: &[u8]) {
+    io::write_all(STDERR_FILENO, b"basmuthar: ");
+    io::write_all(STDERR_FILENO, what);
+}
+
 // A byte more than a record may have is read: enough to know that it is too long.
 fn main() {
     if readable() {
@@ -20,8 +25,10 @@ fn main() {
         let n = io::read_full(STDIN_FILENO, &mut bytes);
         let mut text = [0u8; 360512];
         let k = put_printed(&bytes[..n], &mut text);
-        io::write_all(STDOUT_FILENO, &text[..k]);
+        if !io::write_all(STDOUT_FILENO, &text[..k]) {
+            complain(b"standard output cannot be written\n");
+        }
     } else {
-        io::write_all(STDERR_FILENO, b"basmuthar: standard input cannot be read\n");
+        complain(b"standard input cannot be read\n");
     }
 }

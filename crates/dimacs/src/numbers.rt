@@ -1,16 +1,15 @@
 // Numbers as text: each function writes at the start of the buffer that it is lent, and answers how many bytes.
 ghost use mathlib.Core.Path.{_≡_};
 ghost use Prim.Native.Nat.{_≤_};
-ghost use mathlib.Core.List.{flatten, map};
 ghost use lib.ListN.{length};
 ghost use lib.IntN.{natAbs};
 ghost use Rattle.definitions.specs.Dimacs.{decimal, entry};
-ghost use Rattle.laws.specs.Written.{written};
-ghost use Rattle.dimacs.specs.Lines.{withEnd};
+ghost use Rattle.dimacs.specs.Lines.{Put, withEnd};
+ghost use Rattle.dimacs.specs.Entries.{entries};
 
-pub fn put_decimal(n: u64, out: &mut [u8]) -> usize
+fn put_decimal(n: u64, out: &mut [u8]) -> usize
     requires { ⌜ length (decimal n) ≤ length (now out) ⌝ }
-    ensures { λ r. ⌜ (r ≡ length (decimal n)) × (now (out .exit) ≡ written (decimal n) (now (out .entry))) ⌝ }
+    ensures { λ r. ⌜ Put (decimal n) (now (out .entry)) r (now (out .exit)) ⌝ }
 {
     if n < 10 {
         out[0] = 48 + n as u8;
@@ -24,7 +23,7 @@ pub fn put_decimal(n: u64, out: &mut [u8]) -> usize
 // A number and the byte that ends it.
 pub fn put_ended(n: u64, end: u8, out: &mut [u8]) -> usize
     requires { ⌜ length (withEnd n end) ≤ length (now out) ⌝ }
-    ensures { λ r. ⌜ (r ≡ length (withEnd n end)) × (now (out .exit) ≡ written (withEnd n end) (now (out .entry))) ⌝ }
+    ensures { λ r. ⌜ Put (withEnd n end) (now (out .entry)) r (now (out .exit)) ⌝ }
 {
     let at = put_decimal(n, out);
     out[at] = end;
@@ -43,7 +42,7 @@ fn magnitude(number: i32) -> u64
 // A number of the clause list: 0 ends a line, any other number is a literal and parted from the next.
 fn put_entry(number: i32, out: &mut [u8]) -> usize
     requires { ⌜ length (entry number) ≤ length (now out) ⌝ }
-    ensures { λ r. ⌜ (r ≡ length (entry number)) × (now (out .exit) ≡ written (entry number) (now (out .entry))) ⌝ }
+    ensures { λ r. ⌜ Put (entry number) (now (out .entry)) r (now (out .exit)) ⌝ }
 {
     if number > 0 {
         return put_ended(magnitude(number), b' ', out);
@@ -56,8 +55,8 @@ fn put_entry(number: i32, out: &mut [u8]) -> usize
 }
 
 pub fn put_entries(list: &[i32], out: &mut [u8]) -> usize
-    requires { ⌜ length (flatten (map entry (now list))) ≤ length (now out) ⌝ }
-    ensures { λ r. ⌜ (r ≡ length (flatten (map entry (now (list .entry))))) × (now (out .exit) ≡ written (flatten (map entry (now (list .entry)))) (now (out .entry))) ⌝ }
+    requires { ⌜ length (entries (now list)) ≤ length (now out) ⌝ }
+    ensures { λ r. ⌜ Put (entries (now (list .entry))) (now (out .entry)) r (now (out .exit)) ⌝ }
 {
     let mut i: usize = 0;
     let mut at: usize = 0;

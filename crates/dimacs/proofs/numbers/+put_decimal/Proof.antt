@@ -7,124 +7,87 @@ use borrow.Fn.Kinds.{In}
 use borrow.Fn.PlainCycle.{Measures, is, falls, and}
 use lib.ListN.{length, length-set}
 use Rattle.dimacs.specs.Decimals.{decimal-one, digits-length, first-digit, shorter, last-digit}
-use Rattle.dimacs.proofs.numbers.put_decimal.Reads as put-decimal
-use Rattle.dimacs.proofs.numbers.put_decimal.Kinds as put-decimal-kinds
-use Rattle.dimacs.proofs.numbers.+put_decimal.Lts-put_decimal as put-decimal-lts
+use Rattle.dimacs.proofs.numbers.put_decimal.Reads as reads
+use Rattle.dimacs.proofs.numbers.put_decimal.Kinds as kinds
+use Rattle.dimacs.proofs.numbers.+put_decimal.Lts-put_decimal as lts
 use Rattle.dimacs.proofs.numbers.+put_decimal.{statement}
 use Rattle.dimacs.proofs.numbers.+put_decimal.Tie.{close}
 
-abbrev μ-put-decimal : Measures 1 put-decimal-kinds.ps ℕ
-μ-put-decimal κs a = a .0
+abbrev μ : Measures 1 kinds.ps ℕ
+μ κs a = a .0
 
-abbrev put-decimal-at : ℕ → In 1 put-decimal-kinds.ps
-put-decimal-at t =
-    and 1 put-decimal-kinds.ps (is 1 put-decimal-kinds.ps μ-put-decimal t) put-decimal.Pre
+abbrev at : ℕ → In 1 kinds.ps
+at t =
+    and 1 kinds.ps (is 1 kinds.ps μ t) reads.Pre
 
-abbrev put-decimal-below : ℕ → In 1 put-decimal-kinds.ps
-put-decimal-below t =
-    and 1 put-decimal-kinds.ps (falls 1 put-decimal-kinds.ps _<_ μ-put-decimal t) put-decimal.Pre
+abbrev below : ℕ → In 1 kinds.ps
+below t =
+    and 1 kinds.ps (falls 1 kinds.ps _<_ μ t) reads.Pre
 
-put-decimal-cast-out : (t : ℕ) → put-decimal-lts.Need-cast-out (
-  put-decimal-below t,
-  put-decimal.Post,
-) (put-decimal-at t) put-decimal.Post
-put-decimal-cast-out t c = omega arith
+-- what a call of itself asks and tells
+abbrev R : ℕ → lts.Claims
+R t = (below t, reads.Post)
 
-put-decimal-add-out : (t : ℕ) → put-decimal-lts.Need-add-out (
-  put-decimal-below t,
-  put-decimal.Post,
-) (put-decimal-at t) put-decimal.Post
-put-decimal-add-out t c = omega arith
+cast-out : (t : ℕ) → lts.Need-cast-out (R t) (at t) reads.Post
+cast-out t c = omega arith
 
-put-decimal-slice-write-out : (t : ℕ) → put-decimal-lts.Need-slice-write-out (
-  put-decimal-below t,
-  put-decimal.Post,
-) (put-decimal-at t) put-decimal.Post
-put-decimal-slice-write-out t c = let s = c .before .before in omega (arith, s .pre .1, ap length (decimal-one (s .args .n) (c .if1 .taken)))
+add-out : (t : ℕ) → lts.Need-add-out (R t) (at t) reads.Post
+add-out t c = omega arith
 
-put-decimal-same-length : (t : ℕ) → put-decimal-lts.Need-same-length (
-  put-decimal-below t,
-  put-decimal.Post,
-) (put-decimal-at t) put-decimal.Post
-put-decimal-same-length t c = search needs
+slice-write-out : (t : ℕ) → lts.Need-slice-write-out (R t) (at t) reads.Post
+slice-write-out t c = let s = c .before .before in omega (arith, s .pre .1, ap length (decimal-one (s .args .n) (c .if1 .taken)))
 
-put-decimal-returns : (t : ℕ) → put-decimal-lts.Need-returns (
-  put-decimal-below t,
-  put-decimal.Post,
-) (put-decimal-at t) put-decimal.Post
-put-decimal-returns t c = let s = c .before .before in first-digit (s .args .n) (s .args .out .now) (c .if1 .taken) (s .pre .1)
+same-length : (t : ℕ) → lts.Need-same-length (R t) (at t) reads.Post
+same-length t c = search needs
 
-put-decimal-put-decimal-requires : (t : ℕ) → put-decimal-lts.Need-put-decimal-requires (
-  put-decimal-below t,
-  put-decimal.Post,
-) (put-decimal-at t) put-decimal.Post
-put-decimal-put-decimal-requires t c κs =
+returns : (t : ℕ) → lts.Need-returns (R t) (at t) reads.Post
+returns t c = let s = c .before .before in first-digit (s .args .n) (s .args .out .now) (c .if1 .taken) (s .pre .1)
+
+put-decimal-requires : (t : ℕ) → lts.Need-put-decimal-requires (R t) (at t) reads.Post
+put-decimal-requires t c κs =
     let s = c .before .before .before in
-    (omega (arith, s .pre .0, c .before .if1 .left), omega (arith, s .pre .1, shorter (s .args .n) (s .args .out .now) (s .fits .n .fits) (c .before .if1 .left) (s .pre .1)))
+    (omega (arith, s .pre .0, c .before .if1 .left), omega (arith, s .pre .1, shorter (s .args .n) (s .fits .n .fits) (c .before .if1 .left)))
 
-put-decimal-cast-out-2 : (t : ℕ) → put-decimal-lts.Need-cast-out-2 (
-  put-decimal-below t,
-  put-decimal.Post,
-) (put-decimal-at t) put-decimal.Post
-put-decimal-cast-out-2 t c = omega arith
+cast-out-2 : (t : ℕ) → lts.Need-cast-out-2 (R t) (at t) reads.Post
+cast-out-2 t c = omega arith
 
-put-decimal-add-out-2 : (t : ℕ) → put-decimal-lts.Need-add-out-2 (
-  put-decimal-below t,
-  put-decimal.Post,
-) (put-decimal-at t) put-decimal.Post
-put-decimal-add-out-2 t c = omega arith
+add-out-2 : (t : ℕ) → lts.Need-add-out-2 (R t) (at t) reads.Post
+add-out-2 t c = omega arith
 
-put-decimal-slice-write-out-2 : (t : ℕ) → put-decimal-lts.Need-slice-write-out-2 (
-  put-decimal-below t,
-  put-decimal.Post,
-) (put-decimal-at t) put-decimal.Post
-put-decimal-slice-write-out-2 t c =
+slice-write-out-2 : (t : ℕ) → lts.Need-slice-write-out-2 (R t) (at t) reads.Post
+slice-write-out-2 t c =
     let s = c .before .before .before .before .before .before in
     let call = c .before .before .put-decimal in
-    omega (arith, s .pre .1, call .ensures .0, call .kept .1 .0, shorter (s .args .n) (s .args .out .now) (s .fits .n .fits) (c .before .before .before .before .if1 .left) (s .pre .1))
+    omega (arith, s .pre .1, call .ensures .0, call .kept .1 .0, shorter (s .args .n) (s .fits .n .fits) (c .before .before .before .before .if1 .left))
 
-put-decimal-add-result : (t : ℕ) → put-decimal-lts.Need-add-result (
-  put-decimal-below t,
-  put-decimal.Post,
-) (put-decimal-at t) put-decimal.Post
-put-decimal-add-result t c =
+add-result : (t : ℕ) → lts.Need-add-result (R t) (at t) reads.Post
+add-result t c =
     let s = c .before .before .before .before .before .before in
     omega (arith, c .before .before .put-decimal .ensures .0, digits-length 19 (s .args .n / 10))
 
-put-decimal-same-length-2 : (t : ℕ) → put-decimal-lts.Need-same-length-2 (
-  put-decimal-below t,
-  put-decimal.Post,
-) (put-decimal-at t) put-decimal.Post
-put-decimal-same-length-2 t c =
+same-length-2 : (t : ℕ) → lts.Need-same-length-2 (R t) (at t) reads.Post
+same-length-2 t c =
     let s = c .before .before .before .before .before .before in
     let call = c .before .before .put-decimal in
     length-set (call .last .1 .0) (call .result) (48 + s .args .n % 10) ∙ call .kept .1 .0
 
-put-decimal-returns-2 : (t : ℕ) → put-decimal-lts.Need-returns-2 (
-  put-decimal-below t,
-  put-decimal.Post,
-) (put-decimal-at t) put-decimal.Post
-put-decimal-returns-2 t c =
+returns-2 : (t : ℕ) → lts.Need-returns-2 (R t) (at t) reads.Post
+returns-2 t c =
     let s = c .before .before .before .before .before .before in
     let call = c .before .before .put-decimal in
-    last-digit (s .args .n) (s .args .out .now) (s .fits .n .fits) (c .before .before .before .before .if1 .left) (s .pre .1) (call .result) _ (call .ensures .0) (call .ensures .1)
+    last-digit (s .args .n) (s .fits .n .fits) (c .before .before .before .before .if1 .left) (s .args .out .now) (s .pre .1) (call .result) _ (call .ensures)
 
 pub +put-decimal-spec : {M : Type 1} → statement M
-+put-decimal-spec = close μ-put-decimal λ t. put-decimal-lts.spec (
-  put-decimal-below t,
-  put-decimal.Post,
-)
-    (put-decimal-at t)
-    put-decimal.Post
-    (put-decimal-cast-out t)
-    (put-decimal-add-out t)
-    (put-decimal-slice-write-out t)
-    (put-decimal-same-length t)
-    (put-decimal-returns t)
-    (put-decimal-put-decimal-requires t)
-    (put-decimal-cast-out-2 t)
-    (put-decimal-add-out-2 t)
-    (put-decimal-slice-write-out-2 t)
-    (put-decimal-add-result t)
-    (put-decimal-same-length-2 t)
-    (put-decimal-returns-2 t)
++put-decimal-spec = close μ λ t. lts.spec (R t) (at t) reads.Post
+    (cast-out t)
+    (add-out t)
+    (slice-write-out t)
+    (same-length t)
+    (returns t)
+    (put-decimal-requires t)
+    (cast-out-2 t)
+    (add-out-2 t)
+    (slice-write-out-2 t)
+    (add-result t)
+    (same-length-2 t)
+    (returns-2 t)

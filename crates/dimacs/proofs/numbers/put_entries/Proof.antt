@@ -1,21 +1,20 @@
+-- `dimacs::numbers::put_entries` meets its contract.
 use borrow.Author.Needs.{needs}
-use mathlib.Core.Path.{refl}
+use mathlib.Core.Path.{_≡_, refl}
+use mathlib.Core.List.{_++_}
 use Prim.Native.Nat.{_+_, _-_, _≤_}
 use native.Mathlib.Omega.{arith}
 use lib.ListN.{length, getD, drop}
 use lib.IntN.{pos}
 use mir.Syntax.{w32}
-use mir.Val.{SFits}
+use mir.Val.{toZ, ofZ}
 use mir.Facts.{toZ-ofZ}
 use Rattle.definitions.specs.Dimacs.{entry}
 use Rattle.laws.specs.Written.{rest-length}
-use Rattle.laws.specs.Filling.{Filling, begin, room-before, room, room-for, part, ended}
+use Rattle.laws.specs.Filling.{Filling, begin, room, room-for, part, ended}
 use Rattle.dimacs.specs.Entries.{entries, entries-more, entries-none}
 use Rattle.dimacs.proofs.numbers.put_entries.Statement.{statement}
 use Rattle.dimacs.proofs.numbers.put_entries.Tie as tie
-use Rattle.dimacs.proofs.numbers.put_entries.Reads as reads
-use Rattle.dimacs.proofs.numbers.put_entries.Lts as lts
-use Rattle.dimacs.proofs.numbers.put_entry.Reads as put-entry-reads
 
 abbrev Inv-loop : tie.InvT-loop
 Inv-loop list out₀ i₀ at₀ out i at =
@@ -23,6 +22,21 @@ Inv-loop list out₀ i₀ at₀ out i at =
 
 abbrev μ-loop : tie.MeasureT-loop
 μ-loop list out₀ i₀ at₀ out i at = length list - i
+
+-- the number at i comes next
+next-is : (c : tie.After-put-entry-arg Inv-loop μ-loop) → let i = c .before .before .loop .i in let list = c .before .before .before .before .args .list .now in
+    entries (drop i list) ≡ entry (toZ w32 (ofZ w32 (getD list i (pos 0)))) ++ entries (drop (i + 1) list)
+next-is c =
+    let i = c .before .before .loop .i in
+    let list = c .before .before .before .before .args .list .now in
+    rw (toZ-ofZ {z = getD list i (pos 0)} (record { sfits = c .put-entry-arg .given })) (entries-more list i (pos 0) (c .before .loop-test .taken))
+
+next-room : (c : tie.After-put-entry-arg Inv-loop μ-loop) → let l = c .before .before .loop in let list = c .before .before .before .before .args .list .now in
+    l .at + length (entry (toZ w32 (ofZ w32 (getD list (l .i) (pos 0))))) ≤ length (l .out)
+next-room c =
+    let l = c .before .before .loop in
+    let list = c .before .before .before .before .args .list .now in
+    room-for (l .inv .0) (entry (toZ w32 (ofZ w32 (getD list (l .i) (pos 0))))) (entries (drop (l .i + 1) list)) (next-is c)
 
 loop-holds : tie.Need-loop-holds Inv-loop μ-loop
 loop-holds c = (begin _ _ _ refl (c .before .pre), omega arith)
@@ -45,16 +59,15 @@ part-put-entry-end c = search needs
 
 put-entry-requires : tie.Need-put-entry-requires Inv-loop μ-loop
 put-entry-requires c κs =
-    let f : SFits w32 (getD (c .before .before .before .before .before .args .list .now) (c .before .before .before .loop .i) (pos 0)) = record { sfits = c .before .put-entry-arg .given } in
-    let e = entries-more (c .before .before .before .before .before .args .list .now) (c .before .before .before .loop .i) (pos 0) (c .before .before .loop-test .taken) in
-    simp toZ-ofZ (omega (arith, rest-length (c .before .before .before .loop .out) (c .before .before .before .loop .at), room-for (c .before .before .before .loop .inv .0) (entry (getD (c .before .before .before .before .before .args .list .now) (c .before .before .before .loop .i) (pos 0))) (entries (drop (c .before .before .before .loop .i + 1) (c .before .before .before .before .before .args .list .now))) e))
+    let l = c .before .before .before .loop in
+    omega (arith, rest-length (l .out) (l .at), next-room (c .before))
 
 add-at : tie.Need-add-at Inv-loop μ-loop
 add-at c =
-    let f : SFits w32 (getD (c .before .before .before .before .before .before .before .before .args .list .now) (c .before .before .before .before .before .before .loop .i) (pos 0)) = record { sfits = c .before .before .before .before .put-entry-arg .given } in
-    let e = entries-more (c .before .before .before .before .before .before .before .before .args .list .now) (c .before .before .before .before .before .before .loop .i) (pos 0) (c .before .before .before .before .before .loop-test .taken) in
-    let n = simp toZ-ofZ at (c .before .before .put-entry .ensures) in
-    let k : c .before .before .before .before .before .before .loop .at + c .before .before .put-entry .result ≤ length (c .before .before .before .before .before .before .before .before .args .out .now) = omega (arith, n .0, c .before .before .before .before .before .before .loop .inv .0 .long, room-for (c .before .before .before .before .before .before .loop .inv .0) (entry (getD (c .before .before .before .before .before .before .before .before .args .list .now) (c .before .before .before .before .before .before .loop .i) (pos 0))) (entries (drop (c .before .before .before .before .before .before .loop .i + 1) (c .before .before .before .before .before .before .before .before .args .list .now))) e) in search needs
+    let l = c .before .before .before .before .before .before .loop in
+    let p = c .before .before .put-entry in
+    let k : l .at + p .result ≤ length (c .before .before .before .before .before .before .before .before .args .out .now) = omega (arith, p .ensures .0, l .inv .0 .long, next-room (c .before .before .before .before)) in
+    search needs
 
 add-i : tie.Need-add-i Inv-loop μ-loop
 add-i c = search needs
@@ -64,10 +77,8 @@ loop-less c = omega arith
 
 loop-again : tie.Need-loop-again Inv-loop μ-loop
 loop-again c =
-    let f : SFits w32 (getD (c .before .before .before .before .before .before .before .before .args .list .now) (c .before .before .before .before .before .before .loop .i) (pos 0)) = record { sfits = c .before .before .before .before .put-entry-arg .given } in
-    let e = entries-more (c .before .before .before .before .before .before .before .before .args .list .now) (c .before .before .before .before .before .before .loop .i) (pos 0) (c .before .before .before .before .before .loop-test .taken) in
-    let n = simp toZ-ofZ at (c .before .before .put-entry .ensures) in
-    (part (c .before .before .before .before .before .before .loop .inv .0) _ _ e _ _ (n .0) (n .1), omega (arith, c .before .before .before .before .before .loop-test .taken))
+    let p = c .before .before .put-entry in
+    (part (c .before .before .before .before .before .before .loop .inv .0) _ _ (next-is (c .before .before .before .before)) _ _ (p .ensures .0) (p .ensures .1), omega (arith, c .before .before .before .before .before .loop-test .taken))
 
 same-length : tie.Need-same-length Inv-loop μ-loop
 same-length c = c .before .loop .inv .0 .long

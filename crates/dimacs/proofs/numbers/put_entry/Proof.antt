@@ -1,122 +1,104 @@
+-- `dimacs::numbers::put_entry` meets its contract.
 use borrow.Author.Needs.{needs}
-use mathlib.Core.Path.{refl, sym, ap, _∙_}
+use mathlib.Core.Path.{_≡_, refl, sym, ap}
 use mathlib.Core.List.{[], _∷_}
 use Prim.Native.Nat.{_+_, _≤_}
 use native.Mathlib.Omega.{arith}
 use lib.ListN.{length, set}
 use lib.IntN.{natAbs}
 use mir.Facts.{toZ-ofZ}
+use Rattle.definitions.specs.Dimacs.{entry}
 use Rattle.laws.specs.Whole.{whole, back}
-use Rattle.laws.specs.Written.{written, rest-length, written-one}
-use Rattle.laws.specs.Filling.{begun, room-before, room, last}
-use Rattle.dimacs.specs.Lines.{withEnd}
+use Rattle.laws.specs.Written.{rest-length, written-one}
+use Rattle.laws.specs.Filling.{Filling, begun, room-before, room, last}
+use Rattle.dimacs.specs.Lines.{withEnd, retold}
 use Rattle.dimacs.specs.Entries.{entry-above, entry-below, entry-zero}
-use borrow.Author.Needs.{needs}
 use Rattle.dimacs.proofs.numbers.put_entry.Statement.{statement}
 use Rattle.dimacs.proofs.numbers.put_entry.Tie as tie
-use Rattle.dimacs.proofs.numbers.put_entry.Reads as reads
-use Rattle.dimacs.proofs.numbers.put_entry.Lts as lts
-use Rattle.dimacs.proofs.numbers.magnitude.Reads as magnitude-reads
-use Rattle.dimacs.proofs.numbers.put_ended.Reads as put-ended-reads
+
+-- the text, by sign
+above : (c : tie.After-magnitude) → withEnd (c .magnitude .result) 32 ≡ entry (c .before .before .before .args .number)
+above c =
+    let f = c .before .before .before .fits .number in
+    sym (entry-above (c .before .before .before .args .number) (c .magnitude .result) (simp toZ-ofZ at (c .magnitude .ensures)) (omega (whole, back f)))
+
+below : (c : tie.After-magnitude2) → 45 ∷ withEnd (c .magnitude2 .result) 32 ≡ entry (c .before .before .before .before .args .number)
+below c =
+    let f = c .before .before .before .before .fits .number in
+    sym (entry-below (c .before .before .before .before .args .number) (c .magnitude2 .result) (simp toZ-ofZ at (c .magnitude2 .ensures)) (omega (whole, back f)))
+
+zero : (c : tie.Else2) → withEnd 0 10 ≡ entry (c .before .before .before .args .number)
+zero c =
+    let f = c .before .before .before .fits .number in
+    sym (entry-zero (c .before .before .before .args .number) (omega (whole, back f)) (omega (whole, back f)))
+
+-- the minus is written
+minus-put : (c : tie.After-magnitude2) → let text = withEnd (c .magnitude2 .result) 32 in let out = c .before .before .before .before .args .out .now in
+    Filling (45 ∷ text) text out (set out 0 45) 1
+minus-put c =
+    let s = c .before .before .before .before in
+    begun (45 ∷ []) _ _ _ _ (omega (arith, s .pre, ap length (below c))) refl (written-one (s .args .out .now) 45 (omega (arith, s .pre, ap length (below c))))
 
 magnitude-requires : tie.Need-magnitude-requires
 magnitude-requires c κs = search needs
 
 put-ended-requires : tie.Need-put-ended-requires
-put-ended-requires c κs =
-    let f = c .before .before .before .before .fits .number in
-    let e = entry-above (c .before .before .before .before .args .number) (c .before .magnitude .result) (simp toZ-ofZ at (c .before .magnitude .ensures)) (omega (whole, back f)) in
-    omega (arith, c .before .before .before .before .pre, ap length e)
+put-ended-requires c κs = omega (arith, c .before .before .before .before .pre, ap length (above (c .before)))
 
 same-length : tie.Need-same-length
 same-length c = search needs
 
 returns : tie.Need-returns
-returns c =
-    let f = c .before .before .before .before .before .before .before .fits .number in
-    let e = entry-above (c .before .before .before .before .before .before .before .args .number) (c .before .before .before .before .magnitude .result) (simp toZ-ofZ at (c .before .before .before .before .magnitude .ensures)) (omega (whole, back f)) in
-    (c .before .before .put-ended .ensures .0 ∙ ap length (sym e), c .before .before .put-ended .ensures .1 ∙ ap (λ z. written z (c .before .before .before .before .before .before .before .args .out .now)) (sym e))
+returns c = retold _ _ _ _ _ (above (c .before .before .before .before)) (c .before .before .put-ended .ensures)
 
 slice-write-out : tie.Need-slice-write-out
 slice-write-out c =
-    let f = c .before .before .before .fits .number in
-    let e = entry-below (c .before .before .before .args .number) (natAbs (c .before .before .before .args .number)) refl (omega (whole, back f)) in
-    omega (arith, c .before .before .before .pre, ap length e)
+    let s = c .before .before .before in
+    let f = s .fits .number in
+    omega (arith, s .pre, ap length (entry-below (s .args .number) (natAbs (s .args .number)) refl (omega (whole, back f))))
 
 magnitude-requires-2 : tie.Need-magnitude-requires-2
 magnitude-requires-2 c κs = search needs
 
 sub-put-ended : tie.Need-sub-put-ended
-sub-put-ended c =
-    let f = c .before .before .before .before .fits .number in
-    let m = c .magnitude2 .result in
-    let e = entry-below (c .before .before .before .before .args .number) m (simp toZ-ofZ at (c .magnitude2 .ensures)) (omega (whole, back f)) in
-    let out = c .before .before .before .before .args .out .now in
-    let h = begun (45 ∷ []) (withEnd m 32) out (set out 0 45) 1 (omega (arith, c .before .before .before .before .pre, ap length e)) refl (written-one out 45 (omega (arith, c .before .before .before .before .pre, ap length e))) in
-    omega (arith, room h)
+sub-put-ended c = omega (arith, room (minus-put c))
 
 part-put-ended-start : tie.Need-part-put-ended-start
-part-put-ended-start c =
-    let f = c .before .before .before .before .fits .number in
-    let m = c .magnitude2 .result in
-    let e = entry-below (c .before .before .before .before .args .number) m (simp toZ-ofZ at (c .magnitude2 .ensures)) (omega (whole, back f)) in
-    let out = c .before .before .before .before .args .out .now in
-    let h = begun (45 ∷ []) (withEnd m 32) out (set out 0 45) 1 (omega (arith, c .before .before .before .before .pre, ap length e)) refl (written-one out 45 (omega (arith, c .before .before .before .before .pre, ap length e))) in
-    omega (arith, room h)
+part-put-ended-start c = omega (arith, room (minus-put c))
 
 part-put-ended-end : tie.Need-part-put-ended-end
 part-put-ended-end c = search needs
 
 put-ended-requires-2 : tie.Need-put-ended-requires-2
 put-ended-requires-2 c κs =
-    let f = c .before .before .before .before .before .fits .number in
-    let m = c .before .magnitude2 .result in
-    let e = entry-below (c .before .before .before .before .before .args .number) m (simp toZ-ofZ at (c .before .magnitude2 .ensures)) (omega (whole, back f)) in
-    let out = c .before .before .before .before .before .args .out .now in
-    let h = begun (45 ∷ []) (withEnd m 32) out (set out 0 45) 1 (omega (arith, c .before .before .before .before .before .pre, ap length e)) refl (written-one out 45 (omega (arith, c .before .before .before .before .before .pre, ap length e))) in
-    omega (arith, room h, rest-length (set out 0 45) 1)
+    omega (arith, room (minus-put (c .before)), rest-length (set (c .before .before .before .before .before .args .out .now) 0 45) 1)
 
 add-result : tie.Need-add-result
 add-result c =
-    let f = c .before .before .before .before .before .before .before .before .fits .number in
-    let m = c .before .before .before .before .magnitude2 .result in
-    let e = entry-below (c .before .before .before .before .before .before .before .before .args .number) m (simp toZ-ofZ at (c .before .before .before .before .magnitude2 .ensures)) (omega (whole, back f)) in
-    let out = c .before .before .before .before .before .before .before .before .args .out .now in
-    let h = begun (45 ∷ []) (withEnd m 32) out (set out 0 45) 1 (omega (arith, c .before .before .before .before .before .before .before .before .pre, ap length e)) refl (written-one out 45 (omega (arith, c .before .before .before .before .before .before .before .before .pre, ap length e))) in
-    let k : 1 + c .before .before .put-ended2 .result ≤ length out = omega (arith, room-before h, c .before .before .put-ended2 .ensures .0) in search needs
+    let n = c .before .before .put-ended2 in
+    let m = c .before .before .before .before in
+    let k : 1 + n .result ≤ length (m .before .before .before .before .args .out .now) = omega (arith, room-before (minus-put m), n .ensures .0) in
+    search needs
 
 same-length-2 : tie.Need-same-length-2
 same-length-2 c =
-    let f = c .before .before .before .before .before .before .before .before .fits .number in
-    let m = c .before .before .before .before .magnitude2 .result in
-    let e = entry-below (c .before .before .before .before .before .before .before .before .args .number) m (simp toZ-ofZ at (c .before .before .before .before .magnitude2 .ensures)) (omega (whole, back f)) in
-    let out = c .before .before .before .before .before .before .before .before .args .out .now in
-    let h = begun (45 ∷ []) (withEnd m 32) out (set out 0 45) 1 (omega (arith, c .before .before .before .before .before .before .before .before .pre, ap length e)) refl (written-one out 45 (omega (arith, c .before .before .before .before .before .before .before .before .pre, ap length e))) in
-    last h _ _ (c .before .before .put-ended2 .ensures .0) (c .before .before .put-ended2 .ensures .1) .2
+    let n = c .before .before .put-ended2 in
+    last (minus-put (c .before .before .before .before)) _ _ (n .ensures .0) (n .ensures .1) .2
 
 returns-2 : tie.Need-returns-2
 returns-2 c =
-    let f = c .before .before .before .before .before .before .before .before .fits .number in
-    let m = c .before .before .before .before .magnitude2 .result in
-    let e = entry-below (c .before .before .before .before .before .before .before .before .args .number) m (simp toZ-ofZ at (c .before .before .before .before .magnitude2 .ensures)) (omega (whole, back f)) in
-    let out = c .before .before .before .before .before .before .before .before .args .out .now in
-    let h = begun (45 ∷ []) (withEnd m 32) out (set out 0 45) 1 (omega (arith, c .before .before .before .before .before .before .before .before .pre, ap length e)) refl (written-one out 45 (omega (arith, c .before .before .before .before .before .before .before .before .pre, ap length e))) in
-    let r = last h _ _ (c .before .before .put-ended2 .ensures .0) (c .before .before .put-ended2 .ensures .1) in (r .0 ∙ ap length (sym e), r .1 ∙ ap (λ z. written z out) (sym e))
+    let n = c .before .before .put-ended2 in
+    let r = last (minus-put (c .before .before .before .before)) _ _ (n .ensures .0) (n .ensures .1) in
+    retold _ _ _ _ _ (below (c .before .before .before .before)) (r .0, r .1)
 
 put-ended-requires-3 : tie.Need-put-ended-requires-3
-put-ended-requires-3 c κs =
-    let f = c .before .before .before .before .fits .number in
-    let e = entry-zero (c .before .before .before .before .args .number) (omega (whole, back f)) (omega (whole, back f)) in
-    omega (arith, c .before .before .before .before .pre, ap length e)
+put-ended-requires-3 c κs = omega (arith, c .before .before .before .before .pre, ap length (zero (c .before)))
 
 same-length-3 : tie.Need-same-length-3
 same-length-3 c = search needs
 
 returns-3 : tie.Need-returns-3
-returns-3 c =
-    let f = c .before .before .before .before .before .before .before .fits .number in
-    let e = entry-zero (c .before .before .before .before .before .before .before .args .number) (omega (whole, back f)) (omega (whole, back f)) in
-    (c .before .before .put-ended3 .ensures .0 ∙ ap length (sym e), c .before .before .put-ended3 .ensures .1 ∙ ap (λ z. written z (c .before .before .before .before .before .before .before .args .out .now)) (sym e))
+returns-3 c = retold _ _ _ _ _ (zero (c .before .before .before .before)) (c .before .before .put-ended3 .ensures)
 
 pub put-entry-spec : {M : Type 1} → statement M
 put-entry-spec =

@@ -1,3 +1,4 @@
+-- `dimacs::printing::put_line` meets its contract.
 use borrow.Author.Needs.{needs}
 use mathlib.Core.Path.{refl}
 use mathlib.Core.List.{_++_}
@@ -5,81 +6,82 @@ use Prim.Native.Nat.{_+_, _≤_}
 use native.Mathlib.Omega.{arith}
 use lib.ListN.{length, length-append}
 use Rattle.laws.specs.Written.{back, rest-length}
-use Rattle.laws.specs.Filling.{begun, room-before, room, part, last}
-use Rattle.dimacs.specs.Lines.{withEnd}
-use borrow.Author.Needs.{needs}
+use Rattle.laws.specs.Filling.{Filling, begun, room-before, room, part, last}
+use Rattle.dimacs.specs.Lines.{withEnd, line}
 use Rattle.dimacs.proofs.printing.put_line.Statement.{statement}
 use Rattle.dimacs.proofs.printing.put_line.Tie as tie
-use Rattle.dimacs.proofs.printing.put_line.Reads as reads
-use Rattle.dimacs.proofs.printing.put_line.Lts as lts
-use Rattle.dimacs.proofs.numbers.put_ended.Reads as put-ended-reads
-use Rattle.dimacs.proofs.printing.put_word.Reads as put-word-reads
+
+-- the word is written
+word-put : (c : tie.After-put-word) → let a = c .before .before .before .before .args in
+    Filling (line (a .word .now) (a .a) (a .b)) (withEnd (a .a) 32 ++ withEnd (a .b) 10) (a .out .now) (c .put-word .last .1 .0) (c .put-word .result)
+word-put c =
+    let s = c .before .before .before .before in
+    begun (s .args .word .now) (withEnd (s .args .a) 32 ++ withEnd (s .args .b) 10) _ _ _ (s .pre) (c .put-word .ensures .0) (c .put-word .ensures .1)
+
+-- and the first number
+first-put : (c : tie.After-put-ended) → let w = c .before .before .before .before in let a = w .before .before .before .before .args in
+    Filling (line (a .word .now) (a .a) (a .b)) (withEnd (a .b) 10) (a .out .now) (back (w .put-word .last .1 .0) (w .put-word .result) (c .put-ended .last .1 .1 .0)) (w .put-word .result + c .put-ended .result)
+first-put c = part (word-put (c .before .before .before .before)) _ _ refl _ _ (c .put-ended .ensures .0) (c .put-ended .ensures .1)
 
 put-word-requires : tie.Need-put-word-requires
 put-word-requires c κs =
-    omega (arith, c .before .before .before .pre, length-append (c .before .before .before .args .word .now) (withEnd (c .before .before .before .args .a) 32 ++ withEnd (c .before .before .before .args .b) 10))
+    let a = c .before .before .before .args in
+    omega (arith, c .before .before .before .pre, length-append (a .word .now) (withEnd (a .a) 32 ++ withEnd (a .b) 10))
 
 sub-put-ended : tie.Need-sub-put-ended
-sub-put-ended c =
-    let h = begun (c .before .before .before .before .before .before .args .word .now) (withEnd (c .before .before .before .before .before .before .args .a) 32 ++ withEnd (c .before .before .before .before .before .before .args .b) 10) (c .before .before .before .before .before .before .args .out .now) (c .before .before .put-word .last .1 .0) (c .before .before .put-word .result) (c .before .before .before .before .before .before .pre) (c .before .before .put-word .ensures .0) (c .before .before .put-word .ensures .1) in
-    omega (arith, room h)
+sub-put-ended c = omega (arith, room (word-put (c .before .before)))
 
 part-put-ended-start : tie.Need-part-put-ended-start
-part-put-ended-start c =
-    let h = begun (c .before .before .before .before .before .before .args .word .now) (withEnd (c .before .before .before .before .before .before .args .a) 32 ++ withEnd (c .before .before .before .before .before .before .args .b) 10) (c .before .before .before .before .before .before .args .out .now) (c .before .before .put-word .last .1 .0) (c .before .before .put-word .result) (c .before .before .before .before .before .before .pre) (c .before .before .put-word .ensures .0) (c .before .before .put-word .ensures .1) in
-    omega (arith, room h)
+part-put-ended-start c = omega (arith, room (word-put (c .before .before)))
 
 part-put-ended-end : tie.Need-part-put-ended-end
 part-put-ended-end c = search needs
 
 put-ended-requires : tie.Need-put-ended-requires
 put-ended-requires c κs =
-    let h = begun (c .before .before .before .before .before .before .before .args .word .now) (withEnd (c .before .before .before .before .before .before .before .args .a) 32 ++ withEnd (c .before .before .before .before .before .before .before .args .b) 10) (c .before .before .before .before .before .before .before .args .out .now) (c .before .before .before .put-word .last .1 .0) (c .before .before .before .put-word .result) (c .before .before .before .before .before .before .before .pre) (c .before .before .before .put-word .ensures .0) (c .before .before .before .put-word .ensures .1) in
-    omega (arith, room h, rest-length (c .before .before .before .put-word .last .1 .0) (c .before .before .before .put-word .result), length-append (withEnd (c .before .before .before .before .before .before .before .args .a) 32) (withEnd (c .before .before .before .before .before .before .before .args .b) 10))
+    let w = c .before .before .before in
+    let a = w .before .before .before .before .args in
+    omega (arith, room (word-put w), rest-length (w .put-word .last .1 .0) (w .put-word .result), length-append (withEnd (a .a) 32) (withEnd (a .b) 10))
 
 add-second : tie.Need-add-second
 add-second c =
-    let h = begun (c .before .before .before .before .before .before .before .before .before .before .args .word .now) (withEnd (c .before .before .before .before .before .before .before .before .before .before .args .a) 32 ++ withEnd (c .before .before .before .before .before .before .before .before .before .before .args .b) 10) (c .before .before .before .before .before .before .before .before .before .before .args .out .now) (c .before .before .before .before .before .before .put-word .last .1 .0) (c .before .before .before .before .before .before .put-word .result) (c .before .before .before .before .before .before .before .before .before .before .pre) (c .before .before .before .before .before .before .put-word .ensures .0) (c .before .before .before .before .before .before .put-word .ensures .1) in
-    let k : c .before .before .before .before .before .before .put-word .result + c .before .before .put-ended .result ≤ length (c .before .before .before .before .before .before .before .before .before .before .args .out .now) = omega (arith, room-before h, c .before .before .put-ended .ensures .0, length-append (withEnd (c .before .before .before .before .before .before .before .before .before .before .args .a) 32) (withEnd (c .before .before .before .before .before .before .before .before .before .before .args .b) 10)) in search needs
+    let w = c .before .before .before .before .before .before in
+    let k : w .put-word .result + c .before .before .put-ended .result ≤ length (w .before .before .before .before .args .out .now) = omega (arith, room-before (first-put (c .before .before))) in
+    search needs
 
 sub-put-ended-2 : tie.Need-sub-put-ended-2
-sub-put-ended-2 c =
-    let h = begun (c .before .before .before .before .before .before .before .before .before .before .args .word .now) (withEnd (c .before .before .before .before .before .before .before .before .before .before .args .a) 32 ++ withEnd (c .before .before .before .before .before .before .before .before .before .before .args .b) 10) (c .before .before .before .before .before .before .before .before .before .before .args .out .now) (c .before .before .before .before .before .before .put-word .last .1 .0) (c .before .before .before .before .before .before .put-word .result) (c .before .before .before .before .before .before .before .before .before .before .pre) (c .before .before .before .before .before .before .put-word .ensures .0) (c .before .before .before .before .before .before .put-word .ensures .1) in
-    let i = part h (withEnd (c .before .before .before .before .before .before .before .before .before .before .args .a) 32) (withEnd (c .before .before .before .before .before .before .before .before .before .before .args .b) 10) refl (c .before .before .put-ended .result) (c .before .before .put-ended .last .1 .1 .0) (c .before .before .put-ended .ensures .0) (c .before .before .put-ended .ensures .1) in
-    omega (arith, room i)
+sub-put-ended-2 c = omega (arith, room (first-put (c .before .before)))
 
 part-put-ended-start-2 : tie.Need-part-put-ended-start-2
-part-put-ended-start-2 c =
-    let h = begun (c .before .before .before .before .before .before .before .before .before .before .args .word .now) (withEnd (c .before .before .before .before .before .before .before .before .before .before .args .a) 32 ++ withEnd (c .before .before .before .before .before .before .before .before .before .before .args .b) 10) (c .before .before .before .before .before .before .before .before .before .before .args .out .now) (c .before .before .before .before .before .before .put-word .last .1 .0) (c .before .before .before .before .before .before .put-word .result) (c .before .before .before .before .before .before .before .before .before .before .pre) (c .before .before .before .before .before .before .put-word .ensures .0) (c .before .before .before .before .before .before .put-word .ensures .1) in
-    let i = part h (withEnd (c .before .before .before .before .before .before .before .before .before .before .args .a) 32) (withEnd (c .before .before .before .before .before .before .before .before .before .before .args .b) 10) refl (c .before .before .put-ended .result) (c .before .before .put-ended .last .1 .1 .0) (c .before .before .put-ended .ensures .0) (c .before .before .put-ended .ensures .1) in
-    omega (arith, room i)
+part-put-ended-start-2 c = omega (arith, room (first-put (c .before .before)))
 
 part-put-ended-end-2 : tie.Need-part-put-ended-end-2
 part-put-ended-end-2 c = search needs
 
 put-ended-requires-2 : tie.Need-put-ended-requires-2
 put-ended-requires-2 c κs =
-    let h = begun (c .before .before .before .before .before .before .before .before .before .before .before .args .word .now) (withEnd (c .before .before .before .before .before .before .before .before .before .before .before .args .a) 32 ++ withEnd (c .before .before .before .before .before .before .before .before .before .before .before .args .b) 10) (c .before .before .before .before .before .before .before .before .before .before .before .args .out .now) (c .before .before .before .before .before .before .before .put-word .last .1 .0) (c .before .before .before .before .before .before .before .put-word .result) (c .before .before .before .before .before .before .before .before .before .before .before .pre) (c .before .before .before .before .before .before .before .put-word .ensures .0) (c .before .before .before .before .before .before .before .put-word .ensures .1) in
-    let i = part h (withEnd (c .before .before .before .before .before .before .before .before .before .before .before .args .a) 32) (withEnd (c .before .before .before .before .before .before .before .before .before .before .before .args .b) 10) refl (c .before .before .before .put-ended .result) (c .before .before .before .put-ended .last .1 .1 .0) (c .before .before .before .put-ended .ensures .0) (c .before .before .before .put-ended .ensures .1) in
-    omega (arith, room i, rest-length (back (c .before .before .before .before .before .before .before .put-word .last .1 .0) (c .before .before .before .before .before .before .before .put-word .result) (c .before .before .before .put-ended .last .1 .1 .0)) (c .before .before .before .before .before .before .before .put-word .result + c .before .before .before .put-ended .result))
+    let f = c .before .before .before in
+    let w = f .before .before .before .before in
+    omega (arith, room (first-put f), rest-length (back (w .put-word .last .1 .0) (w .put-word .result) (f .put-ended .last .1 .1 .0)) (w .put-word .result + f .put-ended .result))
 
 add-result : tie.Need-add-result
 add-result c =
-    let h = begun (c .before .before .before .before .before .before .before .before .before .before .before .before .before .before .args .word .now) (withEnd (c .before .before .before .before .before .before .before .before .before .before .before .before .before .before .args .a) 32 ++ withEnd (c .before .before .before .before .before .before .before .before .before .before .before .before .before .before .args .b) 10) (c .before .before .before .before .before .before .before .before .before .before .before .before .before .before .args .out .now) (c .before .before .before .before .before .before .before .before .before .before .put-word .last .1 .0) (c .before .before .before .before .before .before .before .before .before .before .put-word .result) (c .before .before .before .before .before .before .before .before .before .before .before .before .before .before .pre) (c .before .before .before .before .before .before .before .before .before .before .put-word .ensures .0) (c .before .before .before .before .before .before .before .before .before .before .put-word .ensures .1) in
-    let i = part h (withEnd (c .before .before .before .before .before .before .before .before .before .before .before .before .before .before .args .a) 32) (withEnd (c .before .before .before .before .before .before .before .before .before .before .before .before .before .before .args .b) 10) refl (c .before .before .before .before .before .before .put-ended .result) (c .before .before .before .before .before .before .put-ended .last .1 .1 .0) (c .before .before .before .before .before .before .put-ended .ensures .0) (c .before .before .before .before .before .before .put-ended .ensures .1) in
-    let k : c .before .before .before .before .before .before .before .before .before .before .put-word .result + c .before .before .before .before .before .before .put-ended .result + c .before .before .put-ended2 .result ≤ length (c .before .before .before .before .before .before .before .before .before .before .before .before .before .before .args .out .now) = omega (arith, room-before i, c .before .before .put-ended2 .ensures .0) in search needs
+    let f = c .before .before .before .before .before .before in
+    let w = f .before .before .before .before in
+    let n = c .before .before .put-ended2 in
+    let k : w .put-word .result + f .put-ended .result + n .result ≤ length (w .before .before .before .before .args .out .now) = omega (arith, room-before (first-put f), n .ensures .0) in
+    search needs
 
 same-length : tie.Need-same-length
 same-length c =
-    let h = begun (c .before .before .before .before .before .before .before .before .before .before .before .before .before .before .args .word .now) (withEnd (c .before .before .before .before .before .before .before .before .before .before .before .before .before .before .args .a) 32 ++ withEnd (c .before .before .before .before .before .before .before .before .before .before .before .before .before .before .args .b) 10) (c .before .before .before .before .before .before .before .before .before .before .before .before .before .before .args .out .now) (c .before .before .before .before .before .before .before .before .before .before .put-word .last .1 .0) (c .before .before .before .before .before .before .before .before .before .before .put-word .result) (c .before .before .before .before .before .before .before .before .before .before .before .before .before .before .pre) (c .before .before .before .before .before .before .before .before .before .before .put-word .ensures .0) (c .before .before .before .before .before .before .before .before .before .before .put-word .ensures .1) in
-    let i = part h (withEnd (c .before .before .before .before .before .before .before .before .before .before .before .before .before .before .args .a) 32) (withEnd (c .before .before .before .before .before .before .before .before .before .before .before .before .before .before .args .b) 10) refl (c .before .before .before .before .before .before .put-ended .result) (c .before .before .before .before .before .before .put-ended .last .1 .1 .0) (c .before .before .before .before .before .before .put-ended .ensures .0) (c .before .before .before .before .before .before .put-ended .ensures .1) in
-    last i _ _ (c .before .before .put-ended2 .ensures .0) (c .before .before .put-ended2 .ensures .1) .2
+    let n = c .before .before .put-ended2 in
+    last (first-put (c .before .before .before .before .before .before)) _ _ (n .ensures .0) (n .ensures .1) .2
 
 returns : tie.Need-returns
 returns c =
-    let h = begun (c .before .before .before .before .before .before .before .before .before .before .before .before .before .before .args .word .now) (withEnd (c .before .before .before .before .before .before .before .before .before .before .before .before .before .before .args .a) 32 ++ withEnd (c .before .before .before .before .before .before .before .before .before .before .before .before .before .before .args .b) 10) (c .before .before .before .before .before .before .before .before .before .before .before .before .before .before .args .out .now) (c .before .before .before .before .before .before .before .before .before .before .put-word .last .1 .0) (c .before .before .before .before .before .before .before .before .before .before .put-word .result) (c .before .before .before .before .before .before .before .before .before .before .before .before .before .before .pre) (c .before .before .before .before .before .before .before .before .before .before .put-word .ensures .0) (c .before .before .before .before .before .before .before .before .before .before .put-word .ensures .1) in
-    let i = part h (withEnd (c .before .before .before .before .before .before .before .before .before .before .before .before .before .before .args .a) 32) (withEnd (c .before .before .before .before .before .before .before .before .before .before .before .before .before .before .args .b) 10) refl (c .before .before .before .before .before .before .put-ended .result) (c .before .before .before .before .before .before .put-ended .last .1 .1 .0) (c .before .before .before .before .before .before .put-ended .ensures .0) (c .before .before .before .before .before .before .put-ended .ensures .1) in
-    let r = last i _ _ (c .before .before .put-ended2 .ensures .0) (c .before .before .put-ended2 .ensures .1) in (r .0, r .1)
+    let n = c .before .before .put-ended2 in
+    let r = last (first-put (c .before .before .before .before .before .before)) _ _ (n .ensures .0) (n .ensures .1) in
+    (r .0, r .1)
 
 pub put-line-spec : {M : Type 1} → statement M
 put-line-spec =

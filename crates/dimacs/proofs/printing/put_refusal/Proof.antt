@@ -1,18 +1,12 @@
-use mathlib.Core.Path.{ap, ap₂, _∙_}
-use native.Mathlib.Omega.{arith}
-use lib.ListN.{length}
-use Rattle.definitions.specs.Dimacs.{ascii}
-use Rattle.laws.specs.Written.{written}
-use Rattle.dimacs.specs.Lines.{line}
-use Rattle.dimacs.specs.Shown.{line-length}
+-- `dimacs::printing::put_refusal` meets its contract.
 use borrow.Author.Needs.{needs}
+use mathlib.Core.Path.{ap₂}
+use native.Mathlib.Omega.{arith}
+use Rattle.definitions.specs.Dimacs.{ascii}
+use Rattle.dimacs.specs.Lines.{line, retold}
+use Rattle.dimacs.specs.Shown.{line-length}
 use Rattle.dimacs.proofs.printing.put_refusal.Statement.{statement}
 use Rattle.dimacs.proofs.printing.put_refusal.Tie as tie
-use Rattle.dimacs.proofs.printing.put_refusal.Reads as reads
-use Rattle.dimacs.proofs.printing.put_refusal.Lts as lts
-use Rattle.answers.proofs.detail_of.Reads as detail-of-reads
-use Rattle.answers.proofs.number_of.Reads as number-of-reads
-use Rattle.dimacs.proofs.printing.put_line.Reads as put-line-reads
 
 slice-aggregate-put-line : tie.Need-slice-aggregate-put-line
 slice-aggregate-put-line c = search needs
@@ -32,8 +26,8 @@ same-length c = search needs
 
 returns : tie.Need-returns
 returns c =
-    let e = ap₂ (line (ascii "refused ")) (c .before .before .before .before .before .number-of .ensures) (c .before .before .before .before .detail-of .ensures) in
-    (c .before .before .put-line .ensures .0 ∙ ap length e, c .before .before .put-line .ensures .1 ∙ ap (λ z. written z (c .before .before .before .before .before .before .before .before .args .out .now)) e)
+    let d = c .before .before .before .before in
+    retold _ _ _ _ _ (ap₂ (line (ascii "refused ")) (d .before .number-of .ensures) (d .detail-of .ensures)) (c .before .before .put-line .ensures)
 
 pub put-refusal-spec : {M : Type 1} → statement M
 put-refusal-spec =

@@ -1,3 +1,4 @@
+-- `dimacs::printing::put_word` meets its contract.
 use borrow.Author.Needs.{needs}
 use mathlib.Core.Path.{_≡_, refl, ap, _∙_}
 use Prim.Native.Nat.{_≤_, _-_}
@@ -7,8 +8,6 @@ use lib.Seq.{take-all}
 use Rattle.laws.specs.Written.{written, written-none, written-take}
 use Rattle.dimacs.proofs.printing.put_word.Statement.{statement}
 use Rattle.dimacs.proofs.printing.put_word.Tie as tie
-use Rattle.dimacs.proofs.printing.put_word.Reads as reads
-use Rattle.dimacs.proofs.printing.put_word.Lts as lts
 
 abbrev Inv-loop : tie.InvT-loop
 Inv-loop word out₀ i₀ out i =
