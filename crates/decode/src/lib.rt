@@ -47,7 +47,7 @@ fn read_back(
     booleans: &mut [u8],
 ) -> Verdict
     requires { ⌜ Opened (now bytes) header × (n ≡ N (boardOf (now bytes))) ⌝ }
-    ensures { λ r. ⌜ Leaves (lending (now (values .entry), now (booleans .entry)) (readBack (boardOf (now (bytes .entry))) (now (model .entry)) (now (values .entry)) (now (booleans .entry)))) r (now (values .exit)) (now (booleans .exit)) ⌝ }
+    ensures { λ r. ⌜ Leaves (lending (now (values .entry), now (booleans .entry)) (readBack (now (bytes .entry)) header n (now (model .entry)) (now (values .entry)) (now (booleans .entry)))) r (now (values .exit)) (now (booleans .exit)) ⌝ }
 {
     if model.len() != n {
         return Verdict::Refused(Refusal::LentWrong { wanted: n });

@@ -16,19 +16,17 @@ use walk::At;
 use walk::tuples::first;
 use walk::tuples::next;
 ghost use mathlib.Core.Path.{_≡_};
-ghost use mathlib.Core.List.{map};
 ghost use Prim.Native.Nat.{_+_, _<_};
 ghost use lib.ListN.{length, drop};
 ghost use Rattle.definitions.specs.Encoding.{clauses};
 ghost use Rattle.laws.specs.Boards.{boardOf};
-ghost use Rattle.laws.specs.Pieces.{piecesFrom};
 ghost use Rattle.laws.specs.Reread.{tableEnd};
 ghost use Rattle.reader.specs.Said.{contextOf};
 ghost use Rattle.rules.specs.Cursors.{Sound};
 ghost use Rattle.decode.specs.Given.{Given};
 ghost use Rattle.decode.specs.Goes.{Sought};
-ghost use Rattle.decode.specs.Truth.{trueClause};
-ghost use Rattle.decode.specs.Passes.{Came, testsOf};
+ghost use Rattle.decode.specs.Truth.{tests};
+ghost use Rattle.decode.specs.Passes.{Came, ruleTests};
 
 fn next_piece(rules: &[u8], known: Context, cursor: Cursor) -> Ahead
     requires { ⌜ Sound (contextOf known) (now rules) cursor ⌝ }
@@ -58,8 +56,8 @@ pub fn search_rules(
     header: Header,
     number: usize,
 ) -> Checked
-    requires { ⌜ Given (now bytes) (now model) header × (now rules ≡ drop (tableEnd (boardOf (now bytes))) (now bytes)) × (number + length (testsOf (boardOf (now bytes)) (now model) (now rules) (piecesFrom 0 (boardOf (now bytes) .clauses))) < 9223372036854775808) ⌝ }
-    ensures { λ r. ⌜ Sought number (testsOf (boardOf (now (bytes .entry))) (now (model .entry)) (now (rules .entry)) (piecesFrom 0 (boardOf (now (bytes .entry)) .clauses))) r ⌝ }
+    requires { ⌜ Given (now bytes) (now model) header × (now rules ≡ drop (tableEnd (boardOf (now bytes))) (now bytes)) × (number + length (ruleTests (boardOf (now bytes)) (now model)) < 9223372036854775808) ⌝ }
+    ensures { λ r. ⌜ Sought number (ruleTests (boardOf (now (bytes .entry))) (now (model .entry))) r ⌝ }
 {
     let known = known_of(header);
     let mut at = number;
@@ -89,7 +87,7 @@ pub fn search_rules(
 // All clauses: the axioms, then the rules, which stand from the end of the variable table on.
 pub fn search_clauses(bytes: &[u8], model: &[u8], header: Header) -> Checked
     requires { ⌜ Given (now bytes) (now model) header ⌝ }
-    ensures { λ r. ⌜ Sought 0 (map (trueClause (boardOf (now (bytes .entry))) (now (model .entry))) (clauses (boardOf (now (bytes .entry))))) r ⌝ }
+    ensures { λ r. ⌜ Sought 0 (tests (boardOf (now (bytes .entry))) (now (model .entry)) (clauses (boardOf (now (bytes .entry))))) r ⌝ }
 {
     let checked = search_axioms(bytes, model, header);
     let Checked::Hold(number) = checked else {

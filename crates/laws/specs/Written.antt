@@ -74,3 +74,8 @@ module _ {A : Type 0} where
 
   pub written-one : (o : List A) (v : A) → 0 < length o → set o 0 v ≡ written (v ∷ []) o
   written-one o v h = ap (λ z. set z 0 v) (written-none o) ∙ written-snoc [] o v 0 refl h
+
+  -- a list that was written to its end
+  pub written-all : (w o : List A) → length w ≡ length o → written w o ≡ w
+  unfolding written
+  written-all w o h = ap (λ z. w ++ z) (drop-of-length-le o {i = length w} (omega arith)) ∙ append-nil w

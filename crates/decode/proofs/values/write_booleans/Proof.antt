@@ -5,8 +5,7 @@ use Prim.Native.Nat.{_-_, _≤_}
 use native.Mathlib.Omega.{arith}
 use lib.ListN.{length, getD, take, set, length-set}
 use lib.Seq.{length-take-le}
-use Rattle.laws.specs.Written.{written, written-none, written-take}
-use Rattle.decode.specs.Values.{written-all}
+use Rattle.laws.specs.Written.{written, written-none, written-take, written-all}
 use Rattle.decode.proofs.values.write_booleans.Statement.{statement}
 use Rattle.decode.proofs.values.write_booleans.Tie as tie
 
