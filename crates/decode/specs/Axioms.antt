@@ -40,29 +40,32 @@ module _ (model : List ℕ) where
 
   -- ---- a search through them
   module _ (n first last : ℕ) where
+    abbrev rising : List Bool
+    rising = map rises (countUp first (last - first))
+
     pub first-fails : on model first ≡ true → Sought n (axiomTests first last) (Checked.Fails n)
     unfolding axiomTests
-    first-fails h = goes-stop _ (not (on model first)) _ (goes-start n _) refl (rw h)
+    first-fails h = goes-stop (goes-start n _) (not (on model first)) (on model last ∷ rising) refl (rw h)
 
-    past-first : on model first ≡ false → Goes n (axiomTests first last) (n + 1) (on model last ∷ map rises (countUp first (last - first)))
+    past-first : on model first ≡ false → Goes n (axiomTests first last) (n + 1) (on model last ∷ rising)
     unfolding axiomTests
-    past-first h = goes-one _ (not (on model first)) _ (goes-start n _) refl (rw h)
+    past-first h = goes-one (goes-start n _) (not (on model first)) _ refl (rw h)
 
     pub last-fails : on model first ≡ false → on model last ≡ false → Sought n (axiomTests first last) (Checked.Fails (n + 1))
-    last-fails h k = goes-stop _ (on model last) _ (past-first h) refl k
+    last-fails h k = goes-stop (past-first h) (on model last) _ refl k
 
-    pub past-last : on model first ≡ false → on model last ≡ true → Goes n (axiomTests first last) (n + 2) (map rises (countUp first (last - first)))
-    past-last h k = let e : n + 1 + 1 ≡ n + 2 = omega arith in rw e at (goes-one _ (on model last) _ (past-first h) refl k)
+    pub past-last : on model first ≡ false → on model last ≡ true → Goes n (axiomTests first last) (n + 2) rising
+    past-last h k = let e : n + 1 + 1 ≡ n + 2 = omega arith in rw e at (goes-one (past-first h) (on model last) _ refl k)
 
   module _ {i : ℕ} {all : List Bool} {n : ℕ} (v last : ℕ) (g : Goes i all n (map rises (countUp v (last - v)))) where
     pub step-holds : v < last → rises v ≡ true → Goes i all (n + 1) (map rises (countUp (v + 1) (last - (v + 1))))
-    step-holds l h = goes-one _ (rises v) _ g (ap (map rises) (countUp-first v last l)) h
+    step-holds l h = goes-one g (rises v) _ (ap (map rises) (countUp-first v last l)) h
 
     pub step-fails : v < last → rises v ≡ false → Sought i all (Checked.Fails n)
-    step-fails l h = goes-stop _ (rises v) _ g (ap (map rises) (countUp-first v last l)) h
+    step-fails l h = goes-stop g (rises v) _ (ap (map rises) (countUp-first v last l)) h
 
     pub steps-end : last ≤ v → Sought i all (Checked.Hold n)
-    steps-end l = goes-end _ g (ap (map rises) (countUp-none v last l))
+    steps-end l = goes-end g (ap (map rises) (countUp-none v last l))
 
 module _ (B : Board) (model : List ℕ) (x : ℕ) (h : boundsOf B x .lo ≤ℤ boundsOf B x .hi) where
   abbrev lo : ℤ

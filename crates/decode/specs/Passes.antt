@@ -7,7 +7,7 @@ use native.Mathlib.Omega.{arith}
 use lib.ListN.{length, length-map, drop}
 use Rattle.definitions.specs.Tools.{All}
 use Rattle.definitions.specs.Board.{Board, boundsOf}
-use Rattle.definitions.specs.Result.{done}
+use Rattle.definitions.specs.Result.{done, refused, each}
 use Rattle.definitions.specs.Reading.{Context, times, readClause}
 use Rattle.definitions.specs.Encoding.{N, axioms, rules, clauses}
 use Rattle.laws.specs.Lists.{append-all}
@@ -29,11 +29,10 @@ use Rattle.walk.specs.declared.Walk.{Walk}
 use Rattle.walk.specs.declared.At.{At}
 use Rattle.walk.specs.Comparisons.{FairComparison, Walking, toCome, present, literalsOf, none-left, stepped}
 use Rattle.walk.specs.Walks.{places, left, seen, Over}
-use Rattle.decode.specs.declared.Checked.{Checked}
 use Rattle.decode.specs.declared.Ahead.{Ahead}
 use Rattle.decode.specs.Given.{Opened, clauses-is, admitted}
 use Rattle.decode.specs.Truth.{trueClause, tests}
-use Rattle.decode.specs.Goes.{Sought, Goes, goes-start, goes-one, goes-stop, goes-end}
+use Rattle.decode.specs.Goes.{Goes, goes-start, goes-one, goes-stop, goes-end}
 use Rattle.decode.specs.Tails.{InModel, clauseTest, leadOf, Tails, tails-tests, tails-numbered}
 
 -- at the cursor c the piece p comes next, and behind it stands c′
@@ -106,9 +105,9 @@ module _ (B : Board) (model t : List ℕ) where
     pub numbered : All (All (InModel model)) (toCome q at)
 
 module _ {B : Board} {model t : List ℕ} {i n : ℕ} {c : Cursor} (h : Passing B model t i n c) where
-  pub passing-end : ahead B t c ≡ [] → Sought i (ruleTests B model) (Checked.Hold n)
+  pub passing-end : ahead B t c ≡ [] → done tt ≡ each 13 i (ruleTests B model)
   unfolding flatten
-  passing-end e = goes-end _ (h .goes) (rw e)
+  passing-end e = goes-end (h .goes) (rw e) .0
 
   -- a piece comes next
   module _ {p : Piece} (c′ : Cursor) (e : ahead B t c ≡ p ∷ ahead B t c′) where
@@ -142,7 +141,7 @@ module _ {B : Board} {model t : List ℕ} {i n : ℕ} {lead : Bool} {q : Compari
 
       pub walks-next : clauseTest model lead (present q w) ≡ true → Walks B model t i (n + 1) lead q r c
       walks-next k = record {
-        goes = goes-one _ (clauseTest model lead (present q w)) _ (h .goes) (rw (e, onward .1)) k;
+        goes = goes-one (h .goes) (clauseTest model lead (present q w)) _ (rw (e, onward .1)) k;
         walking = onward .0;
         numbered = (rw (e, onward .1) at (h .numbered)) .1;
       }
@@ -155,9 +154,9 @@ module _ {B : Board} {model t : List ℕ} {i n : ℕ} {lead : Bool} {q : Compari
     unfolding toCome left present
     walks-numbered = (rw e at (h .numbered)) .0
 
-    pub walks-stop : clauseTest model lead (present q w) ≡ false → Sought i (ruleTests B model) (Checked.Fails n)
+    pub walks-stop : clauseTest model lead (present q w) ≡ false → refused 13 n ≡ each 13 i (ruleTests B model)
     unfolding toCome left present
-    walks-stop k = goes-stop _ _ _ (rw e at (h .goes)) refl k
+    walks-stop k = goes-stop (rw e at (h .goes)) _ _ refl k
 
     -- its number is one of the rules' clauses
     pub walks-room : n < i + length (ruleTests B model)

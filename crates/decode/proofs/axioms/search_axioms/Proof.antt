@@ -76,7 +76,7 @@ enum-told c = search needs
 
 returns : tie.Need-returns Inv-loop μ-loop
 returns c =
-    goes-fails _ _ _ _ _ (c .before .before .before .before .before .before .before .loop .inv .2) (here (c .before .before .before)) (c .before .before .search-variable .ensures) (c .enum-told .given .1)
+    rw (c .enum-told .given .1) (goes-fails (c .before .before .before .before .before .before .before .loop .inv .2) _ _ (here (c .before .before .before)) _ (c .before .before .search-variable .ensures) (c .enum-told .given .1))
 
 add-x : tie.Need-add-x Inv-loop μ-loop
 add-x c = omega arith
@@ -92,12 +92,12 @@ loop-again c =
     let v = c .before .before .before .before in (
       omega arith,
       omega (arith, first-more (B (c .before .before .before .before .before .before .before .before .before .before .before .before)) (x v) _ (inside (c .before .before .before .before .before .before .before .before .before .before .before .before .pre) (x v) (c .before .before .before .before .before .before .if1 .taken) (c .before .before .before .before .before .bounds-of .ensures)) (c .before .before .before .before .before .bounds-of .ensures), c .before .before .before .before .width-of .ensures),
-      goes-part _ _ _ _ _ (c .before .before .before .before .before .before .before .before .loop .inv .2) (here v) (c .before .before .before .search-variable .ensures) (c .before .checked .given .1),
+      goes-part (c .before .before .before .before .before .before .before .before .loop .inv .2) _ _ (here v) _ (c .before .before .before .search-variable .ensures) (c .before .checked .given .1),
     )
 
 returns-2 : tie.Need-returns-2 Inv-loop μ-loop
 returns-2 c =
-    goes-end _ (c .before .before .loop .inv .2) (axioms-none (B (c .before .before .before .before .before .before)) (c .before .before .before .before .before .before .args .model .now) _ (omega (arith, ints-is (c .before .before .before .before .before .before .pre .opened))))
+    goes-end (c .before .before .loop .inv .2) (axioms-none (B (c .before .before .before .before .before .before)) (c .before .before .before .before .before .before .args .model .now) _ (omega (arith, ints-is (c .before .before .before .before .before .before .pre .opened))))
 
 pub search-axioms-spec : {M : Type 1} → statement M
 search-axioms-spec =
