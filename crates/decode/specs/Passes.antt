@@ -2,15 +2,13 @@
 use mathlib.Core.Path.{_≡_, refl, ap, _∙_}
 use mathlib.Core.Bool.{Bool, true, false}
 use mathlib.Core.List.{List, [], _∷_, _++_, map, flatten, map-append}
-use Prim.Native.Nat.{ℕ, _+_, _^_, _≤_, _<_}
+use Prim.Native.Nat.{ℕ, _+_, _^_, _<_}
 use native.Mathlib.Omega.{arith}
 use lib.ListN.{length, length-map, drop}
 use Rattle.definitions.specs.Tools.{All}
 use Rattle.definitions.specs.Board.{Board, boundsOf}
 use Rattle.definitions.specs.Result.{done, refused, each}
-use Rattle.definitions.specs.Reading.{Context, times, readClause}
 use Rattle.definitions.specs.Encoding.{N, axioms, rules, clauses}
-use Rattle.laws.specs.Lists.{append-all}
 use Rattle.laws.specs.Admitted.{Admitted}
 use Rattle.laws.specs.Sizes.{M-is}
 use Rattle.laws.specs.Fits.{M-fits}
@@ -21,65 +19,16 @@ use Rattle.laws.specs.Pieces.{Piece, pieceClauses, piecesFrom, clausesIn, left-
 use Rattle.laws.specs.Mentions as Mentions
 use Rattle.opening.specs.declared.Header.{Header}
 use Rattle.rules.specs.declared.Cursor.{Cursor}
-use Rattle.rules.specs.declared.Piece as code
-use Rattle.rules.specs.declared.Stepped.{Stepped}
-use Rattle.rules.specs.Cursors.{atStart, comingAt, saidPiece, Held, Sound, Onward, Went, todo}
+use Rattle.rules.specs.Cursors.{atStart, comingAt, Sound}
 use Rattle.walk.specs.declared.Comparison.{Comparison}
 use Rattle.walk.specs.declared.Walk.{Walk}
 use Rattle.walk.specs.declared.At.{At}
-use Rattle.walk.specs.Comparisons.{FairComparison, Walking, toCome, present, literalsOf, none-left, stepped}
+use Rattle.walk.specs.Comparisons.{Walking, toCome, present, literalsOf, none-left, stepped}
 use Rattle.walk.specs.Walks.{places, left, seen, Over}
-use Rattle.decode.specs.declared.Ahead.{Ahead}
 use Rattle.decode.specs.Given.{Opened, clauses-is, admitted}
 use Rattle.decode.specs.Truth.{trueClause, tests}
 use Rattle.decode.specs.Goes.{Goes, goes-start, goes-one, goes-stop, goes-end}
 use Rattle.decode.specs.Tails.{InModel, clauseTest, leadOf, Tails, tails-tests, tails-numbered}
-
--- at the cursor c the piece p comes next, and behind it stands c′
-pub record Comes (ctx : Context) (t : List ℕ) (c : Cursor) (p : code.Piece) (c′ : Cursor) : Type 0 where
-  pub ahead : comingAt ctx t c ≡ saidPiece ctx t p ∷ comingAt ctx t c′
-  pub held : Held ctx t p
-  pub onward : Onward ctx t c c′
-
-unfoldable pub Came : Context → List ℕ → Cursor → Ahead → Type 0
-Came ctx t c (Ahead.Met p c′) = Comes ctx t c p c′
-Came ctx t c Ahead.Nothing = comingAt ctx t c ≡ []
-
-module _ (ctx : Context) (t : List ℕ) where
-  module _ (c : Cursor) (r : Ahead) (w : Came ctx t c r) where
-    pub came-met : {p : code.Piece} {d : Cursor} → r ≡ Ahead.Met p d → Comes ctx t c p d
-    unfolding Came
-    came-met e = rw e at w
-
-    pub came-none : r ≡ Ahead.Nothing → comingAt ctx t c ≡ []
-    unfolding Came
-    came-none e = rw e at w
-
-  -- between the cursors c and c′ there is no piece
-  pub record Onto (c c′ : Cursor) : Type 0 where
-    pub sound : Sound ctx t c′
-    pub same : comingAt ctx t c ≡ comingAt ctx t c′
-    pub most : todo ctx t c′ ≤ todo ctx t c
-
-  pub onto-start : (c : Cursor) → Sound ctx t c → Onto c c
-  onto-start c s = record { sound = s; same = refl; most = omega arith }
-
-  module _ (c c′ : Cursor) (h : Onto c c′) (r : Stepped) (w : Went ctx t c′ r) where
-    pub onto-met : (p : code.Piece) (d : Cursor) → r ≡ Stepped.Met p d → Came ctx t c (Ahead.Met p d)
-    unfolding Went Came
-    onto-met p d e =
-        let k : Went ctx t c′ (Stepped.Met p d) = rw e at w in
-        record { ahead = h .same ∙ k .0; held = k .1; onward = record { sound = k .2 .sound; less = omega (arith, k .2 .less, h .most) } }
-
-    pub onto-passed : (d : Cursor) → r ≡ Stepped.Passed d → Onto c d × (todo ctx t d < todo ctx t c′)
-    unfolding Went
-    onto-passed d e =
-        let k : Went ctx t c′ (Stepped.Passed d) = rw e at w in
-        (record { sound = k .1 .sound; same = h .same ∙ k .0; most = omega (arith, k .1 .less, h .most) }, k .1 .less)
-
-    pub onto-end : r ≡ Stepped.End → Came ctx t c Ahead.Nothing
-    unfolding Went Came
-    onto-end e = h .same ∙ (rw e at w)
 
 -- the pieces at the cursor, the tests of their clauses, and the tests of all the rules' clauses
 abbrev pub ahead : Board → List ℕ → Cursor → List Piece

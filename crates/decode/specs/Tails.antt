@@ -1,5 +1,5 @@
 -- The clauses of a piece of the rules: its lead, and the literals of a tuple behind it. Assumes nothing.
-use mathlib.Core.Path.{_≡_, refl, sym, ap, ap₂, _∙_}
+use mathlib.Core.Path.{_≡_, refl, sym, ap, _∙_}
 use mathlib.Core.Bool.{Bool, not, _||_, or-false}
 use mathlib.Core.List.{List, [], _∷_, _++_, map, zipWith, append-nil, map-map}
 use Prim.Native.Nat.{ℕ, _≤_}
@@ -7,7 +7,7 @@ use native.Mathlib.Omega.{arith}
 use lib.ListN.{length}
 use lib.IntN.{ℤ, negsuc, natAbs}
 use lib.Signed.{_≤ℤ_, _<ℤ_}
-use Rattle.definitions.specs.Tools.{All, any, if_then_else_}
+use Rattle.definitions.specs.Tools.{All, any}
 use Rattle.definitions.specs.Board.{Board, boundsOf}
 use Rattle.definitions.specs.Board as board
 use Rattle.definitions.specs.Encoding.{SatLiteral, SatClause, minus, selector, least, tuples, tuplesOf, sharp, clausesUnder, number, N, literalNumber}
@@ -19,7 +19,7 @@ use Rattle.laws.specs.Pieces.{Piece, line, under, pieceClauses}
 use Rattle.laws.specs.Layout.{number-range}
 use Rattle.laws.specs.Mentions.{atomOf, Mentions, Sound, piece-mentions, literal-size}
 use Rattle.walk.specs.declared.Comparison.{Comparison}
-use Rattle.walk.specs.Comparisons.{FairComparison, literalsOf, Shows, shows-literals}
+use Rattle.walk.specs.Comparisons.{FairComparison, literalsOf, shows-literals}
 use Rattle.slots.specs.Ready.{ReadyFor}
 use Rattle.decode.specs.Truth.{selectorNumber, trueNumber, trueClause, Numbered, clause-true}
 

@@ -1,14 +1,14 @@
 -- What is read back, by the numbers of the order variables. Assumes nothing.
-use mathlib.Core.Path.{_≡_, refl, sym, ap, _∙_}
+use mathlib.Core.Path.{_≡_, sym, ap, _∙_}
 use mathlib.Core.Bool.{Bool, true, false}
-use mathlib.Core.List.{List, [], _∷_, map}
-use Prim.Native.Nat.{ℕ, suc, _+_, _-_, _≤_, _<_}
+use mathlib.Core.List.{List, map}
+use Prim.Native.Nat.{ℕ, _+_, _-_, _≤_, _<_}
 use native.Mathlib.Nat.{zero-add}
 use native.Mathlib.Omega.{arith}
 use lib.ListN.{length, getD, length-map}
 use lib.IntN.{ℤ, pos, sucℤ, _+ℤ_, _-ℤ_}
 use lib.Signed.{_≤ℤ_}
-use Rattle.definitions.specs.Tools.{if_then_else_, countUp, size, range}
+use Rattle.definitions.specs.Tools.{if_then_else_, countUp, size}
 use Rattle.definitions.specs.Board.{Board, Bounds, boundsOf, variables}
 use Rattle.definitions.specs.Encoding.{order, width, first, number}
 use Rattle.definitions.specs.Meaning.{on, inModel, leastTrue, valueOf, valuesOf}

@@ -28,7 +28,8 @@ ghost use Rattle.lent.specs.Said.{saidFound};
 ghost use Rattle.rules.specs.Cursors.{Sound};
 ghost use Rattle.decode.specs.Given.{Given};
 ghost use Rattle.decode.specs.Truth.{tests};
-ghost use Rattle.decode.specs.Passes.{Came, ruleTests};
+ghost use Rattle.decode.specs.Next.{Came};
+ghost use Rattle.decode.specs.Passes.{ruleTests};
 
 fn next_piece(rules: &[u8], known: Context, cursor: Cursor) -> Ahead
     requires { ⌜ Sound (contextOf known) (now rules) cursor ⌝ }

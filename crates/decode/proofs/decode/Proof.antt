@@ -1,12 +1,16 @@
 -- `decode::decode` meets its contract.
+use borrow.Author.Needs.{needs}
 use mathlib.Core.Path.{ap}
 use Rattle.fields.proofs.Laws.{told}
 use Rattle.size.specs.Said.{saidMeasured}
 use Rattle.size.specs.Told.{Measures, measured, not-measured}
 use Rattle.decode.specs.Decoded.{decode-is, decode-refused}
-use borrow.Author.Needs.{needs}
 use Rattle.decode.proofs.decode.Statement.{statement}
 use Rattle.decode.proofs.decode.Tie as tie
+
+-- the record is accepted
+told-all : (c : tie.After-header) → Measures (c .before .before .before .before .before .before .args .bytes .now) (c .header .given .0 .0) (c .header .given .0 .1 .0)
+told-all c = measured (c .before .before .before .before .before .before .args .bytes .now) (told saidMeasured (c .before .before .measure .ensures) (c .header .given .1))
 
 measure-requires : tie.Need-measure-requires
 measure-requires c κs = search needs
@@ -16,8 +20,7 @@ enum-known-header c = search needs
 
 read-back-requires : tie.Need-read-back-requires
 read-back-requires c κs =
-    let m = measured (c .before .before .before .before .before .before .before .before .before .args .bytes .now) (told saidMeasured (c .before .before .before .before .before .measure .ensures) (c .before .before .before .header .given .1)) in
-    (record { opens = m .opens; header = m .header }, ap (λ t. t .n) (m .totals))
+    let m = told-all (c .before .before .before) in (record { opens = m .opens; header = m .header }, ap (λ t. t .n) (m .totals))
 
 enum-known-r : tie.Need-enum-known-r
 enum-known-r c = search needs
@@ -31,8 +34,7 @@ same-length-2 c = search needs
 returns : tie.Need-returns
 returns c =
     let a = c .before .before .before .before .before .before .before .before .before .before .before .before .before .args in
-    let m = measured (a .bytes .now) (told saidMeasured (c .before .before .before .before .before .before .before .before .before .measure .ensures) (c .before .before .before .before .before .before .before .header .given .1)) in
-    rw (decode-is (a .bytes .now) (a .model .now) (a .values .now) (a .booleans .now) m) (c .before .before .before .read-back .ensures)
+    rw (decode-is (a .bytes .now) (a .model .now) (a .values .now) (a .booleans .now) (told-all (c .before .before .before .before .before .before .before))) (c .before .before .before .read-back .ensures)
 
 returns-2 : tie.Need-returns-2
 returns-2 c =

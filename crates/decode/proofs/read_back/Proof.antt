@@ -27,7 +27,7 @@ returns-3 c =
     booleans-wrong (a .bytes .now) (a .header) (a .n) (a .model .now) (a .values .now) (a .booleans .now) (c .before .before .if1 .left) (c .before .if2 .left) (c .if3 .taken)
 
 returns-4 : tie.Need-returns-4
-returns-4 c = model-refused _ _ _ _ _ _ (cc) (cc) (cc) (c .before .before .check-model .ensures) (c .enum-told2 .given .1)
+returns-4 c = model-refused _ _ _ _ _ _ (search needs) (search needs) (search needs) (c .before .before .check-model .ensures) (c .enum-told2 .given .1)
 
 returns-5 : tie.Need-returns-5
 returns-5 c =

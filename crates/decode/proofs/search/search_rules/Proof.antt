@@ -1,8 +1,6 @@
 -- `decode::search::search_rules` meets its contract.
 use borrow.Author.Needs.{needs}
-use mathlib.Core.Path.{_≡_, sym, _∙_}
-use mathlib.Core.List.{List, _∷_}
-use Prim.Native.Nat.{ℕ}
+use mathlib.Core.Path.{sym, _∙_}
 use native.Mathlib.Omega.{arith}
 use lib.ListN.{length}
 use borrow.Author.Tests.{not-true, not-false}
@@ -11,10 +9,11 @@ use Rattle.definitions.specs.Reading.{Context}
 use Rattle.laws.specs.Boards.{boardOf}
 use Rattle.laws.specs.Reread as reread
 use Rattle.reader.specs.Said.{contextOf}
-use Rattle.rules.specs.Cursors.{todo, saidPiece}
+use Rattle.rules.specs.Cursors.{todo}
 use Rattle.walk.specs.Comparisons.{toCome, walking-fine}
 use Rattle.decode.specs.Given.{known-is, counts-small, short}
-use Rattle.decode.specs.Passes.{Comes, came-met, came-none, Passing, Walks, passing-start, passing-end, sound-next, walks-start, walks-end, walks-at, walks-next, walks-less, walks-numbered, walks-stop, walks-room}
+use Rattle.decode.specs.Next.{Comes, came-met, came-none}
+use Rattle.decode.specs.Passes.{Passing, Walks, passing-start, passing-end, sound-next, walks-start, walks-end, walks-at, walks-next, walks-less, walks-numbered, walks-stop, walks-room}
 use Rattle.decode.proofs.search.search_rules.Statement.{statement}
 use Rattle.decode.proofs.search.search_rules.Tie as tie
 
@@ -41,7 +40,7 @@ module _ (c : tie.Start Inv-loop μ-loop Inv-search μ-search) where
 -- a piece was met
 module _ (c : tie.After-piece Inv-loop μ-loop Inv-search μ-search) where
   met : Comes (ctx (c .before .before .before .before .before .before .before .before .before)) (c .before .before .before .before .before .before .before .before .before .args .rules .now) (c .before .before .before .search .cursor) (c .piece .given .0 .0) (c .piece .given .0 .1 .0)
-  met = came-met (ctx (c .before .before .before .before .before .before .before .before .before)) (c .before .before .before .before .before .before .before .before .before .args .rules .now) (c .before .before .before .search .cursor) _ (rw (c .before .before .before .before .before .known-of .ensures, known-is (c .before .before .before .before .before .before .before .before .before .pre .0 .opened)) at (c .before .before .next-piece .ensures)) (c .piece .given .1)
+  met = came-met (ctx (c .before .before .before .before .before .before .before .before .before)) (c .before .before .before .before .before .before .before .before .before .args .rules .now) (c .before .before .before .search .cursor) (rw (c .before .before .before .before .before .known-of .ensures, known-is (c .before .before .before .before .before .before .before .before .before .pre .0 .opened)) at (c .before .before .next-piece .ensures)) (c .piece .given .1)
 
 known-of-requires : tie.Need-known-of-requires Inv-loop μ-loop Inv-search μ-search
 known-of-requires c κs = counts-small (c .before .before .before .pre .0 .opened)
@@ -107,7 +106,7 @@ search-again c =
 
 returns : tie.Need-returns Inv-loop μ-loop Inv-search μ-search
 returns c =
-    passing-end (c .before .before .before .search .inv) (came-none (ctx (c .before .before .before .before .before .before .before .before .before)) (c .before .before .before .before .before .before .before .before .before .args .rules .now) (c .before .before .before .search .cursor) _ (rw (c .before .before .before .before .before .known-of .ensures, known-is (c .before .before .before .before .before .before .before .before .before .pre .0 .opened)) at (c .before .before .next-piece .ensures)) (c .enum-told .given .1))
+    passing-end (c .before .before .before .search .inv) (came-none (ctx (c .before .before .before .before .before .before .before .before .before)) (c .before .before .before .before .before .before .before .before .before .args .rules .now) (c .before .before .before .search .cursor) (rw (c .before .before .before .before .before .known-of .ensures, known-is (c .before .before .before .before .before .before .before .before .before .pre .0 .opened)) at (c .before .before .next-piece .ensures)) (c .enum-told .given .1))
 
 returns-2 : tie.Need-returns-2 Inv-loop μ-loop Inv-search μ-search
 returns-2 c = walks-stop (c .before .before .before .before .before .loop .inv) (c .before .before .before .tuple .given .1) (sym (c .before .clause-holds .ensures) ∙ not-true _ (c .if1 .taken))

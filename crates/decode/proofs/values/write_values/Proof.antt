@@ -8,7 +8,7 @@ use lib.ListN.{length, getD, take, set, length-set}
 use lib.Seq.{take-all}
 use lib.IntN.{ℤ, pos}
 use mir.Syntax.{w32}
-use mir.Val.{SFits, toZ, ofZ}
+use mir.Val.{SFits}
 use mir.Facts.{toZ-ofZ}
 use Rattle.definitions.specs.Board.{Board}
 use Rattle.definitions.specs.Encoding.{width}
