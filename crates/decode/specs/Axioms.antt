@@ -1,35 +1,25 @@
 -- The axioms by the numbers of their order variables, which rise one by one. Assumes nothing.
 use mathlib.Core.Path.{_≡_, refl, sym, ap, ap₂, _∙_}
-use mathlib.Core.Bool.{Bool, true, false, not, _||_}
+use mathlib.Core.Bool.{Bool, true, false, not, _||_, or-false}
 use mathlib.Core.List.{List, [], _∷_, _++_, map, flatten, map-map, map-append}
-use Prim.Native.Nat.{ℕ, suc, _+_, _-_, _^_, _≤_, _<_}
+use Prim.Native.Nat.{ℕ, _+_, _-_, _^_, _≤_, _<_}
 use native.Mathlib.Nat.{add-zero, sub-zero}
 use native.Mathlib.Omega.{arith}
 use lib.ListN.{length, length-map}
 use lib.IntN.{ℤ, pos, sucℤ, _+ℤ_, _-ℤ_}
 use lib.Signed.{_≤ℤ_}
 use Rattle.definitions.specs.Tools.{countUp, size, range}
-use Rattle.definitions.specs.Board.{Board, Bounds, boundsOf, variables}
+use Rattle.definitions.specs.Board.{Board, boundsOf, variables}
 use Rattle.definitions.specs.Encoding.{SatClause, order, plus, minus, axiomsOf, axioms, width, first, number, M}
 use Rattle.definitions.specs.Meaning.{on, satisfies, inModel}
 use Rattle.laws.specs.Whole.{whole, add-law, sub-law, suc-law, part-law}
-use Rattle.laws.specs.Lists.{map-same, all-every, countUp-shift, length-flatten}
+use Rattle.laws.specs.Lists.{map-same, all-every, countUp-shift, countUp-first, countUp-none, length-flatten}
 use Rattle.laws.specs.Admitted.{Admitted}
 use Rattle.laws.specs.Fits.{M-fits}
 use Rattle.laws.specs.Ranges.{range-shift}
 use Rattle.decode.specs.declared.Checked.{Checked}
-use Rattle.decode.specs.Truth.{trueClause}
+use Rattle.decode.specs.Truth.{trueClause, tests}
 use Rattle.decode.specs.Goes.{Sought, Goes, goes-start, goes-one, goes-stop, goes-end}
-
--- the first entry of those counted up
-pub count-first : (v last : ℕ) → v < last → countUp v (last - v) ≡ v ∷ countUp (v + 1) (last - (v + 1))
-count-first v last h =
-    let e : last - v ≡ suc (last - (v + 1)) = omega arith in
-    let f : suc v ≡ v + 1 = omega arith in
-    ap (countUp v) e ∙ ap (λ k. v ∷ countUp k (last - (v + 1))) f
-
-pub count-none : (v last : ℕ) → last ≤ v → countUp v (last - v) ≡ []
-count-none v last h = let e : last - v ≡ 0 = omega arith in ap (countUp v) e
 
 module _ (model : List ℕ) where
   -- the order variable v is not true, or the next one is
@@ -50,33 +40,32 @@ module _ (model : List ℕ) where
 
   -- ---- a search through them
   module _ (n first last : ℕ) where
+    abbrev rising : List Bool
+    rising = map rises (countUp first (last - first))
+
     pub first-fails : on model first ≡ true → Sought n (axiomTests first last) (Checked.Fails n)
     unfolding axiomTests
-    first-fails h = goes-stop _ (not (on model first)) _ (goes-start n _) refl (rw h)
+    first-fails h = goes-stop (goes-start n _) (not (on model first)) (on model last ∷ rising) refl (rw h)
 
-    past-first : on model first ≡ false → Goes n (axiomTests first last) (n + 1) (on model last ∷ map rises (countUp first (last - first)))
+    past-first : on model first ≡ false → Goes n (axiomTests first last) (n + 1) (on model last ∷ rising)
     unfolding axiomTests
-    past-first h = goes-one _ (not (on model first)) _ (goes-start n _) refl (rw h)
+    past-first h = goes-one (goes-start n _) (not (on model first)) _ refl (rw h)
 
     pub last-fails : on model first ≡ false → on model last ≡ false → Sought n (axiomTests first last) (Checked.Fails (n + 1))
-    last-fails h k = goes-stop _ (on model last) _ (past-first h) refl k
+    last-fails h k = goes-stop (past-first h) (on model last) _ refl k
 
-    pub past-last : on model first ≡ false → on model last ≡ true → Goes n (axiomTests first last) (n + 2) (map rises (countUp first (last - first)))
-    past-last h k = let e : n + 1 + 1 ≡ n + 2 = omega arith in rw e at (goes-one _ (on model last) _ (past-first h) refl k)
+    pub past-last : on model first ≡ false → on model last ≡ true → Goes n (axiomTests first last) (n + 2) rising
+    past-last h k = let e : n + 1 + 1 ≡ n + 2 = omega arith in rw e at (goes-one (past-first h) (on model last) _ refl k)
 
   module _ {i : ℕ} {all : List Bool} {n : ℕ} (v last : ℕ) (g : Goes i all n (map rises (countUp v (last - v)))) where
     pub step-holds : v < last → rises v ≡ true → Goes i all (n + 1) (map rises (countUp (v + 1) (last - (v + 1))))
-    step-holds l h = goes-one _ (rises v) _ g (ap (map rises) (count-first v last l)) h
+    step-holds l h = goes-one g (rises v) _ (ap (map rises) (countUp-first v last l)) h
 
     pub step-fails : v < last → rises v ≡ false → Sought i all (Checked.Fails n)
-    step-fails l h = goes-stop _ (rises v) _ g (ap (map rises) (count-first v last l)) h
+    step-fails l h = goes-stop g (rises v) _ (ap (map rises) (countUp-first v last l)) h
 
     pub steps-end : last ≤ v → Sought i all (Checked.Hold n)
-    steps-end l = goes-end _ g (ap (map rises) (count-none v last l))
-
-pub or-false : (b : Bool) → (b || false) ≡ b
-or-false true = refl
-or-false false = refl
+    steps-end l = goes-end g (ap (map rises) (countUp-none v last l))
 
 module _ (B : Board) (model : List ℕ) (x : ℕ) (h : boundsOf B x .lo ≤ℤ boundsOf B x .hi) where
   abbrev lo : ℤ
@@ -126,7 +115,7 @@ module _ (B : Board) (model : List ℕ) (x : ℕ) (h : boundsOf B x .lo ≤ℤ b
   unfolding satisfies inModel rises
   step-test k = ap₂ (λ v w. not (on model v) || (on model w || false)) (below k) (at-offset k) ∙ ap (λ b. not (on model (first B x + k)) || b) (or-false _)
 
-  pub axioms-tests : map (trueClause B model) (axiomsOf (boundsOf B) x) ≡ axiomTests model (first B x) (first B x + width (boundsOf B x) - 1)
+  pub axioms-tests : tests B model (axiomsOf (boundsOf B) x) ≡ axiomTests model (first B x) (first B x + width (boundsOf B x) - 1)
   unfolding axiomsOf axiomTests satisfies inModel
   axioms-tests =
       let n = size (sucℤ hi -ℤ lo) in
@@ -142,10 +131,10 @@ module _ (B : Board) (model : List ℕ) (x : ℕ) (h : boundsOf B x .lo ≤ℤ b
 
 -- ---- variable by variable: those from x on
 unfoldable pub axiomsFrom : Board → List ℕ → ℕ → List Bool
-axiomsFrom B model x = map (trueClause B model) (flatten (map (axiomsOf (boundsOf B)) (countUp x (length (B .bounds) - x))))
+axiomsFrom B model x = tests B model (flatten (map (axiomsOf (boundsOf B)) (countUp x (length (B .bounds) - x))))
 
 module _ (B : Board) (model : List ℕ) where
-  pub axioms-all : axiomsFrom B model 0 ≡ map (trueClause B model) (flatten (axioms B))
+  pub axioms-all : axiomsFrom B model 0 ≡ tests B model (flatten (axioms B))
   unfolding axiomsFrom axioms variables
   axioms-all = rw sub-zero
 
@@ -154,14 +143,14 @@ module _ (B : Board) (model : List ℕ) where
   unfolding axiomsFrom flatten
   axioms-first x h o =
       let rest = flatten (map (axiomsOf (boundsOf B)) (countUp (x + 1) (length (B .bounds) - (x + 1)))) in
-      ap (λ l. map (trueClause B model) (flatten (map (axiomsOf (boundsOf B)) l))) (count-first x (length (B .bounds)) h)
+      ap (λ l. tests B model (flatten (map (axiomsOf (boundsOf B)) l))) (countUp-first x (length (B .bounds)) h)
       ∙ map-append (trueClause B model) (axiomsOf (boundsOf B) x) rest
-      ∙ ap (λ l. l ++ map (trueClause B model) rest) (axioms-tests B model x o)
+      ∙ ap (λ l. l ++ tests B model rest) (axioms-tests B model x o)
 
   pub axioms-none : (x : ℕ) → length (B .bounds) ≤ x → axiomsFrom B model x ≡ []
   unfolding axiomsFrom flatten
-  axioms-none x h = ap (λ l. map (trueClause B model) (flatten (map (axiomsOf (boundsOf B)) l))) (count-none x (length (B .bounds)) h)
+  axioms-none x h = ap (λ l. tests B model (flatten (map (axiomsOf (boundsOf B)) l))) (countUp-none x (length (B .bounds)) h)
 
-  pub axioms-fit : Admitted B → length (map (trueClause B model) (flatten (axioms B))) < 2 ^ 63
+  pub axioms-fit : Admitted B → length (tests B model (flatten (axioms B))) < 2 ^ 63
   unfolding M
   axioms-fit g = omega (arith, length-map (flatten (axioms B)) (trueClause B model), length-flatten (axioms B), M-fits B g)

@@ -1,65 +1,74 @@
 -- What the passes are given: an accepted record, its header, and a model of the right length. Assumes nothing.
 use mathlib.Core.Path.{_≡_, ap}
-use mathlib.Core.List.{List, map}
-use Prim.Native.Nat.{ℕ, suc, _+_, _≤_, _<_}
+use mathlib.Core.List.{List}
+use Prim.Native.Nat.{ℕ, _+_, _≤_, _<_}
 use native.Mathlib.Omega.{arith}
-use lib.ListN.{length, take, drop, take-append-drop}
-use lib.IntN.{pos, _+ℤ_, _-ℤ_}
-use Rattle.definitions.specs.Tools.{sum}
-use Rattle.definitions.specs.Board.{Board, Bounds, boundsOf}
+use lib.ListN.{length}
+use lib.Signed.{_≤ℤ_}
+use Rattle.definitions.specs.Board.{boundsOf}
 use Rattle.definitions.specs.Encoding.{N, first, width}
-use Rattle.laws.specs.Lists.{sum-append}
-use Rattle.laws.specs.Admitted.{Admitted, GoodBounds}
+use Rattle.laws.specs.Admitted.{Admitted}
 use Rattle.laws.specs.Terms.{good-bounds}
-use Rattle.laws.specs.Whole.{whole, add-law, sub-law, part-law}
 use Rattle.laws.specs.Boards.{boardOf, Opens, opens-admitted}
-use Rattle.laws.specs.Fits.{N-fits}
-use Rattle.laws.specs.Layout.{first-next}
+use Rattle.laws.specs.Reread.{contextOf, tableEnd}
+use Rattle.laws.specs.Fits.{N-fits, width-least}
+use Rattle.laws.specs.Layout.{orders-range}
 use Rattle.opening.specs.Said.{headerOf}
 use Rattle.opening.specs.declared.Header.{Header}
+use Rattle.slots.specs.declared.Bounds.{Bounds}
+use Rattle.slots.specs.Variables.{BoundsOf, boundsRead, bounds-same}
 
 pub record Opened (s : List ℕ) (h : Header) : Type 0 where
   pub opens : Opens s
   pub header : h ≡ headerOf (boardOf s)
 
 pub record Given (s model : List ℕ) (h : Header) : Type 0 where
-  pub opens : Opens s
-  pub header : h ≡ headerOf (boardOf s)
+  pub opened : Opened s h
   pub long : length model ≡ N (boardOf s)
 
--- a variable has two order variables or more, and they are within the model
-pub width-least : (b : Bounds) → GoodBounds b → 2 ≤ width b
-unfolding width
-width-least b g =
-    let d = b .hi -ℤ b .lo in
-    omega (whole, g .ordered, add-law d (pos 2), sub-law (b .hi) (b .lo), part-law (d +ℤ pos 2))
-
-pub variable-numbered : (B : Board) → Admitted B → (x : ℕ) → x < length (B .bounds)
-    → (1 ≤ first B x) × (first B x + width (boundsOf B x) ≤ N B + 1) × (2 ≤ width (boundsOf B x))
-unfolding first N
-variable-numbered B g x h =
-    let bs = B .bounds in (
-      omega arith,
-      omega (arith, first-next B x h, sum-append width (take (suc x) bs) (drop (suc x) bs), ap (λ l. sum (map width l)) (take-append-drop (suc x) bs)),
-      width-least (boundsOf B x) (good-bounds B (g .bounds) x h),
-    )
-
-pub bools-most : (B : Board) → B .bools ≤ N B
-unfolding N
-bools-most B = omega arith
-
-module _ (s model : List ℕ) (h : Header) (g : Given s model h) where
+module _ {s : List ℕ} {h : Header} (o : Opened s h) where
   pub ints-is : h .ints ≡ length (boardOf s .bounds)
-  ints-is = ap (λ z. z .ints) (g .header)
+  ints-is = ap (λ z. z .ints) (o .header)
 
   pub bools-is : h .bools ≡ boardOf s .bools
-  bools-is = ap (λ z. z .bools) (g .header)
+  bools-is = ap (λ z. z .bools) (o .header)
 
   pub clauses-is : h .clauses ≡ length (boardOf s .clauses)
-  clauses-is = ap (λ z. z .clauses) (g .header)
+  clauses-is = ap (λ z. z .clauses) (o .header)
+
+  pub rules-is : h .rules ≡ tableEnd (boardOf s)
+  rules-is = ap (λ z. z .rules) (o .header)
+
+  pub known-is : record { version = 1; ints = h .ints; bools = h .bools } ≡ contextOf (boardOf s)
+  known-is = rw (o .header)
+
+  pub selectors-are : first (boardOf s) (h .ints) ≡ first (boardOf s) (length (boardOf s .bounds))
+  selectors-are = ap (first (boardOf s)) ints-is
 
   pub admitted : Admitted (boardOf s)
-  admitted = opens-admitted s (g .opens)
+  admitted = opens-admitted s (o .opens)
 
+  pub counts-small : (h .ints ≤ 1024) × (h .bools ≤ 4096)
+  counts-small = omega (arith, ints-is, bools-is, admitted .ints, admitted .bools)
+
+module _ {s model : List ℕ} {h : Header} (g : Given s model h) where
   pub short : length model < 2147483648
-  short = omega (arith, g .long, N-fits (boardOf s) admitted)
+  short = omega (arith, g .long, N-fits (boardOf s) (admitted (g .opened)))
+
+  pub bools-within : h .bools ≤ length model
+  unfolding N
+  bools-within = omega (arith, g .long, bools-is (g .opened))
+
+  -- the variable x, whose bounds were read: its order variables are within the model
+  module _ (x : ℕ) (l : x < h .ints) {b : Bounds} (e : BoundsOf (boardOf s) x b) where
+    pub inside : x < length (boardOf s .bounds)
+    inside = omega (arith, ints-is (g .opened))
+
+    pub ordered : boundsOf (boardOf s) x .lo ≤ℤ boundsOf (boardOf s) x .hi
+    ordered = good-bounds (boardOf s) (admitted (g .opened) .bounds) x inside .ordered
+
+    pub within : (1 ≤ first (boardOf s) x) × (first (boardOf s) x + width (boundsRead b) ≤ length model + 1) × (2 ≤ width (boundsRead b))
+    within =
+        let r = orders-range (boardOf s) x inside in
+        let w = ap width (bounds-same (boardOf s) x b e) in
+        (r .0, omega (arith, r .1, w, g .long), width-least (boundsRead b) (e .good))

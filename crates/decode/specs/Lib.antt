@@ -5,5 +5,6 @@ pub mod Axioms
 pub mod Values
 pub mod Lines
 pub mod Tails
+pub mod Next
 pub mod Passes
 pub mod Decoded

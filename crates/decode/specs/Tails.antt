@@ -1,47 +1,31 @@
 -- The clauses of a piece of the rules: its lead, and the literals of a tuple behind it. Assumes nothing.
-use mathlib.Core.Path.{_≡_, refl, sym, ap, ap₂, _∙_}
-use mathlib.Core.Bool.{Bool, true, false, not, _||_}
+use mathlib.Core.Path.{_≡_, refl, sym, ap, _∙_}
+use mathlib.Core.Bool.{Bool, not, _||_, or-false}
 use mathlib.Core.List.{List, [], _∷_, _++_, map, zipWith, append-nil, map-map}
-use Prim.Native.Nat.{ℕ, _+_, _≤_, _<_}
-use native.Mathlib.Numerals.{add-one}
+use Prim.Native.Nat.{ℕ, _≤_}
 use native.Mathlib.Omega.{arith}
-use lib.ListN.{length, getD, drop, drop-of-length-le}
-use lib.Seq.{drop-cons}
+use lib.ListN.{length}
 use lib.IntN.{ℤ, negsuc, natAbs}
-use lib.Signed.{leZ, _≤ℤ_, _<ℤ_}
-use Rattle.definitions.specs.Tools.{All, any, if_then_else_}
+use lib.Signed.{_≤ℤ_, _<ℤ_}
+use Rattle.definitions.specs.Tools.{All, any}
 use Rattle.definitions.specs.Board.{Board, boundsOf}
 use Rattle.definitions.specs.Board as board
-use Rattle.definitions.specs.Encoding.{SatLiteral, SatClause, minus, selector, first, least, tuples, tuplesOf, sharp, clausesUnder, number, N, literalNumber}
+use Rattle.definitions.specs.Encoding.{SatLiteral, SatClause, minus, selector, least, tuples, tuplesOf, sharp, clausesUnder, number, N, literalNumber}
 use Rattle.definitions.specs.Meaning.{on, satisfies, inModel}
-use Rattle.laws.specs.Whole.{whole}
+use Rattle.laws.specs.Whole.{le-test, gt-test}
+use Rattle.laws.specs.Some.{any-append}
 use Rattle.laws.specs.Lists.{all-impl, all-map, map-all, append-all, map-same}
 use Rattle.laws.specs.Pieces.{Piece, line, under, pieceClauses}
 use Rattle.laws.specs.Layout.{number-range}
 use Rattle.laws.specs.Mentions.{atomOf, Mentions, Sound, piece-mentions, literal-size}
 use Rattle.walk.specs.declared.Comparison.{Comparison}
-use Rattle.walk.specs.Comparisons.{FairComparison, literalsOf, Shows, shows-literals}
+use Rattle.walk.specs.Comparisons.{FairComparison, literalsOf, shows-literals}
 use Rattle.slots.specs.Ready.{ReadyFor}
-use Rattle.decode.specs.Axioms.{or-false}
-use Rattle.decode.specs.Truth.{trueNumber, trueClause, Numbered, clause-true}
+use Rattle.decode.specs.Truth.{selectorNumber, trueNumber, trueClause, Numbered, clause-true}
 
 -- a literal's number of which the model has a byte
 abbrev pub InModel : List ℕ → ℤ → Type 0
 InModel model z = (1 ≤ natAbs z) × (natAbs z ≤ length model)
-
-below-test : (a b : ℤ) → b <ℤ a → leZ a b ≡ false
-below-test a b h = go (leZ a b) refl
-  where
-    go : (t : Bool) → leZ a b ≡ t → t ≡ false
-    go false e = refl
-    go true e = absurd (omega whole)
-
-above-test : (a b : ℤ) → a ≤ℤ b → leZ a b ≡ true
-above-test a b h = go (leZ a b) refl
-  where
-    go : (t : Bool) → leZ a b ≡ t → t ≡ true
-    go true e = refl
-    go false e = absurd (omega whole)
 
 -- one tuple, without literals
 pub record Single (c : Comparison) : Type 0 where
@@ -54,6 +38,10 @@ single-is c e k = record {
   fair = record { few = omega arith; counted = rw e; slots = rw e tt; near = rw k (omega arith) };
   one = rw (e, k) refl;
 }
+
+-- a clause holds where its lead does or some literal of its tuple
+abbrev pub clauseTest : List ℕ → Bool → List ℤ → Bool
+clauseTest model lead zs = lead || any (trueNumber model) zs
 
 -- what leads each clause of a piece: a line is a lead with nothing behind it
 abbrev pub leadOf : Piece → SatClause
@@ -75,7 +63,7 @@ module _ (B : Board) where
   module _ (lead : SatClause) (q : board.Comparison) (c : Comparison) where
     pub below-tails : q .constant <ℤ least (boundsOf B) (q .terms) → Single c → Tails B (under lead q) c
     unfolding pieceClauses clausesUnder
-    below-tails e s = record { fair = s .fair; tails = [] ∷ []; clauses = rw (below-test _ _ e) (ap (λ z. z ∷ []) (sym (append-nil lead))); literals = s .one }
+    below-tails e s = record { fair = s .fair; tails = [] ∷ []; clauses = rw (gt-test _ _ e) (ap (λ z. z ∷ []) (sym (append-nil lead))); literals = s .one }
 
     pub above-tails : least (boundsOf B) (q .terms) ≤ℤ q .constant → ReadyFor B q c → Tails B (under lead q) c
     unfolding pieceClauses clausesUnder
@@ -84,21 +72,13 @@ module _ (B : Board) where
         let ts = zipWith sharp (q .terms) in record {
           fair = r .fair;
           tails = map ts bss;
-          clauses = rw (above-test _ _ e) (sym (map-map (λ t. lead ++ t) ts bss));
+          clauses = rw (le-test _ _ e) (sym (map-map (λ t. lead ++ t) ts bss));
           literals = shows-literals B q c (r .shows) ∙ sym (map-map (map (literalNumber B)) ts bss);
         }
 
 -- the same for a comparison under any lead
 abbrev pub TailsOf : Board → board.Comparison → Comparison → Type 0
 TailsOf B q c = (lead : SatClause) → Tails B (under lead q) c
-
-any-append : {A : Type 0} (f : A → Bool) (s t : List A) → any f (s ++ t) ≡ (any f s || any f t)
-any-append f [] t = refl
-any-append f (x ∷ s) t = go (f x) (any-append f s t)
-  where
-    go : (b : Bool) → any f (s ++ t) ≡ (any f s || any f t) → (b || any f (s ++ t)) ≡ ((b || any f s) || any f t)
-    go true e = refl
-    go false e = e
 
 module _ (B : Board) (model : List ℕ) (p : Piece) (c : Comparison) (h : Tails B p c) (s : Sound B p) where
   tails-mention : All (All (Mentions B)) (h .tails)
@@ -110,20 +90,20 @@ module _ (B : Board) (model : List ℕ) (p : Piece) (c : Comparison) (h : Tails 
   numbered l a = number-range B (atomOf l) a .0
 
   tail-test : (t : SatClause) → All (Mentions B) t
-      → trueClause B model (leadOf p ++ t) ≡ (trueClause B model (leadOf p) || any (trueNumber model) (map (literalNumber B) t))
+      → trueClause B model (leadOf p ++ t) ≡ clauseTest model (trueClause B model (leadOf p)) (map (literalNumber B) t)
   tail-test t a =
       any-append (satisfies (inModel B model)) (leadOf p) t
       ∙ ap (λ b. trueClause B model (leadOf p) || b) (clause-true B model t (all-impl (Mentions B) (Numbered B model) numbered t a))
 
   -- the tests of the piece's clauses, by the tuples' literals
-  pub tails-tests : map (trueClause B model) (pieceClauses (boundsOf B) p) ≡ map (λ zs. trueClause B model (leadOf p) || any (trueNumber model) zs) (literalsOf c)
+  pub tails-tests : map (trueClause B model) (pieceClauses (boundsOf B) p) ≡ map (clauseTest model (trueClause B model (leadOf p))) (literalsOf c)
   tails-tests =
       ap (map (trueClause B model)) (h .clauses)
       ∙ map-map (trueClause B model) (λ t. leadOf p ++ t) (h .tails)
-      ∙ map-same (λ t. trueClause B model (leadOf p ++ t)) (λ t. trueClause B model (leadOf p) || any (trueNumber model) (map (literalNumber B) t)) (h .tails)
+      ∙ map-same (λ t. trueClause B model (leadOf p ++ t)) (λ t. clauseTest model (trueClause B model (leadOf p)) (map (literalNumber B) t)) (h .tails)
       (all-impl (All (Mentions B)) _ tail-test (h .tails) tails-mention)
-      ∙ sym (map-map (λ zs. trueClause B model (leadOf p) || any (trueNumber model) zs) (map (literalNumber B)) (h .tails))
-      ∙ ap (map (λ zs. trueClause B model (leadOf p) || any (trueNumber model) zs)) (sym (h .literals))
+      ∙ sym (map-map (clauseTest model (trueClause B model (leadOf p))) (map (literalNumber B)) (h .tails))
+      ∙ ap (map (clauseTest model (trueClause B model (leadOf p)))) (sym (h .literals))
 
   pub tails-numbered : length model ≡ N B → All (All (InModel model)) (literalsOf c)
   tails-numbered e =
@@ -135,27 +115,10 @@ module _ (B : Board) (model : List ℕ) (p : Piece) (c : Comparison) (h : Tails 
 
 -- a negated selector
 module _ (B : Board) (model : List ℕ) (j : ℕ) where
-  abbrev pub selectorNumber : ℕ
-  selectorNumber = first B (length (B .bounds)) + j
-
-  pub negated-true : trueClause B model (minus (selector j) ∷ []) ≡ not (on model selectorNumber)
+  pub negated-true : trueClause B model (minus (selector j) ∷ []) ≡ not (on model (selectorNumber B j))
   unfolding satisfies inModel number
   negated-true = or-false _
 
-  pub selector-numbered : length model ≡ N B → Mentions B (minus (selector j)) → (1 ≤ selectorNumber) × (selectorNumber ≤ length model)
+  pub selector-numbered : length model ≡ N B → Mentions B (minus (selector j)) → (1 ≤ selectorNumber B j) × (selectorNumber B j ≤ length model)
   unfolding number
   selector-numbered e h = rw e (number-range B (selector j) h)
-
--- ---- some entry from place i on
-module _ {A : Type 0} (f : A → Bool) (d : A) (l : List A) (i : ℕ) where
-  any-first : i < length l → any f (drop i l) ≡ (f (getD l i d) || any f (drop (i + 1) l))
-  any-first h = rw add-one (ap (any f) (drop-cons l i d h))
-
-  pub any-hit : i < length l → f (getD l i d) ≡ true → any f (drop i l) ≡ true
-  any-hit h e = rw e at (any-first h)
-
-  pub any-miss : i < length l → f (getD l i d) ≡ false → any f (drop i l) ≡ any f (drop (i + 1) l)
-  any-miss h e = rw e at (any-first h)
-
-  pub any-none : length l ≤ i → any f (drop i l) ≡ false
-  any-none h = ap (any f) (drop-of-length-le l {i = i} h)

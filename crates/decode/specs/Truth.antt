@@ -2,16 +2,21 @@
 use mathlib.Core.Path.{_≡_, refl, ap₂}
 use mathlib.Core.Bool.{Bool, not, _||_}
 use mathlib.Core.List.{List, [], _∷_, map}
-use Prim.Native.Nat.{ℕ, zero, suc, _≤_}
+use Prim.Native.Nat.{ℕ, zero, suc, _+_, _≤_}
 use native.Mathlib.Omega.{arith}
+use lib.ListN.{length}
 use lib.IntN.{ℤ, pos, negsuc, natAbs}
 use lib.Signed.{_≤ℤ_, _<ℤ_}
 use Rattle.definitions.specs.Tools.{All, any, neg}
 use Rattle.definitions.specs.Board.{Board}
-use Rattle.definitions.specs.Encoding.{SatLiteral, SatClause, plus, minus, number, literalNumber}
+use Rattle.definitions.specs.Encoding.{SatLiteral, SatClause, plus, minus, first, number, literalNumber}
 use Rattle.definitions.specs.Meaning.{on, satisfies, inModel}
 use Rattle.laws.specs.Whole.{whole}
 use Rattle.laws.specs.Mentions.{atomOf}
+
+-- the number of the selector j
+abbrev pub selectorNumber : Board → ℕ → ℕ
+selectorNumber B j = first B (length (B .bounds)) + j
 
 abbrev pub trueNumber : List ℕ → ℤ → Bool
 trueNumber model (pos v) = on model v
@@ -29,6 +34,10 @@ module _ (model : List ℕ) where
 module _ (B : Board) (model : List ℕ) where
   abbrev pub trueClause : SatClause → Bool
   trueClause c = any (satisfies (inModel B model)) c
+
+  -- the tests of clauses
+  abbrev pub tests : List SatClause → List Bool
+  tests cs = map trueClause cs
 
   -- its number is from 1 on
   abbrev pub Numbered : SatLiteral → Type 0

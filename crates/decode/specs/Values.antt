@@ -1,23 +1,21 @@
 -- What is read back, by the numbers of the order variables. Assumes nothing.
-use mathlib.Core.Path.{_≡_, refl, sym, ap, _∙_}
+use mathlib.Core.Path.{_≡_, sym, ap, _∙_}
 use mathlib.Core.Bool.{Bool, true, false}
-use mathlib.Core.List.{List, [], _∷_, _++_, map, append-nil}
-use Prim.Native.Nat.{ℕ, suc, _+_, _-_, _≤_, _<_}
+use mathlib.Core.List.{List, map}
+use Prim.Native.Nat.{ℕ, _+_, _-_, _≤_, _<_}
 use native.Mathlib.Nat.{zero-add}
 use native.Mathlib.Omega.{arith}
-use lib.ListN.{length, getD, length-map, drop-of-length-le}
+use lib.ListN.{length, getD, length-map}
 use lib.IntN.{ℤ, pos, sucℤ, _+ℤ_, _-ℤ_}
 use lib.Signed.{_≤ℤ_}
-use Rattle.definitions.specs.Tools.{if_then_else_, countUp, size, range}
+use Rattle.definitions.specs.Tools.{if_then_else_, countUp, size}
 use Rattle.definitions.specs.Board.{Board, Bounds, boundsOf, variables}
 use Rattle.definitions.specs.Encoding.{order, width, first, number}
 use Rattle.definitions.specs.Meaning.{on, inModel, leastTrue, valueOf, valuesOf}
 use Rattle.laws.specs.Whole.{whole, add-law, sub-law, suc-law, part-law}
 use Rattle.laws.specs.Ranges.{range-shift}
-use Rattle.laws.specs.Lists.{length-countUp, counted-at}
-use Rattle.laws.specs.Written.{written}
+use Rattle.laws.specs.Lists.{length-countUp, countUp-first, countUp-none, counted-at}
 use Rattle.laws.specs.Admitted.{GoodBounds}
-use Rattle.decode.specs.Axioms.{count-first, count-none}
 
 -- the value at the first of the n offsets from k on whose order variable is true
 unfoldable pub valueAfter : List ℕ → ℕ → Bounds → ℕ → ℤ
@@ -41,7 +39,7 @@ module _ (model : List ℕ) (f : ℕ) (b : Bounds) where
       → valueAfter model f b k ≡ (if on model (f + 1 + k) then b .lo +ℤ pos k else valueAfter model f b (k + 1))
   unfolding valueAfter leastTrue
   next k h =
-      ap (λ l. leastTrue test (b .hi) (map (λ i. b .lo +ℤ pos i) l)) (count-first k (width b - 1) (omega arith))
+      ap (λ l. leastTrue test (b .hi) (map (λ i. b .lo +ℤ pos i) l)) (countUp-first k (width b - 1) (omega arith))
       ∙ ap (λ t. if t then b .lo +ℤ pos k else valueAfter model f b (k + 1)) (tested k)
 
   pub value-hit : (k : ℕ) → k + 2 ≤ width b → on model (f + 1 + k) ≡ true → valueAfter model f b k ≡ b .lo +ℤ pos k
@@ -58,7 +56,7 @@ module _ (model : List ℕ) (f : ℕ) (b : Bounds) where
       top = omega (whole, g .ordered, add-law (b .lo) (pos k), add-law (b .hi -ℤ b .lo) (pos 2), sub-law (b .hi) (b .lo), part-law (b .hi -ℤ b .lo +ℤ pos 2))
 
       none : valueAfter model f b (k + 1) ≡ b .hi
-      none = ap (λ l. leastTrue test (b .hi) (map (λ i. b .lo +ℤ pos i) l)) (count-none (k + 1) (width b - 1) (omega arith))
+      none = ap (λ l. leastTrue test (b .hi) (map (λ i. b .lo +ℤ pos i) l)) (countUp-none (k + 1) (width b - 1) (omega arith))
 
       go : (t : Bool) → (if t then b .lo +ℤ pos k else valueAfter model f b (k + 1)) ≡ b .hi
       go true = top
@@ -82,8 +80,3 @@ module _ (B : Board) (model : List ℕ) where
   pub values-at : (x : ℕ) (d : ℤ) → x < length (B .bounds) → getD (valuesOf B model) x d ≡ valueOf B model x
   unfolding valuesOf variables
   values-at x d h = counted-at (valueOf B model) d 0 (length (B .bounds)) x h ∙ ap (valueOf B model) (zero-add x)
-
--- a list that was written to its end
-pub written-all : {A : Type 0} (w o : List A) → length w ≡ length o → written w o ≡ w
-unfolding written
-written-all w o h = ap (λ z. w ++ z) (drop-of-length-le o {i = length w} (omega arith)) ∙ append-nil w

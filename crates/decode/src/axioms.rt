@@ -5,7 +5,7 @@ use opening::Header;
 use slots::variables::bounds_of;
 use slots::variables::width_of;
 ghost use mathlib.Core.Path.{_≡_};
-ghost use mathlib.Core.List.{map, flatten};
+ghost use mathlib.Core.List.{flatten};
 ghost use Prim.Native.Nat.{_+_, _-_, _≤_, _<_};
 ghost use lib.ListN.{length};
 ghost use Rattle.definitions.specs.Encoding.{axioms};
@@ -13,7 +13,7 @@ ghost use Rattle.laws.specs.Boards.{boardOf};
 ghost use Rattle.decode.specs.Given.{Given};
 ghost use Rattle.decode.specs.Goes.{Sought};
 ghost use Rattle.decode.specs.Axioms.{rises, axiomTests};
-ghost use Rattle.decode.specs.Truth.{trueClause};
+ghost use Rattle.decode.specs.Truth.{tests};
 
 // Of the order variables v and v + 1, the first is not true or the second is.
 fn holds_from(model: &[u8], v: usize) -> bool
@@ -51,7 +51,7 @@ fn search_variable(model: &[u8], first: usize, last: usize, number: usize) -> Ch
 
 pub fn search_axioms(bytes: &[u8], model: &[u8], header: Header) -> Checked
     requires { ⌜ Given (now bytes) (now model) header ⌝ }
-    ensures { λ r. ⌜ Sought 0 (map (trueClause (boardOf (now (bytes .entry))) (now (model .entry))) (flatten (axioms (boardOf (now (bytes .entry)))))) r ⌝ }
+    ensures { λ r. ⌜ Sought 0 (tests (boardOf (now (bytes .entry))) (now (model .entry)) (flatten (axioms (boardOf (now (bytes .entry)))))) r ⌝ }
 {
     let mut x: usize = 0;
     let mut first = header.bools + 1;

@@ -13,12 +13,13 @@ use size::Measured;
 use size::measure;
 ghost use mathlib.Core.Path.{_≡_};
 ghost use Rattle.definitions.specs.Encoding.{N};
+ghost use Rattle.definitions.specs.Answers.{saidVerdict};
 ghost use Rattle.definitions.specs.Operations.{lending, Decode};
 ghost use Rattle.laws.specs.Boards.{boardOf};
-ghost use Rattle.decode.specs.Given.{Opened};
-ghost use Rattle.decode.specs.Decoded.{Leaves, readBack};
+ghost use Rattle.decode.specs.Given.{Opened, Given};
+ghost use Rattle.decode.specs.Decoded.{modelChecks, readBack, Leaves};
 
-// The first clause that does not hold, or that all do, and the number after the last.
+// The first clause that does not hold, or that all do, and the number of the clause after them.
 pub enum Checked {
     Fails(usize),
     Hold(usize),
@@ -37,7 +38,21 @@ pub mod search; // search.rt: the search over the rules
 pub mod truth; // truth.rt: whether a literal holds in a model
 pub mod values; // values.rt: what is read back
 
-// What follows once the record is accepted: checks 11, 12 and 13, then the writing.
+// Checks 12 and 13 of a model of the right length.
+fn check_model(bytes: &[u8], model: &[u8], header: Header) -> Verdict
+    requires { ⌜ Given (now bytes) (now model) header ⌝ }
+    ensures { λ r. ⌜ saidVerdict r ≡ modelChecks (boardOf (now (bytes .entry))) (now (model .entry)) ⌝ }
+{
+    match first_bad_byte(model) {
+        Found::At(index) => Verdict::Refused(Refusal::ByteWrong { index: index }),
+        Found::Nothing => match search_clauses(bytes, model, header) {
+            Found::At(number) => Verdict::Refused(Refusal::ClauseFails { number: number }),
+            Found::Nothing => Verdict::Accepted,
+        },
+    }
+}
+
+// What follows once the record is accepted and has n SAT variables: all checks come before anything is written.
 fn read_back(
     bytes: &[u8],
     model: &[u8],
@@ -47,34 +62,29 @@ fn read_back(
     booleans: &mut [u8],
 ) -> Verdict
     requires { ⌜ Opened (now bytes) header × (n ≡ N (boardOf (now bytes))) ⌝ }
-    ensures { λ r. ⌜ Leaves (lending (now (values .entry), now (booleans .entry)) (readBack (boardOf (now (bytes .entry))) (now (model .entry)) (now (values .entry)) (now (booleans .entry)))) r (now (values .exit)) (now (booleans .exit)) ⌝ }
+    ensures { λ r. ⌜ Leaves (lending (now (values .entry), now (booleans .entry)) (readBack (now (bytes .entry)) header n (now (model .entry)) (now (values .entry)) (now (booleans .entry)))) r (now (values .exit)) (now (booleans .exit)) ⌝ }
 {
     if model.len() != n {
         return Verdict::Refused(Refusal::LentWrong { wanted: n });
     }
-    if values.len() != header.ints {
-        return Verdict::Refused(Refusal::LentWrong {
-            wanted: header.ints,
-        });
+    let ints = header.ints;
+    if values.len() != ints {
+        return Verdict::Refused(Refusal::LentWrong { wanted: ints });
     }
-    if booleans.len() != header.bools {
-        return Verdict::Refused(Refusal::LentWrong {
-            wanted: header.bools,
-        });
+    let bools = header.bools;
+    if booleans.len() != bools {
+        return Verdict::Refused(Refusal::LentWrong { wanted: bools });
     }
-    match first_bad_byte(model) {
-        Found::At(index) => Verdict::Refused(Refusal::ByteWrong { index: index }),
-        Found::Nothing => match search_clauses(bytes, model, header) {
-            Checked::Fails(number) => Verdict::Refused(Refusal::ClauseFails { number: number }),
-            Checked::Hold(_) => {
-                write_values(bytes, model, header, values);
-                write_booleans(model, booleans);
-                Verdict::Accepted
-            }
-        },
-    }
+    let checked = check_model(bytes, model, header);
+    let Verdict::Accepted = checked else {
+        return checked;
+    };
+    write_values(bytes, model, header, values);
+    write_booleans(model, booleans);
+    Verdict::Accepted
 }
 
+// 01, Decode: a refusal leaves both lists as they were.
 pub fn decode(bytes: &[u8], model: &[u8], values: &mut [i32], booleans: &mut [u8]) -> Verdict
     ensures { λ r. ⌜ Leaves (Decode (now (bytes .entry)) (now (model .entry)) (now (values .entry)) (now (booleans .entry))) r (now (values .exit)) (now (booleans .exit)) ⌝ }
 {

@@ -14,22 +14,17 @@ use walk::Walk;
 use walk::tuples::least;
 use walk::tuples::literal_at;
 ghost use mathlib.Core.Path.{_≡_};
-ghost use mathlib.Core.List.{[], _∷_};
-ghost use mathlib.Core.Bool.{_||_};
-ghost use Prim.Native.Nat.{_+_, _≤_, _<_};
+ghost use Prim.Native.Nat.{_+_, _<_};
 ghost use lib.ListN.{length};
-ghost use Rattle.definitions.specs.Tools.{All, any};
-ghost use Rattle.definitions.specs.Board as board;
+ghost use Rattle.definitions.specs.Tools.{All};
 ghost use Rattle.laws.specs.Boards.{boardOf};
 ghost use Rattle.laws.specs.Reread.{comparisonAt, contextOf};
-ghost use Rattle.laws.specs.Pieces.{under};
 ghost use Rattle.laws.specs.Mentions.{Sound};
 ghost use Rattle.rules.specs.Cursors.{saidPiece, Held, Stands};
 ghost use Rattle.walk.specs.Comparisons.{FairComparison, Walking, present};
-ghost use Rattle.slots.specs.Ready.{ReadyFor};
 ghost use Rattle.decode.specs.Given.{Given, Opened};
-ghost use Rattle.decode.specs.Truth.{trueClause, trueNumber};
-ghost use Rattle.decode.specs.Tails.{leadOf, Tails, Single, InModel, TailsOf};
+ghost use Rattle.decode.specs.Truth.{trueClause};
+ghost use Rattle.decode.specs.Tails.{clauseTest, leadOf, Tails, Single, InModel, TailsOf};
 
 // Whether the piece's lead holds: of a line, some literal; of a comparison, its negated selector.
 pub fn lead_holds(bytes: &[u8], rules: &[u8], model: &[u8], header: Header, piece: Piece) -> bool
@@ -111,7 +106,7 @@ pub fn tails_of(bytes: &[u8], rules: &[u8], header: Header, piece: Piece) -> Com
 // Whether the lead or some literal of the present tuple holds.
 pub fn clause_holds(model: &[u8], lead: bool, c: Comparison, w: Walk) -> bool
     requires { ⌜ FairComparison c × Walking c (At.Tuple w) × All (InModel (now model)) (present c w) × (length (now model) < 2147483648) ⌝ }
-    ensures { λ r. ⌜ r ≡ (lead || any (trueNumber (now (model .entry))) (present c w)) ⌝ }
+    ensures { λ r. ⌜ r ≡ clauseTest (now (model .entry)) lead (present c w) ⌝ }
 {
     if lead {
         return true;

@@ -6,6 +6,7 @@ use crate::lines::known_of;
 use crate::pieces::clause_holds;
 use crate::pieces::lead_holds;
 use crate::pieces::tails_of;
+use lent::Found;
 use opening::Header;
 use reader::Context;
 use rules::Cursor;
@@ -16,19 +17,19 @@ use walk::At;
 use walk::tuples::first;
 use walk::tuples::next;
 ghost use mathlib.Core.Path.{_≡_};
-ghost use mathlib.Core.List.{map};
 ghost use Prim.Native.Nat.{_+_, _<_};
 ghost use lib.ListN.{length, drop};
+ghost use Rattle.definitions.specs.Result.{each};
 ghost use Rattle.definitions.specs.Encoding.{clauses};
 ghost use Rattle.laws.specs.Boards.{boardOf};
-ghost use Rattle.laws.specs.Pieces.{piecesFrom};
 ghost use Rattle.laws.specs.Reread.{tableEnd};
 ghost use Rattle.reader.specs.Said.{contextOf};
+ghost use Rattle.lent.specs.Said.{saidFound};
 ghost use Rattle.rules.specs.Cursors.{Sound};
 ghost use Rattle.decode.specs.Given.{Given};
-ghost use Rattle.decode.specs.Goes.{Sought};
-ghost use Rattle.decode.specs.Truth.{trueClause};
-ghost use Rattle.decode.specs.Passes.{Came, testsOf};
+ghost use Rattle.decode.specs.Truth.{tests};
+ghost use Rattle.decode.specs.Next.{Came};
+ghost use Rattle.decode.specs.Passes.{ruleTests};
 
 fn next_piece(rules: &[u8], known: Context, cursor: Cursor) -> Ahead
     requires { ⌜ Sound (contextOf known) (now rules) cursor ⌝ }
@@ -57,16 +58,16 @@ pub fn search_rules(
     model: &[u8],
     header: Header,
     number: usize,
-) -> Checked
-    requires { ⌜ Given (now bytes) (now model) header × (now rules ≡ drop (tableEnd (boardOf (now bytes))) (now bytes)) × (number + length (testsOf (boardOf (now bytes)) (now model) (now rules) (piecesFrom 0 (boardOf (now bytes) .clauses))) < 9223372036854775808) ⌝ }
-    ensures { λ r. ⌜ Sought number (testsOf (boardOf (now (bytes .entry))) (now (model .entry)) (now (rules .entry)) (piecesFrom 0 (boardOf (now (bytes .entry)) .clauses))) r ⌝ }
+) -> Found
+    requires { ⌜ Given (now bytes) (now model) header × (now rules ≡ drop (tableEnd (boardOf (now bytes))) (now bytes)) × (number + length (ruleTests (boardOf (now bytes)) (now model)) < 9223372036854775808) ⌝ }
+    ensures { λ r. ⌜ saidFound 13 r ≡ each 13 number (ruleTests (boardOf (now (bytes .entry))) (now (model .entry))) ⌝ }
 {
     let known = known_of(header);
     let mut at = number;
     let mut cursor = start(header.clauses);
     let found = 'search: loop {
         let Ahead::Met(piece, behind) = next_piece(rules, known, cursor) else {
-            break 'search Checked::Hold(at);
+            break 'search Found::Nothing;
         };
         let lead = lead_holds(bytes, rules, model, header, piece);
         let tails = tails_of(bytes, rules, header, piece);
@@ -76,7 +77,7 @@ pub fn search_rules(
                 break;
             };
             if !clause_holds(model, lead, tails, w) {
-                break 'search Checked::Fails(at);
+                break 'search Found::At(at);
             }
             at += 1;
             tuple = next(w);
@@ -87,14 +88,15 @@ pub fn search_rules(
 }
 
 // All clauses: the axioms, then the rules, which stand from the end of the variable table on.
-pub fn search_clauses(bytes: &[u8], model: &[u8], header: Header) -> Checked
+pub fn search_clauses(bytes: &[u8], model: &[u8], header: Header) -> Found
     requires { ⌜ Given (now bytes) (now model) header ⌝ }
-    ensures { λ r. ⌜ Sought 0 (map (trueClause (boardOf (now (bytes .entry))) (now (model .entry))) (clauses (boardOf (now (bytes .entry))))) r ⌝ }
+    ensures { λ r. ⌜ saidFound 13 r ≡ each 13 0 (tests (boardOf (now (bytes .entry))) (now (model .entry)) (clauses (boardOf (now (bytes .entry))))) ⌝ }
 {
-    let checked = search_axioms(bytes, model, header);
-    let Checked::Hold(number) = checked else {
-        return checked;
-    };
-    let place = header.rules;
-    search_rules(bytes, &bytes[place..], model, header, number)
+    match search_axioms(bytes, model, header) {
+        Checked::Fails(number) => Found::At(number),
+        Checked::Hold(number) => {
+            let place = header.rules;
+            search_rules(bytes, &bytes[place..], model, header, number)
+        }
+    }
 }

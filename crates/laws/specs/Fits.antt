@@ -27,6 +27,12 @@ width-most b g =
     let d = b .hi -ℤ b .lo in
     omega (whole, g .lowest, g .ordered, g .highest, add-law d (pos 2), sub-law (b .hi) (b .lo), part-law (d +ℤ pos 2))
 
+pub width-least : (b : Bounds) → GoodBounds b → 2 ≤ width b
+unfolding width
+width-least b g =
+    let d = b .hi -ℤ b .lo in
+    omega (whole, g .ordered, add-law d (pos 2), sub-law (b .hi) (b .lo), part-law (d +ℤ pos 2))
+
 widths-length : (of : ℕ → Bounds) (ts : List Term) → length (widths (ranges of ts)) ≡ length ts
 widths-length of [] = refl
 widths-length of (t ∷ ts) = ap suc (widths-length of ts)

@@ -5,7 +5,7 @@ use mathlib.Core.List.{List, _∷_, _++_, map, flatten, map-map, map-append, map
 use Prim.Native.Nat.{ℕ, zero, suc, _+_, _-_, _≤_, _<_}
 use native.Mathlib.Nat.{add-zero, sub-self}
 use native.Mathlib.Omega.{arith}
-use lib.ListN.{length, getD, drop, length-map, drop-of-length-le}
+use lib.ListN.{length, getD, take, drop, length-map, take-append-drop, drop-of-length-le}
 use lib.Seq.{take-length, drop-cons}
 use lib.IntN.{ℤ, pos, sucℤ, _+ℤ_, _-ℤ_}
 use lib.Signed.{_≤ℤ_}
@@ -13,7 +13,7 @@ use Rattle.definitions.specs.Tools.{Any, countUp, sum, size}
 use Rattle.definitions.specs.Board.{Board, Bounds, boundsOf, variables}
 use Rattle.definitions.specs.Encoding.{Atom, bool, order, selector, orders, selected, selections, atoms, width, first, number, N}
 use Rattle.laws.specs.Whole.{whole, add-law, sub-law, suc-law, part-law}
-use Rattle.laws.specs.Lists.{length-flat-map, sum-take, length-countUp, countUp-append, countUp-shift, any-left, any-right, any-flatten, any-map, any-countUp}
+use Rattle.laws.specs.Lists.{length-flat-map, sum-append, sum-take, length-countUp, countUp-append, countUp-shift, any-left, any-right, any-flatten, any-map, any-countUp}
 use Rattle.laws.specs.Ranges.{range-shift}
 
 -- ---- variable by variable
@@ -184,3 +184,10 @@ number-range B a h = let r = counted-at (number B) a (atoms B) 1 (N B) (numbers-
 
 pub atom-at : (B : Board) (d a : Atom) → Has B a → getD (atoms B) (number B a - 1) d ≡ a
 atom-at B d a h = counted-at (number B) d (atoms B) 1 (N B) (numbers-are B) a (listed B a h) .2
+
+-- the order variables of x
+pub orders-range : (B : Board) (x : ℕ) → x < length (B .bounds) → (1 ≤ first B x) × (first B x + width (boundsOf B x) ≤ N B + 1)
+unfolding first N
+orders-range B x h =
+    let bs = B .bounds in
+    (omega arith, omega (arith, first-next B x h, sum-append width (take (suc x) bs) (drop (suc x) bs), ap (λ l. sum (map width l)) (take-append-drop (suc x) bs)))

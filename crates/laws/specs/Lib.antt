@@ -14,6 +14,7 @@ pub mod Outcomes
 pub mod Decide
 pub mod Tests
 pub mod Search
+pub mod Some
 pub mod Readings
 pub mod Ahead
 pub mod Mentions

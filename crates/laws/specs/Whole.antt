@@ -210,6 +210,20 @@ ge-test a b h = go (ltZ a b) refl
     go true e = absurd (omega whole)
     go false e = refl
 
+pub le-test : (a b : ℤ) → a ≤ℤ b → leZ a b ≡ true
+le-test a b h = go (leZ a b) refl
+  where
+    go : (t : Bool) → leZ a b ≡ t → t ≡ true
+    go true e = refl
+    go false e = absurd (omega whole)
+
+pub gt-test : (a b : ℤ) → b <ℤ a → leZ a b ≡ false
+gt-test a b h = go (leZ a b) refl
+  where
+    go : (t : Bool) → leZ a b ≡ t → t ≡ false
+    go true e = absurd (omega whole)
+    go false e = refl
+
 -- the divisor's bits are not 0
 half-below : (w : Width) → 2 ^ hbits w < 2 ^ bits w
 half-below w8 = lit< tt

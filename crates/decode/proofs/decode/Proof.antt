@@ -1,11 +1,16 @@
 -- `decode::decode` meets its contract.
-use Rattle.fields.proofs.Laws.{told}
-use Rattle.laws.specs.Boards.{boardOf}
-use Rattle.size.specs.Said.{saidMeasured}
-use Rattle.decode.specs.Decoded.{measured, unmeasured, decode-is, decode-refused}
 use borrow.Author.Needs.{needs}
+use mathlib.Core.Path.{ap}
+use Rattle.fields.proofs.Laws.{told}
+use Rattle.size.specs.Said.{saidMeasured}
+use Rattle.size.specs.Told.{Measures, measured, not-measured}
+use Rattle.decode.specs.Decoded.{decode-is, decode-refused}
 use Rattle.decode.proofs.decode.Statement.{statement}
 use Rattle.decode.proofs.decode.Tie as tie
+
+-- the record is accepted
+told-all : (c : tie.After-header) → Measures (c .before .before .before .before .before .before .args .bytes .now) (c .header .given .0 .0) (c .header .given .0 .1 .0)
+told-all c = measured (c .before .before .before .before .before .before .args .bytes .now) (told saidMeasured (c .before .before .measure .ensures) (c .header .given .1))
 
 measure-requires : tie.Need-measure-requires
 measure-requires c κs = search needs
@@ -15,9 +20,7 @@ enum-known-header c = search needs
 
 read-back-requires : tie.Need-read-back-requires
 read-back-requires c κs =
-    let s = c .before .before .before .before .before .before .before .before .before .args .bytes .now in
-    let h = measured s _ _ (told saidMeasured (c .before .before .before .before .before .measure .ensures) (c .before .before .before .header .given .1)) in
-    (h .opened, h .n)
+    let m = told-all (c .before .before .before) in (record { opens = m .opens; header = m .header }, ap (λ t. t .n) (m .totals))
 
 enum-known-r : tie.Need-enum-known-r
 enum-known-r c = search needs
@@ -30,14 +33,13 @@ same-length-2 c = search needs
 
 returns : tie.Need-returns
 returns c =
-    let s = c .before .before .before .before .before .before .before .before .before .before .before .before .before .args .bytes .now in
-    let h = measured s _ _ (told saidMeasured (c .before .before .before .before .before .before .before .before .before .measure .ensures) (c .before .before .before .before .before .before .before .header .given .1)) in
-    rw (decode-is s (c .before .before .before .before .before .before .before .before .before .before .before .before .before .args .model .now) (c .before .before .before .before .before .before .before .before .before .before .before .before .before .args .values .now) (c .before .before .before .before .before .before .before .before .before .before .before .before .before .args .booleans .now) (boardOf s) (h .board)) (c .before .before .before .read-back .ensures)
+    let a = c .before .before .before .before .before .before .before .before .before .before .before .before .before .args in
+    rw (decode-is (a .bytes .now) (a .model .now) (a .values .now) (a .booleans .now) (told-all (c .before .before .before .before .before .before .before))) (c .before .before .before .read-back .ensures)
 
 returns-2 : tie.Need-returns-2
 returns-2 c =
-    let s = c .before .before .before .before .before .before .before .args .bytes .now in
-    decode-refused s (c .before .before .before .before .before .before .before .args .model .now) (c .before .before .before .before .before .before .before .args .values .now) (c .before .before .before .before .before .before .before .args .booleans .now) _ (unmeasured s _ _ (told saidMeasured (c .before .before .before .measure .ensures) (c .before .r .given .1)))
+    let a = c .before .before .before .before .before .before .before .args in
+    decode-refused (a .bytes .now) (a .model .now) (a .values .now) (a .booleans .now) _ (not-measured (a .bytes .now) (told saidMeasured (c .before .before .before .measure .ensures) (c .before .r .given .1)))
 
 pub decode-spec : {M : Type 1} → statement M
 decode-spec =

@@ -1,18 +1,17 @@
 -- `decode::axioms::search_axioms` meets its contract.
 use borrow.Author.Needs.{needs}
-use mathlib.Core.Path.{_≡_, sym, ap, _∙_}
-use mathlib.Core.List.{map, flatten}
-use Prim.Native.Nat.{_+_, _-_, _≤_, _<_}
+use mathlib.Core.Path.{_≡_, sym, ap, ap₂, _∙_}
+use mathlib.Core.List.{_++_, flatten}
+use Prim.Native.Nat.{ℕ, _+_, _-_, _≤_, _<_}
 use native.Mathlib.Omega.{arith}
 use lib.ListN.{length}
-use Rattle.definitions.specs.Board.{boundsOf}
+use Rattle.definitions.specs.Board.{Board}
 use Rattle.definitions.specs.Encoding.{width, axioms}
 use Rattle.definitions.specs.Encoding as Encoding
-use Rattle.laws.specs.Terms.{good-bounds}
 use Rattle.laws.specs.Boards.{boardOf}
 use Rattle.slots.specs.Variables.{bounds-same, first-none, first-more}
-use Rattle.decode.specs.Given.{ints-is, bools-is, admitted, short, variable-numbered}
-use Rattle.decode.specs.Truth.{trueClause}
+use Rattle.decode.specs.Given.{ints-is, bools-is, counts-small, admitted, short, inside, ordered, within}
+use Rattle.decode.specs.Truth.{tests}
 use Rattle.decode.specs.Goes.{Goes, goes-start, goes-part, goes-fails, goes-end}
 use Rattle.decode.specs.Axioms.{axiomTests, axiomsFrom, axioms-all, axioms-first, axioms-none, axioms-fit}
 use Rattle.decode.proofs.axioms.search_axioms.Statement.{statement}
@@ -20,31 +19,38 @@ use Rattle.decode.proofs.axioms.search_axioms.Tie as tie
 
 abbrev Inv-loop : tie.InvT-loop
 Inv-loop bytes model header x₀ first₀ number₀ x first number =
-    (x ≤ header .ints) × (first ≡ Encoding.first (boardOf bytes) x) × Goes 0 (map (trueClause (boardOf bytes) model) (flatten (axioms (boardOf bytes)))) number (axiomsFrom (boardOf bytes) model x)
+    (x ≤ header .ints) × (first ≡ Encoding.first (boardOf bytes) x) × Goes 0 (tests (boardOf bytes) model (flatten (axioms (boardOf bytes)))) number (axiomsFrom (boardOf bytes) model x)
 
 abbrev μ-loop : tie.MeasureT-loop
 μ-loop bytes model header x₀ first₀ number₀ x first number = header .ints - x
 
+abbrev B : tie.Start Inv-loop μ-loop → Board
+B c = boardOf (c .args .bytes .now)
+
+-- the width of variable x was found
+module _ (c : tie.After-width-of Inv-loop μ-loop) where
+  abbrev x : ℕ
+  x = c .before .before .before .before .loop .x
+
+  room : (1 ≤ c .before .before .before .before .loop .first) × (c .before .before .before .before .loop .first + c .width-of .result ≤ length (c .before .before .before .before .before .before .before .before .args .model .now) + 1) × (2 ≤ c .width-of .result) × (length (c .before .before .before .before .before .before .before .before .args .model .now) < 2147483648)
+  room =
+      let w = within (c .before .before .before .before .before .before .before .before .pre) x (c .before .before .if1 .taken) (c .before .bounds-of .ensures) in
+      rw (c .before .before .before .before .loop .inv .1, c .width-of .ensures) (w .0, w .1, w .2, short (c .before .before .before .before .before .before .before .before .pre))
+
+  here : axiomsFrom (B (c .before .before .before .before .before .before .before .before)) (c .before .before .before .before .before .before .before .before .args .model .now) x ≡ axiomTests (c .before .before .before .before .before .before .before .before .args .model .now) (c .before .before .before .before .loop .first) (c .before .before .before .before .loop .first + c .width-of .result - 1) ++ axiomsFrom (B (c .before .before .before .before .before .before .before .before)) (c .before .before .before .before .before .before .before .before .args .model .now) (x + 1)
+  here =
+      axioms-first (B (c .before .before .before .before .before .before .before .before)) (c .before .before .before .before .before .before .before .before .args .model .now) x (inside (c .before .before .before .before .before .before .before .before .pre) x (c .before .before .if1 .taken) (c .before .bounds-of .ensures)) (ordered (c .before .before .before .before .before .before .before .before .pre) x (c .before .before .if1 .taken) (c .before .bounds-of .ensures))
+      ∙ ap₂ (λ f w. axiomTests (c .before .before .before .before .before .before .before .before .args .model .now) f (f + w - 1) ++ axiomsFrom (B (c .before .before .before .before .before .before .before .before)) (c .before .before .before .before .before .before .before .before .args .model .now) (x + 1)) (sym (c .before .before .before .before .loop .inv .1)) (sym (c .width-of .ensures ∙ ap width (bounds-same (B (c .before .before .before .before .before .before .before .before)) x _ (c .before .bounds-of .ensures))))
+
 add-first : tie.Need-add-first Inv-loop μ-loop
-add-first c =
-    let s = c .before .before .before .args .bytes .now in omega (arith, bools-is s (c .before .before .before .args .model .now) (c .before .before .before .args .header) (c .before .before .before .pre), admitted s (c .before .before .before .args .model .now) (c .before .before .before .args .header) (c .before .before .before .pre) .bools)
+add-first c = omega (arith, counts-small (c .before .before .before .pre .opened))
 
 loop-holds : tie.Need-loop-holds Inv-loop μ-loop
 loop-holds c =
-    let s = c .before .before .before .args .bytes .now in
-    let m = c .before .before .before .args .model .now in
-    let B = boardOf s in
-    (omega arith, rw (bools-is s m (c .before .before .before .args .header) (c .before .before .before .pre)) (sym (first-none B)), rw (axioms-all B m) (goes-start 0 (map (trueClause B m) (flatten (axioms B)))))
+    (omega arith, rw (bools-is (c .before .before .before .pre .opened)) (sym (first-none (B (c .before .before .before)))), rw (axioms-all (B (c .before .before .before)) (c .before .before .before .args .model .now)) (goes-start 0 _))
 
 bounds-of-requires : tie.Need-bounds-of-requires Inv-loop μ-loop
-bounds-of-requires c κs =
-    let s = c .before .before .before .before .before .before .args .bytes .now in
-    let m = c .before .before .before .before .before .before .args .model .now in
-    let g = c .before .before .before .before .before .before .pre in
-    let B = boardOf s in
-    let x = c .before .before .loop .x in
-    let h : x < length (B .bounds) = omega (arith, ints-is s m (c .before .before .before .before .before .before .args .header) g) in
-    (g .opens, h)
+bounds-of-requires c κs = (c .before .before .before .before .before .before .pre .opened .opens, omega (arith, ints-is (c .before .before .before .before .before .before .pre .opened)))
 
 width-of-requires : tie.Need-width-of-requires Inv-loop μ-loop
 width-of-requires c κs = c .bounds-of .ensures .good
@@ -53,43 +59,14 @@ cast-width : tie.Need-cast-width Inv-loop μ-loop
 cast-width c = search needs
 
 add-search-variable : tie.Need-add-search-variable Inv-loop μ-loop
-add-search-variable c =
-    let s = c .before .before .before .before .before .before .before .before .args .bytes .now in
-    let m = c .before .before .before .before .before .before .before .before .args .model .now in
-    let g = c .before .before .before .before .before .before .before .before .pre in
-    let B = boardOf s in
-    let x = c .before .before .before .before .loop .x in
-    let h : x < length (B .bounds) = omega (arith, ints-is s m (c .before .before .before .before .before .before .before .before .args .header) g) in
-    let w : c .width-of .result ≡ width (boundsOf B x) = c .width-of .ensures ∙ ap width (bounds-same B x _ (c .before .bounds-of .ensures)) in
-    let n = variable-numbered B (admitted s m (c .before .before .before .before .before .before .before .before .args .header) g) x h in
-    let f : c .before .before .before .before .loop .first ≡ Encoding.first B x = c .before .before .before .before .loop .inv .1 in
-    omega (arith, n, short s m (c .before .before .before .before .before .before .before .before .args .header) g, g .long)
+add-search-variable c = omega (arith, room (c))
 
 sub-search-variable : tie.Need-sub-search-variable Inv-loop μ-loop
-sub-search-variable c =
-    let s = c .before .before .before .before .before .before .before .before .args .bytes .now in
-    let m = c .before .before .before .before .before .before .before .before .args .model .now in
-    let g = c .before .before .before .before .before .before .before .before .pre in
-    let B = boardOf s in
-    let x = c .before .before .before .before .loop .x in
-    let h : x < length (B .bounds) = omega (arith, ints-is s m (c .before .before .before .before .before .before .before .before .args .header) g) in
-    let w : c .width-of .result ≡ width (boundsOf B x) = c .width-of .ensures ∙ ap width (bounds-same B x _ (c .before .bounds-of .ensures)) in
-    let n = variable-numbered B (admitted s m (c .before .before .before .before .before .before .before .before .args .header) g) x h in
-    let f : c .before .before .before .before .loop .first ≡ Encoding.first B x = c .before .before .before .before .loop .inv .1 in
-    omega (arith, n)
+sub-search-variable c = omega (arith, room (c))
 
 search-variable-requires : tie.Need-search-variable-requires Inv-loop μ-loop
 search-variable-requires c κs =
-    let s = c .before .before .before .before .before .before .before .before .args .bytes .now in
-    let m = c .before .before .before .before .before .before .before .before .args .model .now in
-    let g = c .before .before .before .before .before .before .before .before .pre in
-    let B = boardOf s in
-    let x = c .before .before .before .before .loop .x in
-    let h : x < length (B .bounds) = omega (arith, ints-is s m (c .before .before .before .before .before .before .before .before .args .header) g) in
-    let w : c .width-of .result ≡ width (boundsOf B x) = c .width-of .ensures ∙ ap width (bounds-same B x _ (c .before .bounds-of .ensures)) in
-    let n = variable-numbered B (admitted s m (c .before .before .before .before .before .before .before .before .args .header) g) x h in
-    let f : c .before .before .before .before .loop .first ≡ Encoding.first B x = c .before .before .before .before .loop .inv .1 in
-    omega (arith, n, short s m (c .before .before .before .before .before .before .before .before .args .header) g, g .long, axioms-fit B m (admitted s m (c .before .before .before .before .before .before .before .before .args .header) g), c .before .before .before .before .loop .inv .2 .count)
+    omega (arith, room (c), axioms-fit (B (c .before .before .before .before .before .before .before .before)) (c .before .before .before .before .before .before .before .before .args .model .now) (admitted (c .before .before .before .before .before .before .before .before .pre .opened)), c .before .before .before .before .loop .inv .2 .count)
 
 enum-known-checked : tie.Need-enum-known-checked Inv-loop μ-loop
 enum-known-checked c = search needs
@@ -99,56 +76,28 @@ enum-told c = search needs
 
 returns : tie.Need-returns Inv-loop μ-loop
 returns c =
-    let s = c .before .before .before .before .before .before .before .before .before .before .before .args .bytes .now in
-    let m = c .before .before .before .before .before .before .before .before .before .before .before .args .model .now in
-    let g = c .before .before .before .before .before .before .before .before .before .before .before .pre in
-    let B = boardOf s in
-    let x = c .before .before .before .before .before .before .before .loop .x in
-    let h : x < length (B .bounds) = omega (arith, ints-is s m (c .before .before .before .before .before .before .before .before .before .before .before .args .header) g) in
-    let w : c .before .before .before .width-of .result ≡ width (boundsOf B x) = c .before .before .before .width-of .ensures ∙ ap width (bounds-same B x _ (c .before .before .before .before .bounds-of .ensures)) in
-    let n = variable-numbered B (admitted s m (c .before .before .before .before .before .before .before .before .before .before .before .args .header) g) x h in
-    let f : c .before .before .before .before .before .before .before .loop .first ≡ Encoding.first B x = c .before .before .before .before .before .before .before .loop .inv .1 in
-    let o = good-bounds B (admitted s m (c .before .before .before .before .before .before .before .before .before .before .before .args .header) g .bounds) x h .ordered in
-    goes-fails _ (axiomTests m (Encoding.first B x) (Encoding.first B x + width (boundsOf B x) - 1)) _ _ _ (c .before .before .before .before .before .before .before .loop .inv .2) (axioms-first B m x h o) (rw (w, f) at (c .before .before .search-variable .ensures)) (c .enum-told .given .1)
+    rw (c .enum-told .given .1) (goes-fails (c .before .before .before .before .before .before .before .loop .inv .2) _ _ (here (c .before .before .before)) _ (c .before .before .search-variable .ensures) (c .enum-told .given .1))
 
 add-x : tie.Need-add-x Inv-loop μ-loop
 add-x c = omega arith
 
 add-first-2 : tie.Need-add-first-2 Inv-loop μ-loop
-add-first-2 c =
-    let s = c .before .before .before .before .before .before .before .before .before .before .before .before .args .bytes .now in
-    let m = c .before .before .before .before .before .before .before .before .before .before .before .before .args .model .now in
-    let g = c .before .before .before .before .before .before .before .before .before .before .before .before .pre in
-    let B = boardOf s in
-    let x = c .before .before .before .before .before .before .before .before .loop .x in
-    let h : x < length (B .bounds) = omega (arith, ints-is s m (c .before .before .before .before .before .before .before .before .before .before .before .before .args .header) g) in
-    let w : c .before .before .before .before .width-of .result ≡ width (boundsOf B x) = c .before .before .before .before .width-of .ensures ∙ ap width (bounds-same B x _ (c .before .before .before .before .before .bounds-of .ensures)) in
-    let n = variable-numbered B (admitted s m (c .before .before .before .before .before .before .before .before .before .before .before .before .args .header) g) x h in
-    let f : c .before .before .before .before .before .before .before .before .loop .first ≡ Encoding.first B x = c .before .before .before .before .before .before .before .before .loop .inv .1 in
-    omega (arith, n, short s m (c .before .before .before .before .before .before .before .before .before .before .before .before .args .header) g, g .long)
+add-first-2 c = omega (arith, room (c .before .before .before .before))
 
 loop-less : tie.Need-loop-less Inv-loop μ-loop
 loop-less c = omega arith
 
 loop-again : tie.Need-loop-again Inv-loop μ-loop
 loop-again c =
-    let s = c .before .before .before .before .before .before .before .before .before .before .before .before .args .bytes .now in
-    let m = c .before .before .before .before .before .before .before .before .before .before .before .before .args .model .now in
-    let g = c .before .before .before .before .before .before .before .before .before .before .before .before .pre in
-    let B = boardOf s in
-    let x = c .before .before .before .before .before .before .before .before .loop .x in
-    let h : x < length (B .bounds) = omega (arith, ints-is s m (c .before .before .before .before .before .before .before .before .before .before .before .before .args .header) g) in
-    let w : c .before .before .before .before .width-of .result ≡ width (boundsOf B x) = c .before .before .before .before .width-of .ensures ∙ ap width (bounds-same B x _ (c .before .before .before .before .before .bounds-of .ensures)) in
-    let n = variable-numbered B (admitted s m (c .before .before .before .before .before .before .before .before .before .before .before .before .args .header) g) x h in
-    let f : c .before .before .before .before .before .before .before .before .loop .first ≡ Encoding.first B x = c .before .before .before .before .before .before .before .before .loop .inv .1 in
-    let o = good-bounds B (admitted s m (c .before .before .before .before .before .before .before .before .before .before .before .before .args .header) g .bounds) x h .ordered in
-    (omega arith, omega (arith, first-more B x _ h (c .before .before .before .before .before .bounds-of .ensures), c .before .before .before .before .width-of .ensures), goes-part _ (axiomTests m (Encoding.first B x) (Encoding.first B x + width (boundsOf B x) - 1)) _ _ _ (c .before .before .before .before .before .before .before .before .loop .inv .2) (axioms-first B m x h o) (rw (w, f) at (c .before .before .before .search-variable .ensures)) (c .before .checked .given .1))
+    let v = c .before .before .before .before in (
+      omega arith,
+      omega (arith, first-more (B (c .before .before .before .before .before .before .before .before .before .before .before .before)) (x v) _ (inside (c .before .before .before .before .before .before .before .before .before .before .before .before .pre) (x v) (c .before .before .before .before .before .before .if1 .taken) (c .before .before .before .before .before .bounds-of .ensures)) (c .before .before .before .before .before .bounds-of .ensures), c .before .before .before .before .width-of .ensures),
+      goes-part (c .before .before .before .before .before .before .before .before .loop .inv .2) _ _ (here v) _ (c .before .before .before .search-variable .ensures) (c .before .checked .given .1),
+    )
 
 returns-2 : tie.Need-returns-2 Inv-loop μ-loop
 returns-2 c =
-    let s = c .before .before .before .before .before .before .args .bytes .now in
-    let m = c .before .before .before .before .before .before .args .model .now in
-    goes-end _ (c .before .before .loop .inv .2) (axioms-none (boardOf s) m _ (omega (arith, ints-is s m (c .before .before .before .before .before .before .args .header) (c .before .before .before .before .before .before .pre))))
+    goes-end (c .before .before .loop .inv .2) (axioms-none (B (c .before .before .before .before .before .before)) (c .before .before .before .before .before .before .args .model .now) _ (omega (arith, ints-is (c .before .before .before .before .before .before .pre .opened))))
 
 pub search-axioms-spec : {M : Type 1} → statement M
 search-axioms-spec =

@@ -1,10 +1,8 @@
 -- `decode::lines::literal_holds` meets its contract.
-use mathlib.Core.Path.{sym, ap, _∙_}
-use mathlib.Core.Bool.{not}
-use Prim.Native.Nat.{_+_}
-use native.Mathlib.Omega.{arith}
-use Rattle.decode.specs.Lines.{signed}
 use borrow.Author.Needs.{needs}
+use mathlib.Core.Path.{ap}
+use mathlib.Core.Bool.{not}
+use native.Mathlib.Omega.{arith}
 use Rattle.decode.proofs.lines.literal_holds.Statement.{statement}
 use Rattle.decode.proofs.lines.literal_holds.Tie as tie
 
@@ -15,8 +13,7 @@ cast-is-on : tie.Need-cast-is-on
 cast-is-on c = search needs
 
 is-on-requires : tie.Need-is-on-requires
-is-on-requires c κs =
-    let p = rw (c .before .literal .given .1) at (c .before .before .before .before .pre) in (p .0, p .1)
+is-on-requires c κs = let p = rw (c .before .literal .given .1) at (c .before .before .before .before .pre) in (p .0, p .1)
 
 enum-known-literal-2 : tie.Need-enum-known-literal-2
 enum-known-literal-2 c = search needs
@@ -25,31 +22,25 @@ cast-is-on-2 : tie.Need-cast-is-on-2
 cast-is-on-2 c = search needs
 
 is-on-requires-2 : tie.Need-is-on-requires-2
-is-on-requires-2 c κs =
-    let p = rw (c .before .literal2 .given .1) at (c .before .before .before .before .pre) in (p .0, p .1)
+is-on-requires-2 c κs = let p = rw (c .before .literal2 .given .1) at (c .before .before .before .before .pre) in (p .0, p .1)
 
 enum-told : tie.Need-enum-told
 enum-told c = search needs
 
 add-is-on : tie.Need-add-is-on
-add-is-on c =
-    let p = rw (c .enum-told .given .1) at (c .before .before .before .pre) in omega (arith, p)
+add-is-on c = let p = rw (c .enum-told .given .1) at (c .before .before .before .pre) in omega (arith, p)
 
 is-on-requires-3 : tie.Need-is-on-requires-3
-is-on-requires-3 c κs =
-    let p = rw (c .enum-told .given .1) at (c .before .before .before .pre) in (p .0, p .1)
+is-on-requires-3 c κs = let p = rw (c .enum-told .given .1) at (c .before .before .before .pre) in (p .0, p .1)
 
 returns : tie.Need-returns
-returns c =
-    c .is-on .ensures ∙ sym (ap (signed (c .before .before .before .before .before .args .model .now) (c .before .before .before .before .before .args .selectors + c .before .before .before .before .before .args .j)) (c .before .before .literal .given .1))
+returns c = rw (c .before .before .literal .given .1) (c .is-on .ensures)
 
 returns-2 : tie.Need-returns-2
-returns-2 c =
-    ap not (c .is-on2 .ensures) ∙ sym (ap (signed (c .before .before .before .before .before .args .model .now) (c .before .before .before .before .before .args .selectors + c .before .before .before .before .before .args .j)) (c .before .before .literal2 .given .1))
+returns-2 c = rw (c .before .before .literal2 .given .1) (ap not (c .is-on2 .ensures))
 
 returns-3 : tie.Need-returns-3
-returns-3 c =
-    c .is-on3 .ensures ∙ sym (ap (signed (c .before .before .before .before .args .model .now) (c .before .before .before .before .args .selectors + c .before .before .before .before .args .j)) (c .before .enum-told .given .1))
+returns-3 c = rw (c .before .enum-told .given .1) (c .is-on3 .ensures)
 
 pub literal-holds-spec : {M : Type 1} → statement M
 literal-holds-spec =

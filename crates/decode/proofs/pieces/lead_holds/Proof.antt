@@ -1,15 +1,29 @@
 -- `decode::pieces::lead_holds` meets its contract.
 use mathlib.Core.Path.{_≡_, sym, ap, _∙_}
 use mathlib.Core.Bool.{not}
+use Prim.Native.Nat.{_+_, _≤_}
 use native.Mathlib.Omega.{arith}
 use lib.ListN.{length}
-use Rattle.definitions.specs.Encoding.{first}
+use Rattle.definitions.specs.Board.{Board}
+use Rattle.definitions.specs.Meaning.{on}
 use Rattle.laws.specs.Boards.{boardOf}
-use Rattle.decode.specs.Given.{ints-is, bools-is, short}
+use Rattle.decode.specs.Given.{ints-is, bools-is, selectors-are, short}
+use Rattle.decode.specs.Truth.{selectorNumber}
 use Rattle.decode.specs.Tails.{negated-true, selector-numbered}
 use borrow.Author.Needs.{needs}
 use Rattle.decode.proofs.pieces.lead_holds.Statement.{statement}
 use Rattle.decode.proofs.pieces.lead_holds.Tie as tie
+
+-- the first selector's number was found: that of this piece's
+module _ (c : tie.After-first-number) where
+  abbrev B : Board
+  B = boardOf (c .before .before .before .before .before .before .before .args .bytes .now)
+
+  number-is : c .first-number .result + c .before .before .piece2 .given .0 .0 ≡ selectorNumber B (c .before .before .piece2 .given .0 .0)
+  number-is = ap (λ n. n + c .before .before .piece2 .given .0 .0) (c .first-number .ensures ∙ selectors-are (c .before .before .before .before .before .before .before .pre .0 .opened))
+
+  numbered : (1 ≤ c .first-number .result + c .before .before .piece2 .given .0 .0) × (c .first-number .result + c .before .before .piece2 .given .0 .0 ≤ length (c .before .before .before .before .before .before .before .args .model .now))
+  numbered = rw number-is (selector-numbered B (c .before .before .before .before .before .before .before .args .model .now) (c .before .before .piece2 .given .0 .0) (c .before .before .before .before .before .before .before .pre .0 .long) ((rw (c .before .before .piece2 .given .1) at (c .before .before .before .before .before .before .before .pre .2)) .1 .0))
 
 enum-known-piece : tie.Need-enum-known-piece
 enum-known-piece c = search needs
@@ -25,57 +39,27 @@ enum-known-piece-2 : tie.Need-enum-known-piece-2
 enum-known-piece-2 c = search needs
 
 first-number-requires : tie.Need-first-number-requires
-first-number-requires c κs =
-    let s = c .before .before .before .before .before .before .args .bytes .now in
-    let m = c .before .before .before .before .before .before .args .model .now in
-    let g = c .before .before .before .before .before .before .pre .0 in
-    (g .opens, bools-is s m (c .before .before .before .before .before .before .args .header) g, omega (arith, ints-is s m (c .before .before .before .before .before .before .args .header) g))
+first-number-requires c κs = let o = c .before .before .before .before .before .before .pre .0 .opened in (o .opens, bools-is o, omega (arith, ints-is o))
 
 cast-first : tie.Need-cast-first
 cast-first c = search needs
 
 add-is-on : tie.Need-add-is-on
-add-is-on c =
-    let s = c .before .before .before .before .before .before .before .args .bytes .now in
-    let m = c .before .before .before .before .before .before .before .args .model .now in
-    let g = c .before .before .before .before .before .before .before .pre .0 in
-    let B = boardOf s in
-    let j = c .before .before .piece2 .given .0 .0 in
-    let h = rw (c .before .before .piece2 .given .1) at (c .before .before .before .before .before .before .before .pre .2) in
-    let n = selector-numbered B m j (g .long) (h .1 .0) in
-    let q : c .first-number .result ≡ first B (length (B .bounds)) = c .first-number .ensures ∙ ap (first B) (ints-is s m (c .before .before .before .before .before .before .before .args .header) g) in
-    omega (arith, n, short s m (c .before .before .before .before .before .before .before .args .header) g)
+add-is-on c = omega (arith, numbered c, short (c .before .before .before .before .before .before .before .pre .0))
 
 is-on-requires : tie.Need-is-on-requires
-is-on-requires c κs =
-    let s = c .before .before .before .before .before .before .before .args .bytes .now in
-    let m = c .before .before .before .before .before .before .before .args .model .now in
-    let g = c .before .before .before .before .before .before .before .pre .0 in
-    let B = boardOf s in
-    let j = c .before .before .piece2 .given .0 .0 in
-    let h = rw (c .before .before .piece2 .given .1) at (c .before .before .before .before .before .before .before .pre .2) in
-    let n = selector-numbered B m j (g .long) (h .1 .0) in
-    let q : c .first-number .result ≡ first B (length (B .bounds)) = c .first-number .ensures ∙ ap (first B) (ints-is s m (c .before .before .before .before .before .before .before .args .header) g) in
-    rw q n
+is-on-requires c κs = numbered c
 
 returns : tie.Need-returns
-returns c =
-    rw (c .before .before .piece .given .1) (c .line-holds .ensures)
+returns c = rw (c .before .before .piece .given .1) (c .line-holds .ensures)
 
 returns-2 : tie.Need-returns-2
 returns-2 c = rw (c .enum-told .given .1)
 
 returns-3 : tie.Need-returns-3
 returns-3 c =
-    let s = c .before .before .before .before .before .before .before .before .args .bytes .now in
-    let m = c .before .before .before .before .before .before .before .before .args .model .now in
-    let g = c .before .before .before .before .before .before .before .before .pre .0 in
-    let B = boardOf s in
-    let j = c .before .before .before .piece2 .given .0 .0 in
-    let h = rw (c .before .before .before .piece2 .given .1) at (c .before .before .before .before .before .before .before .before .pre .2) in
-    let n = selector-numbered B m j (g .long) (h .1 .0) in
-    let q : c .before .first-number .result ≡ first B (length (B .bounds)) = c .before .first-number .ensures ∙ ap (first B) (ints-is s m (c .before .before .before .before .before .before .before .before .args .header) g) in
-    rw (c .before .before .before .piece2 .given .1) (ap not (rw q at (c .is-on .ensures)) ∙ sym (negated-true B m j))
+    let f = c .before in
+    rw (c .before .before .before .piece2 .given .1) (ap not (c .is-on .ensures ∙ ap (on (c .before .before .before .before .before .before .before .before .args .model .now)) (number-is f)) ∙ sym (negated-true (B f) (c .before .before .before .before .before .before .before .before .args .model .now) (c .before .before .before .piece2 .given .0 .0)))
 
 pub lead-holds-spec : {M : Type 1} → statement M
 lead-holds-spec =

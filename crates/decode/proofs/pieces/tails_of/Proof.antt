@@ -1,14 +1,22 @@
 -- `decode::pieces::tails_of` meets its contract.
+use borrow.Author.Needs.{needs}
 use mathlib.Core.List.{[], _∷_}
 use mir.Facts.{toZ-ofZ}
 use Rattle.definitions.specs.Encoding.{minus, selector}
 use Rattle.laws.specs.Boards.{boardOf}
 use Rattle.laws.specs.Reread.{contextOf}
+use Rattle.rules.specs.Cursors.{Stands}
 use Rattle.rules.proofs.Steps.{constant-fits}
 use Rattle.decode.specs.Tails.{line-tails}
-use borrow.Author.Needs.{needs}
 use Rattle.decode.proofs.pieces.tails_of.Statement.{statement}
 use Rattle.decode.proofs.pieces.tails_of.Tie as tie
+
+-- the comparison of the piece: alone, and under a selector
+lone : (c : tie.After-piece) → Stands (contextOf (boardOf (c .before .before .before .before .args .bytes .now))) (c .before .before .before .before .args .rules .now) (c .piece .given .0 .0) (c .piece .given .0 .1 .0)
+lone c = rw (c .piece .given .1) at (c .before .before .before .before .pre .1)
+
+led : (c : tie.After-piece2) → Stands (contextOf (boardOf (c .before .before .before .before .args .bytes .now))) (c .before .before .before .before .args .rules .now) (c .piece2 .given .0 .1 .0) (c .piece2 .given .0 .1 .1 .0)
+led c = rw (c .piece2 .given .1) at (c .before .before .before .before .pre .1)
 
 enum-told : tie.Need-enum-told
 enum-told c = search needs
@@ -21,33 +29,27 @@ enum-known-piece c = search needs
 
 tails-at-requires : tie.Need-tails-at-requires
 tails-at-requires c κs =
-    let h = rw (c .before .piece .given .1) at (c .before .before .before .before .before .pre .1) in
-    let f = constant-fits (contextOf (boardOf (c .before .before .before .before .before .args .bytes .now))) (c .before .before .before .before .before .args .rules .now) h in
-    simp toZ-ofZ (c .before .before .before .before .before .pre .0, h)
+    let h = lone (c .before) in
+    let f = constant-fits _ _ h in simp toZ-ofZ (c .before .before .before .before .before .pre .0, h)
 
 enum-known-piece-2 : tie.Need-enum-known-piece-2
 enum-known-piece-2 c = search needs
 
 tails-at-requires-2 : tie.Need-tails-at-requires-2
 tails-at-requires-2 c κs =
-    let h = rw (c .before .piece2 .given .1) at (c .before .before .before .before .before .pre .1) in
-    let f = constant-fits (contextOf (boardOf (c .before .before .before .before .before .args .bytes .now))) (c .before .before .before .before .before .args .rules .now) h in
-    simp toZ-ofZ (c .before .before .before .before .before .pre .0, h)
+    let h = led (c .before) in
+    let f = constant-fits _ _ h in simp toZ-ofZ (c .before .before .before .before .before .pre .0, h)
 
 returns : tie.Need-returns
-returns c =
-    rw (c .before .enum-told .given .1) (line-tails (boardOf (c .before .before .before .before .before .args .bytes .now)) _ _ (c .single .ensures))
+returns c = rw (c .before .enum-told .given .1) (line-tails (boardOf (c .before .before .before .before .before .args .bytes .now)) _ _ (c .single .ensures))
 
 returns-2 : tie.Need-returns-2
 returns-2 c =
-    let h = rw (c .before .before .piece .given .1) at (c .before .before .before .before .before .before .pre .1) in
-    let f = constant-fits (contextOf (boardOf (c .before .before .before .before .before .before .args .bytes .now))) (c .before .before .before .before .before .before .args .rules .now) h in
-    rw (c .before .before .piece .given .1) (simp toZ-ofZ at (c .tails-at .ensures []))
+    let f = constant-fits _ _ (lone (c .before .before)) in rw (c .before .before .piece .given .1) (simp toZ-ofZ at (c .tails-at .ensures []))
 
 returns-3 : tie.Need-returns-3
 returns-3 c =
-    let h = rw (c .before .before .piece2 .given .1) at (c .before .before .before .before .before .before .pre .1) in
-    let f = constant-fits (contextOf (boardOf (c .before .before .before .before .before .before .args .bytes .now))) (c .before .before .before .before .before .before .args .rules .now) h in
+    let f = constant-fits _ _ (led (c .before .before)) in
     rw (c .before .before .piece2 .given .1) (simp toZ-ofZ at (c .tails-at2 .ensures (minus (selector (c .before .before .piece2 .given .0 .0)) ∷ [])))
 
 pub tails-of-spec : {M : Type 1} → statement M

@@ -2,7 +2,7 @@
 use borrow.Author.Needs.{needs}
 use Rattle.reader.specs.Said.{contextOf}
 use Rattle.rules.specs.Cursors.{todo}
-use Rattle.decode.specs.Passes.{Onto, onto-start, onto-met, onto-passed, onto-end}
+use Rattle.decode.specs.Next.{Onto, onto-start, onto-met, onto-passed, onto-end}
 use Rattle.decode.proofs.search.next_piece.Statement.{statement}
 use Rattle.decode.proofs.search.next_piece.Tie as tie
 
@@ -13,8 +13,7 @@ abbrev μ-loop : tie.MeasureT-loop
 μ-loop rules known at₀ at = todo (contextOf known) rules at
 
 loop-holds : tie.Need-loop-holds Inv-loop μ-loop
-loop-holds c =
-    onto-start (contextOf (c .before .args .known)) (c .before .args .rules .now) _ (c .before .pre)
+loop-holds c = onto-start (c .before .pre)
 
 step-requires : tie.Need-step-requires Inv-loop μ-loop
 step-requires c κs = c .loop .inv .sound
@@ -23,26 +22,22 @@ enum-known-piece : tie.Need-enum-known-piece Inv-loop μ-loop
 enum-known-piece c = search needs
 
 returns : tie.Need-returns Inv-loop μ-loop
-returns c =
-    onto-met (contextOf (c .before .before .before .before .before .before .args .known)) (c .before .before .before .before .before .before .args .rules .now) _ _ (c .before .before .before .before .loop .inv) _ (c .before .before .before .step .ensures) _ _ (c .before .piece .given .1)
+returns c = onto-met (c .before .before .before .before .loop .inv) (c .before .before .before .step .ensures) (c .before .piece .given .1)
 
 enum-known-behind : tie.Need-enum-known-behind Inv-loop μ-loop
 enum-known-behind c = search needs
 
 loop-less : tie.Need-loop-less Inv-loop μ-loop
-loop-less c =
-    onto-passed (contextOf (c .before .before .before .before .before .before .args .known)) (c .before .before .before .before .before .before .args .rules .now) _ _ (c .before .before .before .before .loop .inv) _ (c .before .before .before .step .ensures) _ (c .before .behind .given .1) .1
+loop-less c = onto-passed (c .before .before .before .before .loop .inv) (c .before .before .before .step .ensures) (c .before .behind .given .1) .1
 
 loop-again : tie.Need-loop-again Inv-loop μ-loop
-loop-again c =
-    onto-passed (contextOf (c .before .before .before .before .before .before .args .known)) (c .before .before .before .before .before .before .args .rules .now) _ _ (c .before .before .before .before .loop .inv) _ (c .before .before .before .step .ensures) _ (c .before .behind .given .1) .0
+loop-again c = onto-passed (c .before .before .before .before .loop .inv) (c .before .before .before .step .ensures) (c .before .behind .given .1) .0
 
 enum-told : tie.Need-enum-told Inv-loop μ-loop
 enum-told c = search needs
 
 returns-2 : tie.Need-returns-2 Inv-loop μ-loop
-returns-2 c =
-    onto-end (contextOf (c .before .before .before .before .before .args .known)) (c .before .before .before .before .before .args .rules .now) _ _ (c .before .before .before .loop .inv) _ (c .before .before .step .ensures) (c .enum-told .given .1)
+returns-2 c = onto-end (c .before .before .before .loop .inv) (c .before .before .step .ensures) (c .enum-told .given .1)
 
 pub next-piece-spec : {M : Type 1} → statement M
 next-piece-spec =

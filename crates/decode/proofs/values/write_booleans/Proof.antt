@@ -5,8 +5,7 @@ use Prim.Native.Nat.{_-_, _≤_}
 use native.Mathlib.Omega.{arith}
 use lib.ListN.{length, getD, take, set, length-set}
 use lib.Seq.{length-take-le}
-use Rattle.laws.specs.Written.{written, written-none, written-take}
-use Rattle.decode.specs.Values.{written-all}
+use Rattle.laws.specs.Written.{written, written-none, written-take, written-all}
 use Rattle.decode.proofs.values.write_booleans.Statement.{statement}
 use Rattle.decode.proofs.values.write_booleans.Tie as tie
 
@@ -21,7 +20,7 @@ loop-holds : tie.Need-loop-holds Inv-loop μ-loop
 loop-holds c = (omega arith, refl, written-none _)
 
 shared-slice-read-booleans : tie.Need-shared-slice-read-booleans Inv-loop μ-loop
-shared-slice-read-booleans c = let l = c .before .before .loop .inv .1 in omega (arith, l)
+shared-slice-read-booleans c = omega (arith, c .before .before .loop .inv .1)
 
 slice-write-booleans : tie.Need-slice-write-booleans Inv-loop μ-loop
 slice-write-booleans c = search needs
@@ -30,21 +29,24 @@ add-i : tie.Need-add-i Inv-loop μ-loop
 add-i c = search needs
 
 loop-less : tie.Need-loop-less Inv-loop μ-loop
-loop-less c = let l = c .before .before .loop .inv .1 in omega (arith, l)
+loop-less c = omega (arith, c .before .before .loop .inv .1)
 
 loop-again : tie.Need-loop-again Inv-loop μ-loop
 loop-again c =
+    let a = c .before .before .before .args in
+    let i = c .before .before .loop .i in
     let l = c .before .before .loop .inv .1 in
-    (omega (arith, l), simp length-set l, ap (λ z. set z (c .before .before .loop .i) (getD (c .before .before .before .args .model .now) (c .before .before .loop .i) 0)) (c .before .before .loop .inv .2) ∙ written-take 0 (c .before .before .before .args .model .now) (c .before .before .before .args .booleans .now) (c .before .before .loop .i) (omega (arith, l)) (omega (arith, l)))
+    (omega (arith, l), simp length-set l, ap (λ z. set z i (getD (a .model .now) i 0)) (c .before .before .loop .inv .2) ∙ written-take 0 (a .model .now) (a .booleans .now) i (omega (arith, l)) (omega (arith, l)))
 
 same-length : tie.Need-same-length Inv-loop μ-loop
 same-length c = c .before .loop .inv .1
 
 returns : tie.Need-returns Inv-loop μ-loop
 returns c =
-    let l = c .before .loop .inv .1 in
-    let e : c .before .loop .i ≡ length (c .before .before .args .booleans .now) = omega (arith, l) in
-    rw (← e) (c .before .loop .inv .2 ∙ written-all (take (c .before .loop .i) (c .before .before .args .model .now)) _ (length-take-le (c .before .loop .i) (c .before .before .args .model .now) (omega arith) ∙ e))
+    let m = c .before .before .args .model .now in
+    let i = c .before .loop .i in
+    let e : i ≡ length (c .before .before .args .booleans .now) = omega (arith, c .before .loop .inv .1) in
+    rw (← e) (c .before .loop .inv .2 ∙ written-all (take i m) _ (length-take-le i m (omega arith) ∙ e))
 
 pub write-booleans-spec : {M : Type 1} → statement M
 write-booleans-spec =
