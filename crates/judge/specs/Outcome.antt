@@ -8,6 +8,6 @@ use Rattle.definitions.specs.Operations.{Judge}
 use Rattle.definitions.specs.Answers.{saidVerdict}
 use Rattle.laws.specs.Outcomes.{one-verdict}
 
-pub one-judgement : (s : List ℕ) (values : List ℤ) (booleans : List ℕ) (r r′ : Verdict)
+pub one-outcome : (s : List ℕ) (values : List ℤ) (booleans : List ℕ) (r r′ : Verdict)
     → saidVerdict r ≡ Judge s values booleans → saidVerdict r′ ≡ Judge s values booleans → r ≡ r′
-one-judgement s values booleans r r′ e e′ = one-verdict r r′ (e ∙ sym e′)
+one-outcome s values booleans r r′ e e′ = one-verdict r r′ (e ∙ sym e′)

@@ -9,14 +9,12 @@ use opening::Header;
 use reader::Context;
 ghost use mathlib.Core.Path.{_≡_};
 ghost use mathlib.Core.List.{map};
-ghost use lib.ListN.{length};
 ghost use Rattle.definitions.specs.Tools.{any};
 ghost use Rattle.definitions.specs.Result.{each};
 ghost use Rattle.definitions.specs.Meaning.{assigned, holds};
 ghost use Rattle.definitions.specs.Answers.{saidVerdict};
-ghost use Rattle.laws.specs.Boards.{Opens, boardOf};
+ghost use Rattle.laws.specs.Boards.{boardOf};
 ghost use Rattle.lent.specs.Said.{saidFound};
-ghost use Rattle.opening.specs.Said.{headerOf};
 ghost use Rattle.judge.specs.Suited.{Near};
 ghost use Rattle.judge.specs.Checks.{Long, fitting, solving};
 

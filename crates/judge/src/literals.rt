@@ -1,12 +1,12 @@
 // Comparisons and literals at values that lie within bounds.
+use lent::is_on;
 use reader::Literal;
 use slots::Term;
 use slots::comparisons::terms_at;
 ghost use mathlib.Core.Path.{_≡_};
 ghost use mathlib.Core.List.{[]};
-ghost use Prim.Native.Nat.{_≤_};
 ghost use lib.ListN.{length};
-ghost use Rattle.definitions.specs.Meaning.{on, assigned, compares, holds};
+ghost use Rattle.definitions.specs.Meaning.{assigned, compares, holds};
 ghost use Rattle.laws.specs.Admitted.{GoodTerm, GoodComparison};
 ghost use Rattle.laws.specs.Reread.{comparisonAt};
 ghost use Rattle.reader.specs.Said.{literalOf};
@@ -39,20 +39,13 @@ pub fn compares(rules: &[u8], values: &[i32], place: usize, constant: i32) -> bo
     sum <= constant
 }
 
-fn is_on(booleans: &[u8], b: u32) -> bool
-    requires { ⌜ (1 ≤ b) × (b ≤ length (now booleans)) ⌝ }
-    ensures { λ r. ⌜ r ≡ on (now (booleans .entry)) b ⌝ }
-{
-    booleans[b as usize - 1] == 1
-}
-
 pub fn holds(rules: &[u8], values: &[i32], booleans: &[u8], literal: Literal) -> bool
     requires { ⌜ Near (now values) × Known (now rules) (length (now values)) (length (now booleans)) literal ⌝ }
     ensures { λ r. ⌜ r ≡ holds (assigned (now (values .entry)) (now (booleans .entry))) (literalOf (now (rules .entry)) literal) ⌝ }
 {
     match literal {
-        Literal::Boolean(b) => is_on(booleans, b),
-        Literal::Negated(b) => !is_on(booleans, b),
+        Literal::Boolean(b) => is_on(booleans, b as usize),
+        Literal::Negated(b) => !is_on(booleans, b as usize),
         Literal::Comparison { place, constant } => compares(rules, values, place, constant),
     }
 }

@@ -1,5 +1,8 @@
 // Tests of lent lists that several operations make.
 ghost use mathlib.Core.Path.{_≡_};
+ghost use Prim.Native.Nat.{_≤_};
+ghost use lib.ListN.{length};
+ghost use Rattle.definitions.specs.Meaning.{on};
 ghost use Rattle.definitions.specs.Operations.{bits};
 ghost use Rattle.lent.specs.Said.{saidFound};
 
@@ -21,4 +24,12 @@ pub fn first_bad_byte(bytes: &[u8]) -> Found
         i += 1;
     }
     Found::Nothing
+}
+
+// Numbers count from 1: that of v stands at v - 1.
+pub fn is_on(bytes: &[u8], v: usize) -> bool
+    requires { ⌜ (1 ≤ v) × (v ≤ length (now bytes)) ⌝ }
+    ensures { λ r. ⌜ r ≡ on (now (bytes .entry)) v ⌝ }
+{
+    bytes[v - 1] == 1
 }

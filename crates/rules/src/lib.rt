@@ -1,6 +1,6 @@
 // A pass through the rules by value: a cursor that steps from piece to piece of the rules' clauses.
 ghost use mathlib.Core.Path.{_≡_};
-ghost use Prim.Native.Nat.{_≤_, _<_};
+ghost use Prim.Native.Nat.{_<_};
 ghost use Rattle.reader.specs.Said.{contextOf};
 ghost use Rattle.definitions.specs.Result.{done};
 ghost use Rattle.definitions.specs.Reading.{times, readLiteral};

@@ -1,12 +1,11 @@
 -- The share of each piece, and shares added up. Assumes nothing.
 use mathlib.Core.Path.{_≡_, refl, sym, ap, ap₂, subst, _∙_}
-use mathlib.Core.Bool.{Bool, true, false}
+use mathlib.Core.Bool.{true, false}
 use mathlib.Core.List.{List, [], _∷_}
 use Prim.Native.Nat.{ℕ, suc, _+_, _*_, _≤_, _<_, _^_}
 use native.Mathlib.Nat.{mul-le-mul}
 use native.Mathlib.Omega.{arith}
 use lib.ListN.{length, drop}
-use lib.IntN.{ℤ}
 use mir.Syntax.{w64}
 use mir.Val.{Fits}
 use lib.Signed.{leZ, _≤ℤ_, _<ℤ_}
@@ -15,7 +14,7 @@ use Rattle.definitions.specs.Board as board
 use Rattle.definitions.specs.Result.{done}
 use Rattle.definitions.specs.Reading.{Context, times, readLiteral, readClause}
 use Rattle.definitions.specs.Encoding.{least}
-use Rattle.laws.specs.Whole.{whole}
+use Rattle.laws.specs.Whole.{le-test, gt-test}
 use Rattle.laws.specs.Admitted.{Admitted, GoodComparison}
 use Rattle.laws.specs.Grammar.{finds}
 use Rattle.laws.specs.Reread as reread
@@ -60,20 +59,6 @@ module _ (B : Board) (ctx : Context) (t : List ℕ) (n place j : ℕ) (h : times
   line-share = record { clauses = refl; places = line-places; selectors = refl }
 
 -- ---- a comparison
-reached : (a b : ℤ) → a ≤ℤ b → leZ a b ≡ true
-reached a b h = go (leZ a b) refl
-  where
-    go : (t : Bool) → leZ a b ≡ t → t ≡ true
-    go true e = refl
-    go false e = absurd (omega whole)
-
-below : (a b : ℤ) → b <ℤ a → leZ a b ≡ false
-below a b h = go (leZ a b) refl
-  where
-    go : (t : Bool) → leZ a b ≡ t → t ≡ false
-    go true e = absurd (omega whole)
-    go false e = refl
-
 module _ (B : Board) (g : Admitted B) {f : ℕ → ℕ} (q : board.Comparison) (good : GoodComparison (length (B .bounds)) q) (c : Comparison) (r : ReadyBy B f q c) where
   abbrev of : ℕ → board.Bounds
   of = boundsOf B
@@ -81,7 +66,7 @@ module _ (B : Board) (g : Admitted B) {f : ℕ → ℕ} (q : board.Comparison) (
   pub share-below : c .constant <ℤ leastOf c → (n : ℕ) → ShareUnder of n q (record { clauses = 1; places = n + 1; selectors = n })
   unfolding pieceCount piecePlaces pieceSelectors
   share-below h n lead e =
-      let test : leZ (least of (q .terms)) (q .constant) ≡ false = below (least of (q .terms)) (q .constant) (rw (← shows-least B q c (r .shows), ← r .shows .constant) h) in
+      let test : leZ (least of (q .terms)) (q .constant) ≡ false = gt-test (least of (q .terms)) (q .constant) (rw (← shows-least B q c (r .shows), ← r .shows .constant) h) in
       record { clauses = rw test; places = rw test (omega arith); selectors = sym e }
 
   module _ (h : leastOf c ≤ℤ c .constant) where
@@ -91,7 +76,7 @@ module _ (B : Board) (g : Admitted B) {f : ℕ → ℕ} (q : board.Comparison) (
     pub share-reached : (n t : ℕ) → t ≡ length (literalsOf c) → ShareUnder of n q (record { clauses = t; places = t * (n + c .n + 1); selectors = n })
     unfolding pieceCount piecePlaces pieceSelectors
     share-reached n t u lead e =
-        let test : leZ (least of (q .terms)) (q .constant) ≡ true = reached (least of (q .terms)) (q .constant) inside in
+        let test : leZ (least of (q .terms)) (q .constant) ≡ true = le-test (least of (q .terms)) (q .constant) inside in
         record { clauses = rw test (u ∙ shows-count B q c (r .shows)); places = rw (test, e) (ap₂ (λ a b. a * (n + b + 1)) (u ∙ shows-count B q c (r .shows)) (r .shows .counted)); selectors = sym e }
 
     pub share-fits : (n t : ℕ) → n ≤ 1 → t ≡ length (literalsOf c) → t * (n + c .n + 1) < 2 ^ 63

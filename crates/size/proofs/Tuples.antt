@@ -4,7 +4,7 @@ use mathlib.Core.List.{map}
 use Prim.Native.Nat.{ℕ, _+_, _-_, _≤_, _<_, _^_}
 use native.Mathlib.Omega.{arith}
 use lib.ListN.{length, getD}
-use lib.IntN.{ℤ, pos, natAbs, _-ℤ_}
+use lib.IntN.{pos, natAbs, _-ℤ_}
 use lib.Signed.{_≤ℤ_}
 use Rattle.definitions.specs.Tools.{size}
 use Rattle.laws.specs.Whole.{whole, add-law, sub-law, abs-add, abs-sub, part-law}

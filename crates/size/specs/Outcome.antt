@@ -7,5 +7,5 @@ use Rattle.definitions.specs.Answers.{saidSizing}
 use Rattle.definitions.specs.Operations.{Size}
 use Rattle.laws.specs.Outcomes.{one-sizing}
 
-pub size-determined : (s : List ℕ) (z z′ : Sizing) → saidSizing z ≡ Size s → saidSizing z′ ≡ Size s → z ≡ z′
-size-determined s z z′ e e′ = one-sizing z z′ (e ∙ sym e′)
+pub one-outcome : (s : List ℕ) (z z′ : Sizing) → saidSizing z ≡ Size s → saidSizing z′ ≡ Size s → z ≡ z′
+one-outcome s z z′ e e′ = one-sizing z z′ (e ∙ sym e′)

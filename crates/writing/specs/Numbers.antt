@@ -10,7 +10,7 @@ use Rattle.definitions.specs.Tools.{if_then_else_}
 use Rattle.definitions.specs.Board.{Board, boundsOf}
 use Rattle.definitions.specs.Board as board
 use Rattle.definitions.specs.Encoding.{SatClause, least, tuplesOf, sharp, clausesUnder, literalNumber}
-use Rattle.laws.specs.Whole.{whole, lt-test, ge-test}
+use Rattle.laws.specs.Whole.{lt-test, ge-test, le-test, gt-test}
 use Rattle.laws.specs.Lists.{flatten-append, all-every, map-same}
 use Rattle.walk.specs.declared.Comparison.{Comparison}
 use Rattle.walk.specs.Comparisons.{leastOf, literalsOf, Shows, shows-least, shows-literals}
@@ -50,28 +50,14 @@ pub lead-none : (lead : ℤ) → pos 0 ≤ℤ lead → leadOf lead ≡ []
 unfolding leadOf
 lead-none lead h = ap (λ b. if b then lead ∷ [] else []) (ge-test lead (pos 0) h)
 
-is-le : (a b : ℤ) → a ≤ℤ b → leZ a b ≡ true
-is-le a b h = go (leZ a b) refl
-  where
-    go : (t : Bool) → leZ a b ≡ t → t ≡ true
-    go true e = refl
-    go false e = absurd (omega whole)
-
-not-le : (a b : ℤ) → b <ℤ a → leZ a b ≡ false
-not-le a b h = go (leZ a b) refl
-  where
-    go : (t : Bool) → leZ a b ≡ t → t ≡ false
-    go true e = absurd (omega whole)
-    go false e = refl
-
 -- where the constant is below the least sum, and where it is not
 pub under-low : (lead : ℤ) (c : Comparison) → c .constant <ℤ leastOf c → underLead lead c ≡ clause (leadOf lead)
 unfolding underLead
-under-low lead c h = ap (λ b. if b then led lead (literalsOf c) else clause (leadOf lead)) (not-le _ _ h)
+under-low lead c h = ap (λ b. if b then led lead (literalsOf c) else clause (leadOf lead)) (gt-test _ _ h)
 
 pub under-high : (lead : ℤ) (c : Comparison) → leastOf c ≤ℤ c .constant → underLead lead c ≡ led lead (literalsOf c)
 unfolding underLead
-under-high lead c h = ap (λ b. if b then led lead (literalsOf c) else clause (leadOf lead)) (is-le _ _ h)
+under-high lead c h = ap (λ b. if b then led lead (literalsOf c) else clause (leadOf lead)) (le-test _ _ h)
 
 pub clause-led : (lead : ℤ) (ls : List ℤ) → clause (leadOf lead ++ ls) ≡ leadOf lead ++ clause ls
 unfolding clause

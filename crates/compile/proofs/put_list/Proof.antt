@@ -12,7 +12,6 @@ use Rattle.size.proofs.Numbers.{ints-few, bools-few, tail-inside, known}
 use Rattle.laws.specs.Filling.{begun, room-before, room, last}
 use Rattle.compile.specs.Lists.{axiomsFrom, piecesNumbers, whole-list}
 use Rattle.compile.proofs.Passes.{renamed}
-use borrow.Author.Needs.{needs}
 use Rattle.compile.proofs.put_list.Statement.{statement}
 use Rattle.compile.proofs.put_list.Tie as tie
 

@@ -8,7 +8,6 @@ use Rattle.definitions.specs.Result.{each}
 use Rattle.definitions.specs.Meaning.{assigned, holds}
 use Rattle.laws.specs.Boards.{opens-admitted}
 use Rattle.judge.proofs.Checked.{suited, rules-inside, rules-read, rules-are}
-use borrow.Author.Needs.{needs}
 use Rattle.judge.proofs.checks.first_broken.Statement.{statement}
 use Rattle.judge.proofs.checks.first_broken.Tie as tie
 

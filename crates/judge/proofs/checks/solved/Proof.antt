@@ -5,7 +5,6 @@ use Rattle.fields.proofs.Laws.{told}
 use Rattle.laws.specs.Boards.{boardOf}
 use Rattle.lent.specs.Said.{saidFound}
 use Rattle.judge.proofs.Checked.{solving-is, near}
-use borrow.Author.Needs.{needs}
 use Rattle.judge.proofs.checks.solved.Statement.{statement}
 use Rattle.judge.proofs.checks.solved.Tie as tie
 

@@ -6,7 +6,6 @@ use Rattle.definitions.specs.Meaning.{assigned, holds}
 use Rattle.fields.proofs.Laws.{told}
 use Rattle.reader.specs.Said.{contextOf, saidNumber}
 use Rattle.judge.proofs.Passing.{clause-uncounted, its-literals, literals-are}
-use borrow.Author.Needs.{needs}
 use Rattle.judge.proofs.clauses.clause_holds.Statement.{statement}
 use Rattle.judge.proofs.clauses.clause_holds.Tie as tie
 

@@ -5,12 +5,14 @@ use mir.Facts.{toZ-ofZ}
 use borrow.Author.Needs.{needs}
 use Rattle.definitions.specs.Meaning.{assigned, compares, holds}
 use Rattle.judge.proofs.Passing.{constant-fits}
-use borrow.Author.Needs.{needs}
 use Rattle.judge.proofs.literals.holds.Statement.{statement}
 use Rattle.judge.proofs.literals.holds.Tie as tie
 
 enum-known-literal : tie.Need-enum-known-literal
 enum-known-literal c = search needs
+
+cast-is-on : tie.Need-cast-is-on
+cast-is-on c = search needs
 
 is-on-requires : tie.Need-is-on-requires
 is-on-requires c κs =
@@ -18,6 +20,9 @@ is-on-requires c κs =
 
 enum-known-literal-2 : tie.Need-enum-known-literal-2
 enum-known-literal-2 c = search needs
+
+cast-is-on-2 : tie.Need-cast-is-on-2
+cast-is-on-2 c = search needs
 
 is-on-requires-2 : tie.Need-is-on-requires-2
 is-on-requires-2 c κs =
@@ -50,8 +55,10 @@ holds-spec =
     tie.close
     (tie.spec
     enum-known-literal
+    cast-is-on
     is-on-requires
     enum-known-literal-2
+    cast-is-on-2
     is-on-requires-2
     enum-known-literal-3
     compares-requires

@@ -8,7 +8,6 @@ use Rattle.writing.specs.Signs.{minus-fits}
 use Rattle.writing.specs.Axioms.{axioms-length}
 use Rattle.laws.specs.Filling.{room-before, room, last}
 use Rattle.writing.proofs.Parts.{headed, units}
-use borrow.Author.Needs.{needs}
 use Rattle.writing.proofs.axioms.put_axioms.Statement.{statement}
 use Rattle.writing.proofs.axioms.put_axioms.Tie as tie
 

@@ -15,7 +15,6 @@ use Rattle.walk.specs.Comparisons.{leastOf}
 use Rattle.writing.specs.Numbers.{leadOf, clause-length, under-low, under-high}
 use Rattle.laws.specs.Filling.{room-before, room, one, ended}
 use Rattle.writing.proofs.Parts.{lead-alone}
-use borrow.Author.Needs.{needs}
 use Rattle.writing.proofs.comparisons.put_comparison.Statement.{statement}
 use Rattle.writing.proofs.comparisons.put_comparison.Tie as tie
 

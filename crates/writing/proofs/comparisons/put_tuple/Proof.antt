@@ -10,7 +10,6 @@ use Rattle.walk.specs.Comparisons.{present}
 use Rattle.writing.specs.Numbers.{clause, leadOf, clause-led}
 use Rattle.laws.specs.Filling.{room-before, room, last}
 use Rattle.writing.proofs.Parts.{leading}
-use borrow.Author.Needs.{needs}
 use Rattle.writing.proofs.comparisons.put_tuple.Statement.{statement}
 use Rattle.writing.proofs.comparisons.put_tuple.Tie as tie
 

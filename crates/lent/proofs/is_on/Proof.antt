@@ -1,9 +1,9 @@
--- `judge::literals::is_on` meets its contract.
+-- `lent::is_on` meets its contract.
 use borrow.Author.Needs.{needs}
 use mathlib.Core.Path.{refl}
 use Rattle.definitions.specs.Meaning.{on}
-use Rattle.judge.proofs.literals.is_on.Statement.{statement}
-use Rattle.judge.proofs.literals.is_on.Tie as tie
+use Rattle.lent.proofs.is_on.Statement.{statement}
+use Rattle.lent.proofs.is_on.Tie as tie
 
 sub-result : tie.Need-sub-result
 sub-result c = search needs
