@@ -79,7 +79,7 @@ fn tails_at(bytes: &[u8], rules: &[u8], header: Header, place: usize, constant: 
     c
 }
 
-// What is walked for the clauses of a piece.
+// What is walked for the clauses of a piece: each tuple gives what stands behind the lead.
 pub fn tails_of(bytes: &[u8], rules: &[u8], header: Header, piece: Piece) -> Comparison
     requires { ⌜ Opened (now bytes) header × Held (contextOf (boardOf (now bytes))) (now rules) piece ⌝ }
     ensures { λ r. ⌜ Tails (boardOf (now (bytes .entry))) (saidPiece (contextOf (boardOf (now (bytes .entry)))) (now (rules .entry)) piece) r ⌝ }
@@ -100,16 +100,16 @@ pub fn tails_of(bytes: &[u8], rules: &[u8], header: Header, piece: Piece) -> Com
 }
 
 // Whether the lead or some literal of the present tuple holds.
-pub fn clause_holds(model: &[u8], lead: bool, c: Comparison, w: Walk) -> bool
-    requires { ⌜ FairComparison c × Walking c (At.Tuple w) × All (InModel (now model)) (present c w) × (length (now model) < 2147483648) ⌝ }
-    ensures { λ r. ⌜ r ≡ clauseTest (now (model .entry)) lead (present c w) ⌝ }
+pub fn clause_holds(model: &[u8], lead: bool, tails: Comparison, tuple: Walk) -> bool
+    requires { ⌜ FairComparison tails × Walking tails (At.Tuple tuple) × All (InModel (now model)) (present tails tuple) × (length (now model) < 2147483648) ⌝ }
+    ensures { λ r. ⌜ r ≡ clauseTest (now (model .entry)) lead (present tails tuple) ⌝ }
 {
     if lead {
         return true;
     }
     let mut i: usize = 0;
-    while i < c.n {
-        if holds(model, literal_at(c, w, i)) {
+    while i < tails.n {
+        if holds(model, literal_at(tails, tuple, i)) {
             return true;
         }
         i += 1;

@@ -18,19 +18,19 @@ use Rattle.decode.proofs.pieces.clause_holds.Statement.{statement}
 use Rattle.decode.proofs.pieces.clause_holds.Tie as tie
 
 abbrev Inv-loop : tie.InvT-loop
-Inv-loop model lead c w i₀ i =
-    (i ≤ c .n) × (any (trueNumber model) (drop i (present c w)) ≡ any (trueNumber model) (present c w))
+Inv-loop model lead tails tuple i₀ i =
+    (i ≤ tails .n) × (any (trueNumber model) (drop i (present tails tuple)) ≡ any (trueNumber model) (present tails tuple))
 
 abbrev μ-loop : tie.MeasureT-loop
-μ-loop model lead c w i₀ i = c .n - i
+μ-loop model lead tails tuple i₀ i = tails .n - i
 
 -- the literals of the tuple
 module _ (c : tie.Start Inv-loop μ-loop) where
   abbrev literals : List ℤ
-  literals = present (c .args .c) (c .args .w)
+  literals = present (c .args .tails) (c .args .tuple)
 
-  how-many : length literals ≡ c .args .c .n
-  how-many = present-length (c .args .c) (c .args .w) (c .pre .0)
+  how-many : length literals ≡ c .args .tails .n
+  how-many = present-length (c .args .tails) (c .args .tuple) (c .pre .0)
 
 -- literal i was tested
 module _ (c : tie.After-holds Inv-loop μ-loop) where
