@@ -1,172 +1,110 @@
-// The cases of 01 that are not starred, run: what Size answers, a line for each.
-use answers::detail_of;
-use answers::number_of;
-use definitions::Sizing;
-use libc::STDOUT_FILENO;
+// Cases of 01, run: what Size, Compile and Decode answer, and each lent list as it is left. Lists hold 99 in every place before.
+use crate::printing::put_list;
+use crate::printing::put_sizing;
+use crate::printing::put_verdict;
+use crate::records::AT_MOST_7;
+use crate::records::EITHER_FIRST;
+use crate::records::FEW_TUPLES;
+use crate::records::IMPOSSIBLE;
+use crate::records::MODEL;
+use crate::records::SINGLE_TERMS;
+use crate::records::WIDE_SUM;
+use compile::compile;
+use decode::decode;
 use size::size;
 
-// Case 10: x, y, z in -4,096..4,095, 64x + 64y + 64z at most 0.
-fn wide_sum() -> [u8; 39] {
-    [
-        1,
-        0,
-        0,
-        0,
-        34,
-        0,
-        3,
-        0,
-        0,
-        0,
-        1,
-        240,
-        0,
-        15,
-        255,
-        240,
-        0,
-        15,
-        255,
-        240,
-        0,
-        15,
-        255,
-        1,
-        2,
-        3,
-        64,
-        0,
-        0,
-        64,
-        0,
-        1,
-        64,
-        0,
-        2,
-        0,
-        0,
-        0,
-        0,
-    ]
+pub mod printing; // printing.rt: answers and lists as lines
+pub mod records; // records.rt: the records, and a model
+
+fn refused_sizes() {
+    let mut bytes = WIDE_SUM;
+    put_sizing(b"case 10", size(&bytes));
+    bytes[26] = 65;
+    put_sizing(b"case 11, coefficient 65", size(&bytes));
+    bytes[0] = 9;
+    put_sizing(b"case 11, version 9 as well", size(&bytes));
 }
 
-// Case 2: x, y in 2..6, x + y at most 7.
-fn two_terms() -> [u8; 32] {
-    [
-        1,
-        0,
-        0,
-        0,
-        27,
-        0,
-        2,
-        0,
-        0,
-        0,
-        1,
-        0,
-        2,
-        0,
-        6,
-        0,
-        2,
-        0,
-        6,
-        1,
-        2,
-        2,
-        1,
-        0,
-        0,
-        1,
-        0,
-        1,
-        0,
-        0,
-        0,
-        7,
-    ]
+fn list_lengths() {
+    let mut short = [99; 52];
+    put_sizing(b"case 12, 52 places", compile(&AT_MOST_7, &mut short));
+    put_list(&short);
+    let mut long = [99; 54];
+    put_sizing(b"case 12, 54 places", compile(&AT_MOST_7, &mut long));
+    put_list(&long);
 }
 
-// x, y, z in 0..1,700, 64x + 64y + 64z at most 0: few tuples in wide ranges.
-fn few_tuples() -> [u8; 39] {
-    [
-        1,
-        0,
-        0,
-        0,
-        34,
-        0,
-        3,
-        0,
-        0,
-        0,
-        1,
-        0,
-        0,
-        6,
-        164,
-        0,
-        0,
-        6,
-        164,
-        0,
-        0,
-        6,
-        164,
-        1,
-        2,
-        3,
-        64,
-        0,
-        0,
-        64,
-        0,
-        1,
-        64,
-        0,
-        2,
-        0,
-        0,
-        0,
-        0,
-    ]
+fn few_tuples() {
+    let mut list = [99; 16384];
+    put_sizing(
+        b"three variables of 0..1700",
+        compile(&FEW_TUPLES, &mut list),
+    );
+    // the last clause, and the place after it
+    put_list(&list[15329..15334]);
 }
 
-fn put(word: &[u8], n: usize) {
-    io::write_all(STDOUT_FILENO, word);
-    io::print_decimal(STDOUT_FILENO, n as u64);
+fn below_least() {
+    let mut list = [99; 33];
+    put_sizing(b"case 5", compile(&IMPOSSIBLE, &mut list));
+    put_list(&list);
 }
 
-// One line: N, M and K, or the refusal.
-fn show(name: &[u8], bytes: &[u8]) {
-    io::write_all(STDOUT_FILENO, name);
-    match size(bytes) {
-        Sizing::Sizes { n, m, k } => {
-            put(b": N ", n);
-            put(b", M ", m);
-            put(b", K ", k);
-        }
-        Sizing::Unsized(r) => {
-            io::write_all(STDOUT_FILENO, b": refused ");
-            io::print_decimal(STDOUT_FILENO, number_of(r));
-            io::write_all(STDOUT_FILENO, b" ");
-            io::print_decimal(STDOUT_FILENO, detail_of(r));
-        }
-    }
-    io::write_all(STDOUT_FILENO, b"\n");
+fn selectors() {
+    let mut list = [99; 25];
+    put_sizing(b"case 8", compile(&SINGLE_TERMS, &mut list));
+    put_list(&list);
+    let mut list = [99; 53];
+    put_sizing(b"case 13", compile(&EITHER_FIRST, &mut list));
+    put_list(&list);
+}
+
+fn read_back(name: &[u8], model: &[u8]) {
+    let mut values = [99; 2];
+    let mut booleans = [0u8; 0];
+    put_verdict(
+        name,
+        decode(&EITHER_FIRST, model, &mut values, &mut booleans),
+    );
+    put_list(&values);
+}
+
+// A byte that is not 0 or 1 is told before a clause that does not hold.
+fn models() {
+    let mut model = MODEL;
+    read_back(b"case 14", &model);
+    model[9] = 1;
+    read_back(b"case 14, last byte 1", &model);
+    model[8] = 0;
+    model[9] = 2;
+    read_back(b"case 14, last bytes 0 and 2", &model);
+}
+
+// The model's length is told before the values', and that before the Booleans'.
+fn lengths_in_order() {
+    let mut value = [99; 1];
+    let mut values = [99; 2];
+    let mut booleans = [0u8; 1];
+    put_verdict(
+        b"case 14, all lengths wrong",
+        decode(&EITHER_FIRST, b"", &mut value, &mut booleans),
+    );
+    put_verdict(
+        b"case 14, two lengths wrong",
+        decode(&EITHER_FIRST, &MODEL, &mut value, &mut booleans),
+    );
+    put_verdict(
+        b"case 14, one length wrong",
+        decode(&EITHER_FIRST, &MODEL, &mut values, &mut booleans),
+    );
 }
 
 fn main() {
-    let ten = wide_sum();
-    show(b"case 10", &ten);
-    let mut eleven = ten;
-    eleven[26] = 65;
-    show(b"case 11, coefficient 65", &eleven);
-    eleven[0] = 9;
-    show(b"case 11, version 9 as well", &eleven);
-    let twelve = two_terms();
-    show(b"case 12", &twelve);
-    let wide = few_tuples();
-    show(b"three variables of 0..1700", &wide);
+    refused_sizes();
+    list_lengths();
+    few_tuples();
+    below_least();
+    selectors();
+    models();
+    lengths_in_order();
 }

@@ -11,18 +11,21 @@ use Rattle.definitions.specs.Board as board
 use Rattle.definitions.specs.Reading.{Context}
 use Rattle.definitions.specs.Encoding.{selector, minus, width, first, number, literalNumber}
 use Rattle.laws.specs.Whole.{whole, add-law, sub-law, part-law, neg-law}
-use Rattle.laws.specs.Admitted.{Admitted, GoodBounds}
+use Rattle.laws.specs.Admitted.{Admitted, GoodBounds, GoodComparison}
 use Rattle.laws.specs.Fits.{first-most}
 use Rattle.laws.specs.Boards.{boardOf, opens-admitted}
+use Rattle.laws.specs.Reread.{comparisonAt}
 use Rattle.laws.specs.Written.{written}
 use Rattle.laws.specs.Pieces.{Piece, line, under, pieceClauses, lineFrom}
 use Rattle.reader.specs.declared.Context as reader
+use Rattle.reader.specs.Said.{contextOf}
 use Rattle.rules.specs.declared.Cursor.{Cursor}
 use Rattle.rules.specs.declared.Piece as code
 use Rattle.rules.specs.declared.Stepped.{Stepped}
-use Rattle.rules.specs.Cursors.{Held, saidPiece, selectorsTo, Onward, Went, comingAt}
+use Rattle.rules.specs.Cursors.{Stands, Held, saidPiece, selectorsTo, Onward, Went, comingAt}
 use Rattle.size.specs.Shares.{Known}
 use Rattle.slots.specs.declared.Bounds.{Bounds}
+use Rattle.slots.specs.Terms.{TermsStand}
 use Rattle.slots.specs.Variables.{boundsRead, BoundsOf, bounds-same}
 use Rattle.walk.specs.declared.Comparison.{Comparison}
 use Rattle.walk.specs.Comparisons.{Shows}
@@ -66,6 +69,12 @@ lone-numbers B q c h = under-is B q c (pos 0) [] h (sym (lead-none (pos 0) (omeg
 module _ (s : List ℕ) (known : reader.Context) (rules : List ℕ) (k : Known s known rules) where
   pub bools-known : known .bools ≡ boardOf s .bools
   bools-known = ap (λ x. x .bools) (k .context)
+
+  pub terms-met : (place : ℕ) (constant : ℤ) → Stands (contextOf known) rules place constant → TermsStand rules place
+  terms-met place constant h = record { few = h .few; room = h .room }
+
+  pub good-met : (place : ℕ) (constant : ℤ) → Stands (contextOf known) rules place constant → GoodComparison (length (boardOf s .bounds)) (comparisonAt rules place constant)
+  good-met place constant h = rw (← ap (λ x. x .ints) (k .context)) (h .good)
 
   pub few-bools : known .bools < 20000000
   few-bools = omega (arith, bools-known, opens-admitted s (k .opens) .bools)

@@ -15,6 +15,7 @@ use rules::Piece;
 use rules::Stepped;
 use rules::start;
 use rules::step;
+use slots::Numbers;
 use slots::comparisons::ready;
 use writing::comparisons::put_comparison;
 use writing::lines::put_line;
@@ -32,6 +33,7 @@ fn put_piece(
     ensures { λ r. ⌜ (r ≡ length (pieceNumbers (boardOf (now (bytes .entry))) (saidPiece (contextOf known) (now (rules .entry)) piece))) × (now (list .exit) ≡ written (pieceNumbers (boardOf (now (bytes .entry))) (saidPiece (contextOf known) (now (rules .entry)) piece)) (now (list .entry))) ⌝ }
 {
     let bools = known.bools as usize;
+    let numbers = Numbers::Wanted { bools: bools };
     match piece {
         Piece::Line {
             place,
@@ -46,7 +48,7 @@ fn put_piece(
             list,
         ),
         Piece::Lone { place, constant } => put_comparison(
-            ready(bytes, bools, rules, place, constant),
+            ready(bytes, numbers, rules, place, constant),
             0,
             list,
         ),
@@ -57,7 +59,7 @@ fn put_piece(
         } => {
             let number = selectors + selector as u32;
             put_comparison(
-                ready(bytes, bools, rules, place, constant),
+                ready(bytes, numbers, rules, place, constant),
                 -(number as i32),
                 list,
             )

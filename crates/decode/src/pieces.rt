@@ -4,6 +4,7 @@ use crate::truth::holds;
 use crate::truth::is_on;
 use opening::Header;
 use rules::Piece;
+use slots::Numbers;
 use slots::comparisons::ready;
 use slots::variables::first_number;
 use walk::At;
@@ -17,9 +18,9 @@ ghost use Prim.Native.Nat.{_+_, _<_};
 ghost use lib.ListN.{length};
 ghost use Rattle.definitions.specs.Tools.{All};
 ghost use Rattle.laws.specs.Boards.{boardOf};
-ghost use Rattle.laws.specs.Reread.{contextOf};
+ghost use Rattle.laws.specs.Reread.{comparisonAt, contextOf};
 ghost use Rattle.laws.specs.Mentions.{Sound};
-ghost use Rattle.rules.specs.Cursors.{saidPiece, Held, comparisonAt, Stands};
+ghost use Rattle.rules.specs.Cursors.{saidPiece, Held, Stands};
 ghost use Rattle.walk.specs.Comparisons.{FairComparison, Walking, present};
 ghost use Rattle.decode.specs.Given.{Given, Opened};
 ghost use Rattle.decode.specs.Truth.{trueClause};
@@ -72,7 +73,10 @@ fn tails_at(bytes: &[u8], rules: &[u8], header: Header, place: usize, constant: 
     requires { ⌜ Opened (now bytes) header × Stands (contextOf (boardOf (now bytes))) (now rules) place constant ⌝ }
     ensures { λ r. ⌜ TailsOf (boardOf (now (bytes .entry))) (comparisonAt (now (rules .entry)) place constant) r ⌝ }
 {
-    let c = ready(bytes, header.bools, rules, place, constant);
+    let numbers = Numbers::Wanted {
+        bools: header.bools,
+    };
+    let c = ready(bytes, numbers, rules, place, constant);
     if constant < least(c) {
         return single();
     }

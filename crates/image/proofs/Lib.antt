@@ -1,2 +1,5 @@
 pub mod Filling
+pub mod Imaged
+pub mod Joined
 pub mod Numbers
+pub mod Selections

@@ -9,11 +9,12 @@ use lib.Dec.{eqb}
 use lib.Signed.{leZ}
 use lib.IntN.{ℤ, pos, sucℤ, _+ℤ_, _-ℤ_}
 use Rattle.definitions.specs.Tools.{countUp, size, range, if_then_else_}
-use Rattle.definitions.specs.Board.{Board, Comparison, Clause, boundsOf, variables, isTrue, isFalse, atMost}
-use Rattle.definitions.specs.Encoding.{Atom, bool, order, selector, orders, comparisons, selected, selections, atoms}
+use Rattle.definitions.specs.Board.{Board, Bounds, Comparison, Clause, boundsOf, variables, isTrue, isFalse, atMost}
+use Rattle.definitions.specs.Encoding.{Atom, bool, order, selector, orders, comparisons, selected, selections, atoms, width}
 use Rattle.definitions.specs.Meaning.{Assignment, on, compares, selection, truth, plainModel}
 use Rattle.laws.specs.Lists.{all-every, counted-at, length-countUp, map-same, map-flatten, map-at}
 use Rattle.laws.specs.Ranges.{range-shift}
+use Rattle.laws.specs.Layout.{spread}
 use Rattle.laws.specs.Pieces.{Piece, line, under, compared, used, lone, opening, piecesFrom}
 
 abbrev pub bit : Bool → ℕ
@@ -52,11 +53,19 @@ module _ (value lower : ℤ) (width : ℕ) where
   pub orders-length : length (orderFrom value lower width) ≡ width
   orders-length = length-map (countUp 0 width) (λ k. bit (leZ value ((lower -ℤ pos 1) +ℤ pos k))) ∙ length-countUp 0 width
 
+-- how many order variables a variable has
+width-is : (b : Bounds) → size (sucℤ (b .hi) -ℤ (b .lo -ℤ pos 1)) ≡ width b
+unfolding width
+width-is b = ap size (spread (b .lo) (b .hi))
+
 module _ (B : Board) (a : Assignment) where
-  pub orders-from : (x : ℕ) → orderBytes B a x ≡ orderFrom (a .α x) (boundsOf B x .lo) (size (sucℤ (boundsOf B x .hi) -ℤ (boundsOf B x .lo -ℤ pos 1)))
+  pub orders-from : (x : ℕ) → orderBytes B a x ≡ orderFrom (a .α x) (boundsOf B x .lo) (width (boundsOf B x))
   orders-from x =
-      ap (map (λ c. bit (leZ (a .α x) c))) (range-shift (boundsOf B x .lo -ℤ pos 1) (boundsOf B x .hi))
-      ∙ map-map (λ c. bit (leZ (a .α x) c)) (λ k. (boundsOf B x .lo -ℤ pos 1) +ℤ pos k) (countUp 0 (size (sucℤ (boundsOf B x .hi) -ℤ (boundsOf B x .lo -ℤ pos 1))))
+      let b = boundsOf B x in
+      let l = b .lo -ℤ pos 1 in
+      ap (map (λ c. bit (leZ (a .α x) c))) (range-shift l (b .hi))
+      ∙ map-map (λ c. bit (leZ (a .α x) c)) (λ k. l +ℤ pos k) (countUp 0 (size (sucℤ (b .hi) -ℤ l)))
+      ∙ ap (orderFrom (a .α x) (b .lo)) (width-is b)
 
   abbrev byte : Atom → ℕ
   byte v = bit (truth B a v)

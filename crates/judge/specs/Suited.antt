@@ -8,8 +8,8 @@ use Rattle.definitions.specs.Tools.{All}
 use Rattle.definitions.specs.Board.{Term}
 use Rattle.definitions.specs.Reading.{Context}
 use Rattle.laws.specs.Admitted.{GoodComparison}
+use Rattle.laws.specs.Reread.{comparisonAt}
 use Rattle.reader.specs.declared.Literal.{Literal}
-use Rattle.slots.specs.Ready.{comparisonAt}
 use Rattle.slots.specs.Terms.{TermsStand}
 
 abbrev pub Near : List ℤ → Type 0

@@ -8,8 +8,8 @@ ghost use Prim.Native.Nat.{_≤_};
 ghost use lib.ListN.{length};
 ghost use Rattle.definitions.specs.Meaning.{on, assigned, compares, holds};
 ghost use Rattle.laws.specs.Admitted.{GoodTerm, GoodComparison};
+ghost use Rattle.laws.specs.Reread.{comparisonAt};
 ghost use Rattle.reader.specs.Said.{literalOf};
-ghost use Rattle.slots.specs.Ready.{comparisonAt};
 ghost use Rattle.slots.specs.Terms.{termRead, TermsStand};
 ghost use Rattle.judge.specs.Suited.{Near, product, Known};
 

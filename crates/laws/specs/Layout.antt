@@ -27,7 +27,7 @@ offset lo i =
     let c = lo -ℤ pos 1 +ℤ pos i in
     omega (whole, add-law (c -ℤ lo) (pos 1), sub-law c lo, add-law (lo -ℤ pos 1) (pos i), sub-law lo (pos 1))
 
-spread : (lo hi : ℤ) → sucℤ hi -ℤ (lo -ℤ pos 1) ≡ hi -ℤ lo +ℤ pos 2
+pub spread : (lo hi : ℤ) → sucℤ hi -ℤ (lo -ℤ pos 1) ≡ hi -ℤ lo +ℤ pos 2
 spread lo hi =
     omega (whole, sub-law (sucℤ hi) (lo -ℤ pos 1), suc-law hi, sub-law lo (pos 1), add-law (hi -ℤ lo) (pos 2), sub-law hi lo)
 

@@ -2,6 +2,7 @@ pub mod Whole
 pub mod Division
 pub mod Lists
 pub mod Written
+pub mod Filling
 pub mod Admitted
 pub mod Pieces
 pub mod Runs

@@ -9,7 +9,7 @@ use native.Mathlib.Omega.{arith}
 use lib.ListN.{length, getD, drop, length-drop}
 use lib.Dec.{T, leb, eqb, leb→le, eqb→eq}
 use borrow.Author.Tests.{le-leb, eq-eqb}
-use lib.IntN.{pos}
+use lib.IntN.{ℤ, pos}
 use Rattle.definitions.specs.Tools.{countUp}
 use Rattle.definitions.specs.Board.{Bounds, Term, Comparison, Board, boundsOf}
 use Rattle.definitions.specs.Result.{Result, done, refused, need}
@@ -124,6 +124,10 @@ one-term s at end t (more h a (more h′ x none)) = (rw (a, x), omega arith)
 -- the terms of the comparison at a place
 unfoldable pub termsAt : List ℕ → ℕ → List Term
 termsAt s at = row (termAt s) 3 (at + 1) (big s at 1)
+
+-- the comparison whose term count stands at a place, its constant known
+abbrev pub comparisonAt : List ℕ → ℕ → ℤ → Comparison
+comparisonAt s at constant = record { terms = termsAt s at; constant = constant }
 
 pub record ComparisonRead (s : List ℕ) (at : ℕ) (q : Comparison) (end : ℕ) : Type 0 where
   pub some : 1 ≤ big s at 1

@@ -18,7 +18,7 @@ use Rattle.definitions.specs.declared.Refusal.{Refusal}
 use Rattle.laws.specs.Readings.{same}
 use Rattle.fields.proofs.Laws.{unsigned-got, signed-got}
 use Rattle.reader.specs.Parts.{past, numberFrom, coefficient, variable, readTerm, constant}
-use Rattle.laws.specs.Reread.{termAt, termsAt, comparison-read}
+use Rattle.laws.specs.Reread.{termAt, comparisonAt, comparison-read}
 use Rattle.reader.specs.Seen.{seenAt}
 use Rattle.reader.proofs.Steps.{asked-got, passed, bind-bind, past-done, past-refused, past-made, past-both}
 
@@ -141,7 +141,7 @@ module _ (ctx : Context) (s : List ℕ) (at : ℕ) {n first : ℕ} (counted : nu
 
     -- its terms are those that stand there
     pub comparison-done : {k : ℤ} {end : ℕ} → constant s p ≡ done (record { value = k; next = end })
-        → readComparison ctx s at ≡ done (record { value = record { terms = termsAt s at; constant = k }; next = end })
+        → readComparison ctx s at ≡ done (record { value = comparisonAt s at k; next = end })
     comparison-done e =
         let q = past-done (readTerms ctx [] n s first) terms in
         let r = read (q .got) (q .read) (same (q .rest)) e in

@@ -11,7 +11,7 @@ use Rattle.reader.specs.declared.Step.{Step}
 use Rattle.reader.specs.declared.LiteralRead.{LiteralRead}
 use Rattle.reader.specs.declared.Context as known
 use Rattle.reader.specs.declared.Literal as code
-use Rattle.laws.specs.Reread.{termsAt}
+use Rattle.laws.specs.Reread.{comparisonAt}
 
 abbrev pub contextOf : known.Context → Context
 contextOf k = record { version = k .version; ints = k .ints; bools = k .bools }
@@ -35,7 +35,7 @@ saidStep (Step.Refused r) = refusal r
 abbrev pub literalOf : List ℕ → code.Literal → Literal
 literalOf rules (code.Literal.Boolean b) = isTrue b
 literalOf rules (code.Literal.Negated b) = isFalse b
-literalOf rules (code.Literal.Comparison place constant) = atMost (record { terms = termsAt rules place; constant = constant })
+literalOf rules (code.Literal.Comparison place constant) = atMost (comparisonAt rules place constant)
 
 -- a comparison's place is that of its term count
 abbrev pub Placed : ℕ → LiteralRead → Type 0

@@ -22,13 +22,13 @@ use Rattle.laws.specs.Readings.{times-parts, same}
 use Rattle.laws.specs.Spelling.{Stand, more, natural, comparisonFields}
 use Rattle.laws.specs.Grammar.{spelt, found}
 use Rattle.laws.specs.Reads.{reads-comparison, reads-literal}
-use Rattle.laws.specs.Reread.{ComparisonRead, comparison-read}
+use Rattle.laws.specs.Reread.{comparisonAt, ComparisonRead, comparison-read}
 use Rattle.laws.specs.Pieces.{Piece, lone, opening, left, left-bool, left-negated, left-selected, left-lone}
 use Rattle.laws.specs.Ahead.{literalsAt, clausesAt, Readable, coming, Past, past-literal, literal-read, Into, into-clause, count-read, alone, coming-none}
 use Rattle.rules.specs.declared.Cursor.{Cursor}
 use Rattle.rules.specs.declared.Piece as code
 use Rattle.rules.specs.declared.Stepped.{Stepped}
-use Rattle.rules.specs.Cursors.{behind, within, comparisonAt, Stands, comingAt, Sound, Onward, Went}
+use Rattle.rules.specs.Cursors.{behind, within, Stands, comingAt, Sound, Onward, Went}
 
 -- a count that passed its test
 counted : (why at : ℕ) (m : Result (Got ℕ)) {g : Got ℕ} → result._>>=_ m (λ h. if leb 0 (h .value) && leb (h .value) 64 then done h else refused why at) ≡ done g → leb (g .value) 64 ≡ true

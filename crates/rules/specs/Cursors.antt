@@ -5,12 +5,11 @@ use mathlib.Core.List.{List, [], _∷_}
 use Prim.Native.Nat.{ℕ, _+_, _*_, _-_, _≤_, _<_}
 use lib.ListN.{length}
 use lib.IntN.{ℤ}
-use Rattle.definitions.specs.Board.{Comparison}
 use Rattle.definitions.specs.Result.{done}
 use Rattle.definitions.specs.Reading.{Context, times, big, readLiteral}
 use Rattle.definitions.specs.Encoding.{selector, minus}
 use Rattle.laws.specs.Admitted.{GoodComparison}
-use Rattle.laws.specs.Reread.{termsAt}
+use Rattle.laws.specs.Reread.{comparisonAt}
 use Rattle.laws.specs.Pieces.{Piece, line, under, lineFrom}
 use Rattle.laws.specs.Ahead.{literalsAt, Readable, coming}
 use Rattle.rules.specs.declared.Cursor.{Cursor}
@@ -28,11 +27,7 @@ behind c next j = record { place = next; literals = c .literals - 1; led = c .le
 abbrev pub within : Cursor → ℕ → ℕ → Bool → Cursor
 within c next n led = record { place = next; literals = n; led = led; clauses = c .clauses - 1; selector = c .selector }
 
--- the comparison whose term count stands at a place
-abbrev pub comparisonAt : List ℕ → ℕ → ℤ → Comparison
-comparisonAt t place constant = record { terms = termsAt t place; constant = constant }
-
--- it was read there before
+-- a comparison was read before whose term count stands at a place
 pub record Stands (ctx : Context) (t : List ℕ) (place : ℕ) (constant : ℤ) : Type 0 where
   pub good : GoodComparison (ctx .ints) (comparisonAt t place constant)
   pub some : 1 ≤ big t place 1

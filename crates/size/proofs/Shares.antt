@@ -1,11 +1,11 @@
 -- The share of each piece, and shares added up. Assumes nothing.
 use mathlib.Core.Path.{_≡_, refl, sym, ap, ap₂, subst, _∙_}
 use mathlib.Core.Bool.{Bool, true, false}
-use mathlib.Core.List.{List, [], _∷_, map, zipWith}
+use mathlib.Core.List.{List, [], _∷_}
 use Prim.Native.Nat.{ℕ, suc, _+_, _*_, _≤_, _<_, _^_}
 use native.Mathlib.Nat.{mul-le-mul}
 use native.Mathlib.Omega.{arith}
-use lib.ListN.{length, drop, length-map}
+use lib.ListN.{length, drop}
 use lib.IntN.{ℤ}
 use mir.Syntax.{w64}
 use mir.Val.{Fits}
@@ -14,10 +14,9 @@ use Rattle.definitions.specs.Board.{Board, Clause, isTrue, isFalse, atMost, bou
 use Rattle.definitions.specs.Board as board
 use Rattle.definitions.specs.Result.{done}
 use Rattle.definitions.specs.Reading.{Context, times, readLiteral, readClause}
-use Rattle.definitions.specs.Encoding.{sharp, literalNumber, least, tuplesOf}
+use Rattle.definitions.specs.Encoding.{least}
 use Rattle.laws.specs.Whole.{whole}
 use Rattle.laws.specs.Admitted.{Admitted, GoodComparison}
-use Rattle.laws.specs.Boards.{boardOf}
 use Rattle.laws.specs.Grammar.{finds}
 use Rattle.laws.specs.Reread as reread
 use Rattle.laws.specs.Reread.{BoardRead, tableEnd}
@@ -26,17 +25,14 @@ use Rattle.laws.specs.Ahead.{gotten, length-times, literalsAt, clausesAt, comin
 use Rattle.laws.specs.Sizes.{pieceCount, piecePlaces, pieceSelectors, N-sum, M-sum, K-sum}
 use Rattle.laws.specs.Fits.{tuples-fit, N-fits, M-fits, K-fits}
 use Rattle.walk.specs.declared.Comparison.{Comparison}
-use Rattle.walk.specs.Comparisons.{leastOf, literalsOf, shows-least, shows-literals}
-use Rattle.slots.specs.Ready.{ReadyFor}
-use Rattle.slots.specs.Terms.{TermsStand}
+use Rattle.walk.specs.Comparisons.{leastOf, literalsOf, shows-least, shows-count}
+use Rattle.slots.specs.Ready.{ReadyBy}
 use Rattle.rules.specs.declared.Cursor.{Cursor}
 use Rattle.rules.specs.declared.Piece as code
 use Rattle.rules.specs.declared.Stepped.{Stepped}
-use Rattle.rules.specs.Cursors.{comparisonAt, Stands, Held, saidPiece, Sound, Onward, Went, atStart, comingAt}
-use Rattle.reader.specs.declared.Context as reader
-use Rattle.reader.specs.Said.{contextOf}
+use Rattle.rules.specs.Cursors.{Held, saidPiece, Sound, Onward, Went, atStart, comingAt}
 use Rattle.size.specs.declared.Share.{Share}
-use Rattle.size.specs.Shares.{Known, ShareOf, ShareUnder, Adding, Fit, plus}
+use Rattle.size.specs.Shares.{ShareOf, ShareUnder, Adding, Fit, plus}
 
 -- ---- a line
 line-length : (j : ℕ) (C : Clause) → length (lineFrom j C) ≡ length C
@@ -78,53 +74,47 @@ below a b h = go (leZ a b) refl
     go true e = absurd (omega whole)
     go false e = refl
 
-module _ (B : Board) (g : Admitted B) (q : board.Comparison) (good : GoodComparison (length (B .bounds)) q) (c : Comparison) (r : ReadyFor B q c) where
+module _ (B : Board) (g : Admitted B) {f : ℕ → ℕ} (q : board.Comparison) (good : GoodComparison (length (B .bounds)) q) (c : Comparison) (r : ReadyBy B f q c) where
   abbrev of : ℕ → board.Bounds
   of = boundsOf B
 
   pub share-below : c .constant <ℤ leastOf c → (n : ℕ) → ShareUnder of n q (record { clauses = 1; places = n + 1; selectors = n })
   unfolding pieceCount piecePlaces pieceSelectors
   share-below h n lead e =
-      let f : leZ (least of (q .terms)) (q .constant) ≡ false = below (least of (q .terms)) (q .constant) (rw (← shows-least B q c (r .shows), ← r .shows .constant) h) in
-      record { clauses = rw f; places = rw f (omega arith); selectors = sym e }
+      let test : leZ (least of (q .terms)) (q .constant) ≡ false = below (least of (q .terms)) (q .constant) (rw (← shows-least B q c (r .shows), ← r .shows .constant) h) in
+      record { clauses = rw test; places = rw test (omega arith); selectors = sym e }
 
   module _ (h : leastOf c ≤ℤ c .constant) where
     inside : least of (q .terms) ≤ℤ q .constant
     inside = rw (← shows-least B q c (r .shows), ← r .shows .constant) h
 
-    tuples-shown : length (literalsOf c) ≡ length (tuplesOf of q)
-    tuples-shown = ap length (shows-literals B q c (r .shows)) ∙ length-map (tuplesOf of q) (λ bs. map (literalNumber B) (zipWith sharp (q .terms) bs))
-
     pub share-reached : (n t : ℕ) → t ≡ length (literalsOf c) → ShareUnder of n q (record { clauses = t; places = t * (n + c .n + 1); selectors = n })
     unfolding pieceCount piecePlaces pieceSelectors
     share-reached n t u lead e =
-        let f : leZ (least of (q .terms)) (q .constant) ≡ true = reached (least of (q .terms)) (q .constant) inside in
-        record { clauses = rw f (u ∙ tuples-shown); places = rw (f, e) (ap₂ (λ a b. a * (n + b + 1)) (u ∙ tuples-shown) (r .shows .counted)); selectors = sym e }
+        let test : leZ (least of (q .terms)) (q .constant) ≡ true = reached (least of (q .terms)) (q .constant) inside in
+        record { clauses = rw test (u ∙ shows-count B q c (r .shows)); places = rw (test, e) (ap₂ (λ a b. a * (n + b + 1)) (u ∙ shows-count B q c (r .shows)) (r .shows .counted)); selectors = sym e }
 
     pub share-fits : (n t : ℕ) → n ≤ 1 → t ≡ length (literalsOf c) → t * (n + c .n + 1) < 2 ^ 63
     share-fits n t l u =
-        let most : t ≤ 2 ^ 41 = omega (arith, tuples-shown, tuples-fit B g q good inside) in
+        let most : t ≤ 2 ^ 41 = omega (arith, shows-count B q c (r .shows), tuples-fit B g q good inside) in
         let few : n + c .n + 1 ≤ 5 = omega (arith, r .fair .few) in
         omega (arith, mul-le-mul most few)
 
--- what a comparison that is met is known to be, for making it ready
-module _ (s : List ℕ) (known : reader.Context) (rules : List ℕ) (k : Known s known rules) (place : ℕ) (constant : ℤ) (h : Stands (contextOf known) rules place constant) where
-  pub met-terms : TermsStand rules place
-  met-terms = record { few = h .few; room = h .room }
-
-  pub met-good : GoodComparison (length (boardOf s .bounds)) (comparisonAt rules place constant)
-  met-good = rw (← ap (λ x. x .ints) (k .context)) (h .good)
-
 -- ---- shares added up
 module _ (of : ℕ → board.Bounds) (all : List Piece) (ctx : Context) (t : List ℕ) (c : Cursor) (total : Share) (a : Adding of all (comingAt ctx t c) total) where
-  pub record Meets (p : code.Piece) (c′ : Cursor) : Type 0 where
-    pub held : Held ctx t p
+  -- the piece is told in a context that is the same
+  pub record Meets (same : Context) (p : code.Piece) (c′ : Cursor) : Type 0 where
+    pub held : Held same t p
     pub onward : Onward ctx t c c′
-    pub adding : Adding of all (saidPiece ctx t p ∷ comingAt ctx t c′) total
+    pub adding : Adding of all (saidPiece same t p ∷ comingAt ctx t c′) total
 
-  pub meets : (p : code.Piece) (c′ : Cursor) → Went ctx t c (Stepped.Met p c′) → Meets p c′
+  pub meets : (same : Context) → ctx ≡ same → (p : code.Piece) (c′ : Cursor) → Went ctx t c (Stepped.Met p c′) → Meets same p c′
   unfolding Went
-  meets p c′ w = record { held = w .1; onward = w .2; adding = subst (λ l. Adding of all l total) (w .0) a }
+  meets same e p c′ w = record {
+    held = subst (λ x. Held x t p) e (w .1);
+    onward = w .2;
+    adding = subst (λ x. Adding of all (saidPiece x t p ∷ comingAt ctx t c′) total) e (subst (λ l. Adding of all l total) (w .0) a);
+  }
 
   pub passes : (c′ : Cursor) → Went ctx t c (Stepped.Passed c′) → Onward ctx t c c′ × Adding of all (comingAt ctx t c′) total
   unfolding Went

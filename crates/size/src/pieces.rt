@@ -1,31 +1,24 @@
 // What a piece of the rules adds to the sizes.
 use crate::Share;
 use crate::count::tuples_of;
-use reader::Context;
 use rules::Piece;
+use slots::Numbers;
 use slots::comparisons::ready;
 use walk::tuples::least;
 ghost use Prim.Native.Nat.{_≤_, _<_, _^_};
 ghost use Rattle.definitions.specs.Board.{boundsOf};
-ghost use Rattle.laws.specs.Boards.{boardOf};
+ghost use Rattle.laws.specs.Boards.{Opens, boardOf};
+ghost use Rattle.laws.specs.Reread.{comparisonAt, contextOf};
 ghost use Rattle.laws.specs.Sizes.{piecePlaces};
-ghost use Rattle.reader.specs.Said.{contextOf};
-ghost use Rattle.rules.specs.Cursors.{comparisonAt, Stands, Held, saidPiece};
-ghost use Rattle.size.specs.Shares.{Known, ShareOf, ShareUnder};
+ghost use Rattle.rules.specs.Cursors.{Stands, Held, saidPiece};
+ghost use Rattle.size.specs.Shares.{ShareOf, ShareUnder};
 
 // A comparison's clauses, each led by as many literals as is said.
-fn comparison_share(
-    bytes: &[u8],
-    known: Context,
-    rules: &[u8],
-    lead: u64,
-    place: usize,
-    constant: i32,
-) -> Share
-    requires { ⌜ Known (now bytes) known (now rules) × Stands (contextOf known) (now rules) place constant × (lead ≤ 1) ⌝ }
+fn comparison_share(bytes: &[u8], rules: &[u8], lead: u64, place: usize, constant: i32) -> Share
+    requires { ⌜ Opens (now bytes) × Stands (contextOf (boardOf (now bytes))) (now rules) place constant × (lead ≤ 1) ⌝ }
     ensures { λ r. ⌜ ShareUnder (boundsOf (boardOf (now (bytes .entry)))) lead (comparisonAt (now (rules .entry)) place constant) r ⌝ }
 {
-    let c = ready(bytes, known.bools as usize, rules, place, constant);
+    let c = ready(bytes, Numbers::Unwanted, rules, place, constant);
     if constant < least(c) {
         return Share {
             clauses: 1,
@@ -41,9 +34,9 @@ fn comparison_share(
     }
 }
 
-pub fn share_of(bytes: &[u8], known: Context, rules: &[u8], piece: Piece) -> Share
-    requires { ⌜ Known (now bytes) known (now rules) × Held (contextOf known) (now rules) piece × (piecePlaces (boundsOf (boardOf (now bytes))) (saidPiece (contextOf known) (now rules) piece) < 2 ^ 63) ⌝ }
-    ensures { λ r. ⌜ ShareOf (boundsOf (boardOf (now (bytes .entry)))) (saidPiece (contextOf known) (now (rules .entry)) piece) r ⌝ }
+pub fn share_of(bytes: &[u8], rules: &[u8], piece: Piece) -> Share
+    requires { ⌜ Opens (now bytes) × Held (contextOf (boardOf (now bytes))) (now rules) piece × (piecePlaces (boundsOf (boardOf (now bytes))) (saidPiece (contextOf (boardOf (now bytes))) (now rules) piece) < 2 ^ 63) ⌝ }
+    ensures { λ r. ⌜ ShareOf (boundsOf (boardOf (now (bytes .entry)))) (saidPiece (contextOf (boardOf (now (bytes .entry)))) (now (rules .entry)) piece) r ⌝ }
 {
     match piece {
         Piece::Line {
@@ -55,18 +48,11 @@ pub fn share_of(bytes: &[u8], known: Context, rules: &[u8], piece: Piece) -> Sha
             places: literals as u64 + 1,
             selectors: 0,
         },
-        Piece::Lone { place, constant } => comparison_share(
-            bytes,
-            known,
-            rules,
-            0,
-            place,
-            constant,
-        ),
+        Piece::Lone { place, constant } => comparison_share(bytes, rules, 0, place, constant),
         Piece::Led {
             selector: _,
             place,
             constant,
-        } => comparison_share(bytes, known, rules, 1, place, constant),
+        } => comparison_share(bytes, rules, 1, place, constant),
     }
 }

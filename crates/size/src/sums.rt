@@ -10,7 +10,6 @@ use rules::step;
 use slots::variables::first_number;
 ghost use mathlib.Core.Path.{_≡_};
 ghost use mathlib.Core.List.{[]};
-ghost use Prim.Native.Nat.{_+_, _<_, _^_};
 ghost use lib.ListN.{length};
 ghost use Rattle.definitions.specs.Board.{boundsOf};
 ghost use Rattle.laws.specs.Boards.{Opens, boardOf};
@@ -44,7 +43,7 @@ fn rules_share(bytes: &[u8], known: Context, clauses: usize, rules: &[u8]) -> Sh
     loop {
         match step(rules, known, cursor) {
             Stepped::Met(piece, next) => {
-                total = added(total, share_of(bytes, known, rules, piece));
+                total = added(total, share_of(bytes, rules, piece));
                 cursor = next;
             }
             Stepped::Passed(next) => {

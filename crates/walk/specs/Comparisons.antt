@@ -1,14 +1,14 @@
 -- A comparison as the code has it: the literals of its tuples, and what they are of a board's comparison. Assumes nothing.
 use mathlib.Core.Path.{_≡_, refl, ap, ap₂, _∙_}
 use mathlib.Core.List.{List, [], _∷_, _++_, map, zipWith}
-use Prim.Native.Nat.{suc, _-_, _≤_}
+use Prim.Native.Nat.{ℕ, suc, _-_, _≤_}
 use native.Mathlib.Omega.{arith}
-use lib.ListN.{length, take, drop, replicate, length-drop}
+use lib.ListN.{length, take, drop, replicate, length-drop, length-map}
 use lib.IntN.{ℤ, pos, natAbs, _+ℤ_, _-ℤ_}
 use Rattle.definitions.specs.Tools.{All, sumZ, size}
 use Rattle.definitions.specs.Board.{Bounds, Term, Board, boundsOf}
 use Rattle.definitions.specs.Board as board
-use Rattle.definitions.specs.Encoding.{least, tuples, tuplesOf, sharp, literalNumber}
+use Rattle.definitions.specs.Encoding.{least, tuples, tuplesOf, sharp, first, literalNumber}
 use Rattle.laws.specs.Lists.{all-every, map-same}
 use Rattle.laws.specs.Tuples.{no-term}
 use Rattle.laws.specs.Terms.{ranges}
@@ -93,41 +93,52 @@ module _ (c : Comparison) (w : Walk) where
       zip-length (s ∷ ss) [] h = absurd (omega arith)
       zip-length (s ∷ ss) (b ∷ bs) h = ap suc (zip-length ss bs (omega arith))
 
--- ---- what it is of a board's comparison
-pub record Shows (B : Board) (q : board.Comparison) (c : Comparison) : Type 0 where
+-- ---- what it is of a board's comparison, where f numbers the variables
+pub record ShowsBy (B : Board) (f : ℕ → ℕ) (q : board.Comparison) (c : Comparison) : Type 0 where
   pub counted : c .n ≡ length (q .terms)
-  pub terms : slotsOf c ≡ map (slotOf B) (q .terms)
+  pub terms : slotsOf c ≡ map (slotOf B f) (q .terms)
   pub constant : c .constant ≡ q .constant
 
-module _ (B : Board) where
-  slots-ranges : (ts : List Term) → map slotBounds (map (slotOf B) ts) ≡ ranges (boundsOf B) ts
+-- under the board's own numbers
+abbrev pub Shows : Board → board.Comparison → Comparison → Type 0
+Shows B = ShowsBy B (first B)
+
+module _ (B : Board) (f : ℕ → ℕ) where
+  slots-ranges : (ts : List Term) → map slotBounds (map (slotOf B f) ts) ≡ ranges (boundsOf B) ts
   unfolding slotBounds
   slots-ranges [] = refl
-  slots-ranges (t ∷ ts) = ap₂ _∷_ (ap (λ r. record { lo = r .lo -ℤ pos 1; hi = r .hi }) (value-bounds B t)) (slots-ranges ts)
+  slots-ranges (t ∷ ts) = ap₂ _∷_ (ap (λ r. record { lo = r .lo -ℤ pos 1; hi = r .hi }) (value-bounds B f t)) (slots-ranges ts)
 
-  slots-least : (ts : List Term) → sumZ (map (λ s. valueBounds s .lo) (map (slotOf B) ts)) ≡ least (boundsOf B) ts
+  slots-least : (ts : List Term) → sumZ (map (λ s. valueBounds s .lo) (map (slotOf B f) ts)) ≡ least (boundsOf B) ts
   unfolding least
   slots-least [] = refl
-  slots-least (t ∷ ts) = ap₂ _+ℤ_ (ap (λ r. r .lo) (value-bounds B t)) (slots-least ts)
+  slots-least (t ∷ ts) = ap₂ _+ℤ_ (ap (λ r. r .lo) (value-bounds B f t)) (slots-least ts)
 
-  slots-literals : (ts : List Term) (bs : List ℤ) → zipWith slotLiteral (map (slotOf B) ts) bs ≡ map (literalNumber B) (zipWith sharp ts bs)
-  unfolding zipWith
-  slots-literals [] bs = refl
-  slots-literals (t ∷ ts) [] = refl
-  slots-literals (t ∷ ts) (b ∷ bs) = ap₂ _∷_ (slot-literal B t b) (slots-literals ts bs)
+slots-literals : (B : Board) (ts : List Term) (bs : List ℤ) → zipWith slotLiteral (map (slotOf B (first B)) ts) bs ≡ map (literalNumber B) (zipWith sharp ts bs)
+unfolding zipWith
+slots-literals B [] bs = refl
+slots-literals B (t ∷ ts) [] = refl
+slots-literals B (t ∷ ts) (b ∷ bs) = ap₂ _∷_ (slot-literal B t b) (slots-literals B ts bs)
 
-  module _ (q : board.Comparison) (c : Comparison) (h : Shows B q c) where
-    pub shows-least : leastOf c ≡ least (boundsOf B) (q .terms)
-    unfolding leastOf
-    shows-least = ap (λ ss. sumZ (map (λ s. valueBounds s .lo) ss)) (h .terms) ∙ slots-least (q .terms)
+module _ (B : Board) {f : ℕ → ℕ} (q : board.Comparison) (c : Comparison) (h : ShowsBy B f q c) where
+  pub shows-least : leastOf c ≡ least (boundsOf B) (q .terms)
+  unfolding leastOf
+  shows-least = ap (λ ss. sumZ (map (λ s. valueBounds s .lo) ss)) (h .terms) ∙ slots-least B f (q .terms)
 
-    pub shows-literals : literalsOf c ≡ map (λ bs. map (literalNumber B) (zipWith sharp (q .terms) bs)) (tuplesOf (boundsOf B) q)
-    unfolding literalsOf tuplesOf
-    shows-literals =
-        let ts = q .terms in
-        let bss = tuplesOf (boundsOf B) q in
-        ap (λ ss. map (zipWith slotLiteral ss) (tuples (map slotBounds ss) (c .constant -ℤ pos (c .n) +ℤ pos 1))) (h .terms)
-        ∙ ap (λ rs. map (zipWith slotLiteral (map (slotOf B) ts)) (tuples rs (c .constant -ℤ pos (c .n) +ℤ pos 1))) (slots-ranges ts)
-        ∙ ap₂ (λ k n. map (zipWith slotLiteral (map (slotOf B) ts)) (tuples (ranges (boundsOf B) ts) (k -ℤ pos n +ℤ pos 1))) (h .constant) (h .counted)
-        ∙ map-same (zipWith slotLiteral (map (slotOf B) ts)) (λ bs. map (literalNumber B) (zipWith sharp ts bs)) bss
-        (all-every (λ bs. zipWith slotLiteral (map (slotOf B) ts) bs ≡ map (literalNumber B) (zipWith sharp ts bs)) (slots-literals ts) bss)
+  -- the literals of the board's tuples, whatever f is
+  by-tuples : literalsOf c ≡ map (zipWith slotLiteral (map (slotOf B f) (q .terms))) (tuplesOf (boundsOf B) q)
+  unfolding literalsOf tuplesOf
+  by-tuples =
+      let ss = map (slotOf B f) (q .terms) in
+      ap (λ l. map (zipWith slotLiteral l) (tuples (map slotBounds l) (c .constant -ℤ pos (c .n) +ℤ pos 1))) (h .terms)
+      ∙ ap (λ rs. map (zipWith slotLiteral ss) (tuples rs (c .constant -ℤ pos (c .n) +ℤ pos 1))) (slots-ranges B f (q .terms))
+      ∙ ap₂ (λ k n. map (zipWith slotLiteral ss) (tuples (ranges (boundsOf B) (q .terms)) (k -ℤ pos n +ℤ pos 1))) (h .constant) (h .counted)
+
+  pub shows-count : length (literalsOf c) ≡ length (tuplesOf (boundsOf B) q)
+  shows-count = ap length by-tuples ∙ length-map (tuplesOf (boundsOf B) q) (zipWith slotLiteral (map (slotOf B f) (q .terms)))
+
+pub shows-literals : (B : Board) (q : board.Comparison) (c : Comparison) → Shows B q c
+    → literalsOf c ≡ map (λ bs. map (literalNumber B) (zipWith sharp (q .terms) bs)) (tuplesOf (boundsOf B) q)
+shows-literals B q c h =
+    let bss = tuplesOf (boundsOf B) q in
+    by-tuples B q c h ∙ map-same _ _ bss (all-every _ (slots-literals B (q .terms)) bss)

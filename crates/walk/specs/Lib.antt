@@ -1,4 +1,3 @@
 pub mod Slots
 pub mod Walks
 pub mod Comparisons
-pub mod Admits

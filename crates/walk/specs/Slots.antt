@@ -41,24 +41,25 @@ pub record FairSlot (s : Slot) : Type 0 where
   pub ordered : s .lower ≤ℤ s .upper
   pub numbered : s .first ≤ 10000000
 
--- ---- what they are of a board's term
-unfoldable pub slotOf : Board → Term → Slot
-slotOf B t = record {
+-- ---- what they are of a board's term, where f numbers the variables
+unfoldable pub slotOf : Board → (ℕ → ℕ) → Term → Slot
+slotOf B f t = record {
   coefficient = t .coef;
   lower = boundsOf B (t .var) .lo;
   upper = boundsOf B (t .var) .hi;
-  first = first B (t .var);
+  first = f (t .var);
 }
 
-pub value-bounds : (B : Board) (t : Term) → valueBounds (slotOf B t) ≡ termBounds (boundsOf B) t
+pub value-bounds : (B : Board) (f : ℕ → ℕ) (t : Term) → valueBounds (slotOf B f t) ≡ termBounds (boundsOf B) t
 unfolding valueBounds slotOf termBounds
-value-bounds B t = refl
+value-bounds B f t = refl
 
-pub slot-literal : (B : Board) (t : Term) (b : ℤ) → slotLiteral (slotOf B t) b ≡ literalNumber B (sharp t b)
+-- under the board's own numbers
+pub slot-literal : (B : Board) (t : Term) (b : ℤ) → slotLiteral (slotOf B (first B) t) b ≡ literalNumber B (sharp t b)
 unfolding slotLiteral orderNumber slotOf sharp number literalNumber
 slot-literal B t b = go (ltZ (pos 0) (t .coef))
   where
-    go : (positive : Bool) → (if positive then pos (orderNumber (slotOf B t) (floor b (t .coef))) else neg (orderNumber (slotOf B t) (ceil b (t .coef) -ℤ pos 1)))
+    go : (positive : Bool) → (if positive then pos (orderNumber (slotOf B (first B) t) (floor b (t .coef))) else neg (orderNumber (slotOf B (first B) t) (ceil b (t .coef) -ℤ pos 1)))
         ≡ literalNumber B (if positive then plus (Encoding.order (t .var) (floor b (t .coef))) else minus (Encoding.order (t .var) (ceil b (t .coef) -ℤ pos 1)))
     go true = refl
     go false = refl

@@ -17,7 +17,7 @@ use Rattle.walk.specs.Comparisons.{present, toCome, none-left}
 use Rattle.writing.specs.Signs.{plus-is, minus-is}
 use Rattle.writing.specs.Numbers.{clause, leadOf, led, clause-led, led-none, led-more}
 use Rattle.writing.specs.Axioms.{stepsFrom, axiomNumbers}
-use Rattle.writing.specs.Filling.{Filling, begin, begun, one}
+use Rattle.laws.specs.Filling.{Filling, begin, begun, one}
 
 -- the two unit clauses of a variable, before its steps
 abbrev pub headed : ℕ → ℕ → List ℤ → List ℤ

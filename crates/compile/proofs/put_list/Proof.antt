@@ -9,7 +9,7 @@ use Rattle.laws.specs.Boards.{boardOf}
 use Rattle.laws.specs.Pieces.{piecesFrom}
 use Rattle.laws.specs.Written.{rest-length}
 use Rattle.size.proofs.Numbers.{ints-few, bools-few, tail-inside, known}
-use Rattle.writing.specs.Filling.{begun, room-before, room, last}
+use Rattle.laws.specs.Filling.{begun, room-before, room, last}
 use Rattle.compile.specs.Lists.{axiomsFrom, piecesNumbers, whole-list}
 use Rattle.compile.proofs.Passes.{renamed}
 use borrow.Author.Needs.{needs}

@@ -11,9 +11,7 @@ use Rattle.reader.specs.Said.{contextOf}
 use Rattle.rules.specs.Cursors.{Stands}
 use Rattle.rules.proofs.Steps.{constant-fits}
 use Rattle.writing.specs.Signs.{minus-fits, minus-is}
-use Rattle.compile.proofs.Passes.{renamed, line-numbers, lone-numbers, led-numbers, bools-known, few-bools, few-selectors}
-use Rattle.size.proofs.Shares.{met-terms, met-good}
-use borrow.Author.Needs.{needs}
+use Rattle.compile.proofs.Passes.{renamed, line-numbers, lone-numbers, led-numbers, bools-known, terms-met, good-met, few-bools, few-selectors}
 use Rattle.compile.proofs.pieces.put_piece.Statement.{statement}
 use Rattle.compile.proofs.pieces.put_piece.Tie as tie
 
@@ -41,7 +39,7 @@ enum-known-piece-2 c = search needs
 
 ready-requires : tie.Need-ready-requires
 ready-requires c κs =
-    let e = c .before .piece2 .given .1 in let t : Stands (contextOf (c .before .before .before .before .before .before .args .known)) (c .before .before .before .before .before .before .args .rules .now) _ _ = rw e at (c .before .before .before .before .before .before .pre .2) in let f = constant-fits (contextOf (c .before .before .before .before .before .before .args .known)) (c .before .before .before .before .before .before .args .rules .now) t in (c .before .before .before .before .before .before .pre .0 .opens, bools-known (c .before .before .before .before .before .before .args .bytes .now) (c .before .before .before .before .before .before .args .known) (c .before .before .before .before .before .before .args .rules .now) (c .before .before .before .before .before .before .pre .0), met-terms (c .before .before .before .before .before .before .args .bytes .now) (c .before .before .before .before .before .before .args .known) (c .before .before .before .before .before .before .args .rules .now) (c .before .before .before .before .before .before .pre .0) _ _ t, rw (toZ-ofZ f) (met-good (c .before .before .before .before .before .before .args .bytes .now) (c .before .before .before .before .before .before .args .known) (c .before .before .before .before .before .before .args .rules .now) (c .before .before .before .before .before .before .pre .0) _ _ t))
+    let e = c .before .piece2 .given .1 in let t : Stands (contextOf (c .before .before .before .before .before .before .args .known)) (c .before .before .before .before .before .before .args .rules .now) _ _ = rw e at (c .before .before .before .before .before .before .pre .2) in let f = constant-fits (contextOf (c .before .before .before .before .before .before .args .known)) (c .before .before .before .before .before .before .args .rules .now) t in (c .before .before .before .before .before .before .pre .0 .opens, bools-known (c .before .before .before .before .before .before .args .bytes .now) (c .before .before .before .before .before .before .args .known) (c .before .before .before .before .before .before .args .rules .now) (c .before .before .before .before .before .before .pre .0), terms-met (c .before .before .before .before .before .before .args .bytes .now) (c .before .before .before .before .before .before .args .known) (c .before .before .before .before .before .before .args .rules .now) (c .before .before .before .before .before .before .pre .0) _ _ t, rw (toZ-ofZ f) (good-met (c .before .before .before .before .before .before .args .bytes .now) (c .before .before .before .before .before .before .args .known) (c .before .before .before .before .before .before .args .rules .now) (c .before .before .before .before .before .before .pre .0) _ _ t))
 
 put-comparison-requires : tie.Need-put-comparison-requires
 put-comparison-requires c κs =
@@ -60,7 +58,7 @@ add-number c =
 
 ready-requires-2 : tie.Need-ready-requires-2
 ready-requires-2 c κs =
-    let e = c .before .piece3 .given .1 in let t : Stands (contextOf (c .before .before .before .before .before .before .args .known)) (c .before .before .before .before .before .before .args .rules .now) _ _ = rw e at (c .before .before .before .before .before .before .pre .2) in let f = constant-fits (contextOf (c .before .before .before .before .before .before .args .known)) (c .before .before .before .before .before .before .args .rules .now) t in (c .before .before .before .before .before .before .pre .0 .opens, bools-known (c .before .before .before .before .before .before .args .bytes .now) (c .before .before .before .before .before .before .args .known) (c .before .before .before .before .before .before .args .rules .now) (c .before .before .before .before .before .before .pre .0), met-terms (c .before .before .before .before .before .before .args .bytes .now) (c .before .before .before .before .before .before .args .known) (c .before .before .before .before .before .before .args .rules .now) (c .before .before .before .before .before .before .pre .0) _ _ t, rw (toZ-ofZ f) (met-good (c .before .before .before .before .before .before .args .bytes .now) (c .before .before .before .before .before .before .args .known) (c .before .before .before .before .before .before .args .rules .now) (c .before .before .before .before .before .before .pre .0) _ _ t))
+    let e = c .before .piece3 .given .1 in let t : Stands (contextOf (c .before .before .before .before .before .before .args .known)) (c .before .before .before .before .before .before .args .rules .now) _ _ = rw e at (c .before .before .before .before .before .before .pre .2) in let f = constant-fits (contextOf (c .before .before .before .before .before .before .args .known)) (c .before .before .before .before .before .before .args .rules .now) t in (c .before .before .before .before .before .before .pre .0 .opens, bools-known (c .before .before .before .before .before .before .args .bytes .now) (c .before .before .before .before .before .before .args .known) (c .before .before .before .before .before .before .args .rules .now) (c .before .before .before .before .before .before .pre .0), terms-met (c .before .before .before .before .before .before .args .bytes .now) (c .before .before .before .before .before .before .args .known) (c .before .before .before .before .before .before .args .rules .now) (c .before .before .before .before .before .before .pre .0) _ _ t, rw (toZ-ofZ f) (good-met (c .before .before .before .before .before .before .args .bytes .now) (c .before .before .before .before .before .before .args .known) (c .before .before .before .before .before .before .args .rules .now) (c .before .before .before .before .before .before .pre .0) _ _ t))
 
 cast-put-comparison : tie.Need-cast-put-comparison
 cast-put-comparison c =

@@ -9,7 +9,7 @@ use Rattle.laws.specs.Pieces.{piecesFrom}
 use Rattle.laws.specs.Written.{rest-length}
 use Rattle.reader.specs.Said.{contextOf}
 use Rattle.rules.specs.Cursors.{saidPiece, Sound, comingAt, todo}
-use Rattle.writing.specs.Filling.{Filling, begin, room-before, room, room-for, next, part, ended}
+use Rattle.laws.specs.Filling.{Filling, begin, room-before, room, room-for, next, part, ended}
 use Rattle.compile.specs.Lists.{pieceNumbers, piecesNumbers}
 use Rattle.size.proofs.Shares.{start-sound, start-coming}
 use Rattle.compile.proofs.Passes.{meets, passes, ends}

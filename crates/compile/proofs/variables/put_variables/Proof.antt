@@ -10,7 +10,7 @@ use Rattle.laws.specs.Boards.{boardOf, opens-admitted}
 use Rattle.laws.specs.Written.{rest-length}
 use Rattle.slots.specs.Variables.{first-none, first-more}
 use Rattle.writing.specs.Axioms.{axiomNumbers}
-use Rattle.writing.specs.Filling.{Filling, begin, room-before, room, room-for, part, ended}
+use Rattle.laws.specs.Filling.{Filling, begin, room-before, room, room-for, part, ended}
 use Rattle.compile.specs.Lists.{axiomsFrom, axioms-end}
 use Rattle.compile.proofs.Passes.{width-some, axioms-next}
 use Rattle.compile.proofs.variables.put_variables.Statement.{statement}

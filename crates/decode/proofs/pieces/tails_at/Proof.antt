@@ -9,7 +9,7 @@ use Rattle.definitions.specs.Board as board
 use Rattle.definitions.specs.Encoding.{least}
 use Rattle.laws.specs.Whole.{whole, back}
 use Rattle.laws.specs.Boards.{boardOf}
-use Rattle.rules.specs.Cursors.{comparisonAt}
+use Rattle.laws.specs.Reread.{comparisonAt}
 use Rattle.slots.specs.Ready.{ReadyFor}
 use Rattle.walk.specs.Comparisons.{shows-least}
 use Rattle.decode.specs.Given.{bools-is}

@@ -38,7 +38,8 @@ loop-less c = search needs
 
 loop-again : tie.Need-loop-again Inv-loop μ-loop
 loop-again c =
-    (omega arith, rw length-set (c .before .before .before .loop .inv .1), put (booleanBytes (c .before .before .before .before .before .before .args .booleans .now)) _ _ _ (c .before .before .before .loop .inv .2) _ (c .bit .ensures ∙ sym (boolean-at (c .before .before .before .before .before .before .args .booleans .now) (c .before .before .before .loop .i) (c .before .before .loop-test .taken))) (omega (arith, booleans-length (c .before .before .before .before .before .before .args .booleans .now))) (omega (arith, c .before .before .before .before .before .before .pre)))
+    let start = c .before .before .before .before .before .before in
+    (omega arith, rw length-set (c .before .before .before .loop .inv .1), put (booleanBytes (start .args .booleans .now)) _ _ _ (c .before .before .before .loop .inv .2) _ (c .bit .ensures ∙ sym (boolean-at (start .args .booleans .now) (c .before .before .before .loop .i) (c .before .before .loop-test .taken))) (omega (arith, booleans-length (start .args .booleans .now))) (omega (arith, start .pre)))
 
 same-length : tie.Need-same-length Inv-loop μ-loop
 same-length c = search needs

@@ -35,7 +35,8 @@ cast-bit c = abs-fits (omega (arith, c .before .before .before .pre .1))
 
 add-bit : tie.Need-add-bit Inv-loop μ-loop
 add-bit c =
-    sum-fits (toZ w32 (ofZ w32 (c .before .before .before .args .lower))) (rw (toZ-ofZ (c .before .before .before .fits .lower)) (c .before .before .before .pre .0)) (c .before .loop .i) (omega (arith, c .before .before .before .pre .1))
+    let start = c .before .before .before in
+    sum-fits (toZ w32 (ofZ w32 (start .args .lower))) (rw (toZ-ofZ (start .fits .lower)) (start .pre .0)) (c .before .loop .i) (omega (arith, start .pre .1))
 
 bit-requires : tie.Need-bit-requires Inv-loop μ-loop
 bit-requires c κs = search needs
@@ -52,14 +53,16 @@ loop-less c = search needs
 
 loop-again : tie.Need-loop-again Inv-loop μ-loop
 loop-again c =
-    (omega arith, rw length-set (c .before .before .loop .inv .1), put (orderFrom (toZ w32 (ofZ w32 (c .before .before .before .before .args .value))) (toZ w32 (ofZ w32 (c .before .before .before .before .args .lower))) (c .before .before .before .before .args .width)) _ _ _ (c .before .before .loop .inv .2) _ (c .bit .ensures ∙ ap (λ z. bit (leZ (toZ w32 (ofZ w32 (c .before .before .before .before .args .value))) z)) (number-is (toZ w32 (ofZ w32 (c .before .before .before .before .args .lower))) (rw (toZ-ofZ (c .before .before .before .before .fits .lower)) (c .before .before .before .before .pre .0)) (c .before .before .loop .i) (omega (arith, c .before .before .before .before .pre .1))) ∙ sym (order-at (toZ w32 (ofZ w32 (c .before .before .before .before .args .value))) (toZ w32 (ofZ w32 (c .before .before .before .before .args .lower))) (c .before .before .before .before .args .width) (c .before .before .loop .i) (c .before .loop-test .taken))) (omega (arith, orders-length (toZ w32 (ofZ w32 (c .before .before .before .before .args .value))) (toZ w32 (ofZ w32 (c .before .before .before .before .args .lower))) (c .before .before .before .before .args .width))) (omega (arith, c .before .before .before .before .pre .2)))
+    let start = c .before .before .before .before in
+    (omega arith, rw length-set (c .before .before .loop .inv .1), put (orderFrom (toZ w32 (ofZ w32 (start .args .value))) (toZ w32 (ofZ w32 (start .args .lower))) (start .args .width)) _ _ _ (c .before .before .loop .inv .2) _ (c .bit .ensures ∙ ap (λ z. bit (leZ (toZ w32 (ofZ w32 (start .args .value))) z)) (number-is (toZ w32 (ofZ w32 (start .args .lower))) (rw (toZ-ofZ (start .fits .lower)) (start .pre .0)) (c .before .before .loop .i) (omega (arith, start .pre .1))) ∙ sym (order-at (toZ w32 (ofZ w32 (start .args .value))) (toZ w32 (ofZ w32 (start .args .lower))) (start .args .width) (c .before .before .loop .i) (c .before .loop-test .taken))) (omega (arith, orders-length (toZ w32 (ofZ w32 (start .args .value))) (toZ w32 (ofZ w32 (start .args .lower))) (start .args .width))) (omega (arith, start .pre .2)))
 
 same-length : tie.Need-same-length Inv-loop μ-loop
 same-length c = search needs
 
 returns : tie.Need-returns Inv-loop μ-loop
 returns c =
-    (omega arith, rw (toZ-ofZ (c .before .before .before .fits .value), toZ-ofZ (c .before .before .before .fits .lower)) at (all-put (orderFrom (toZ w32 (ofZ w32 (c .before .before .before .args .value))) (toZ w32 (ofZ w32 (c .before .before .before .args .lower))) (c .before .before .before .args .width)) _ _ (c .before .loop .i) (c .before .loop .inv .2) (omega (arith, orders-length (toZ w32 (ofZ w32 (c .before .before .before .args .value))) (toZ w32 (ofZ w32 (c .before .before .before .args .lower))) (c .before .before .before .args .width)))))
+    let start = c .before .before .before in
+    (omega arith, rw (toZ-ofZ (start .fits .value), toZ-ofZ (start .fits .lower)) at (all-put (orderFrom (toZ w32 (ofZ w32 (start .args .value))) (toZ w32 (ofZ w32 (start .args .lower))) (start .args .width)) _ _ (c .before .loop .i) (c .before .loop .inv .2) (omega (arith, orders-length (toZ w32 (ofZ w32 (start .args .value))) (toZ w32 (ofZ w32 (start .args .lower))) (start .args .width)))))
 
 pub put-orders-spec : {M : Type 1} → statement M
 put-orders-spec =

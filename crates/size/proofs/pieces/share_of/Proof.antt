@@ -13,8 +13,8 @@ use Rattle.size.proofs.pieces.share_of.Tie as tie
 enum-known-piece : tie.Need-enum-known-piece
 enum-known-piece c = search needs
 
-add-t12 : tie.Need-add-t12
-add-t12 c =
+add-t11 : tie.Need-add-t11
+add-t11 c =
     line-fits _ _ _ _ _ _ (rw (c .before .piece .given .1) at (c .before .before .before .before .before .pre .1)) (rw (c .before .piece .given .1) at (c .before .before .before .before .before .pre .2))
 
 enum-known-piece-2 : tie.Need-enum-known-piece-2
@@ -52,7 +52,7 @@ share-of-spec =
     tie.close
     (tie.spec
     enum-known-piece
-    add-t12
+    add-t11
     enum-known-piece-2
     comparison-share-requires
     enum-known-piece-3

@@ -32,21 +32,23 @@ enum-known-piece c = search needs
 
 share-of-requires : tie.Need-share-of-requires Inv-loop μ-loop
 share-of-requires c κs =
-    let w = meets _ _ _ _ _ _ (c .before .before .before .before .loop .inv .1) _ _ (rw (c .before .piece .given .1) at (c .before .before .before .step .ensures)) in
-    (c .before .before .before .before .before .before .before .before .pre .0, w .held, next-fits _ (opens-admitted _ (c .before .before .before .before .before .before .before .before .pre .0 .opens)) _ _ _ (w .adding))
+    let k = c .before .before .before .before .before .before .before .before .pre .0 in
+    let w = meets _ _ _ _ _ _ (c .before .before .before .before .loop .inv .1) _ (k .context) _ _ (rw (c .before .piece .given .1) at (c .before .before .before .step .ensures)) in
+    (k .opens, w .held, next-fits _ (opens-admitted _ (k .opens)) _ _ _ (w .adding))
 
 added-requires : tie.Need-added-requires Inv-loop μ-loop
 added-requires c κs =
-    let w = meets _ _ _ _ _ _ (c .before .before .before .before .before .loop .inv .1) _ _ (rw (c .before .before .piece .given .1) at (c .before .before .before .before .step .ensures)) in
-    plus-fits _ (opens-admitted _ (c .before .before .before .before .before .before .before .before .before .pre .0 .opens)) _ _ _ (w .adding) _ (c .share-of .ensures)
+    let k = c .before .before .before .before .before .before .before .before .before .pre .0 in
+    let w = meets _ _ _ _ _ _ (c .before .before .before .before .before .loop .inv .1) _ (k .context) _ _ (rw (c .before .before .piece .given .1) at (c .before .before .before .before .step .ensures)) in
+    plus-fits _ (opens-admitted _ (k .opens)) _ _ _ (w .adding) _ (c .share-of .ensures)
 
 loop-less : tie.Need-loop-less Inv-loop μ-loop
 loop-less c =
-    meets _ _ _ _ _ _ (c .before .before .before .before .before .before .loop .inv .1) _ _ (rw (c .before .before .before .piece .given .1) at (c .before .before .before .before .before .step .ensures)) .onward .less
+    meets _ _ _ _ _ _ (c .before .before .before .before .before .before .loop .inv .1) _ (c .before .before .before .before .before .before .before .before .before .before .pre .0 .context) _ _ (rw (c .before .before .before .piece .given .1) at (c .before .before .before .before .before .step .ensures)) .onward .less
 
 loop-again : tie.Need-loop-again Inv-loop μ-loop
 loop-again c =
-    let w = meets _ _ _ _ _ _ (c .before .before .before .before .before .before .loop .inv .1) _ _ (rw (c .before .before .before .piece .given .1) at (c .before .before .before .before .before .step .ensures)) in
+    let w = meets _ _ _ _ _ _ (c .before .before .before .before .before .before .loop .inv .1) _ (c .before .before .before .before .before .before .before .before .before .before .pre .0 .context) _ _ (rw (c .before .before .before .piece .given .1) at (c .before .before .before .before .before .step .ensures)) in
     (w .onward .sound, rw (c .added .ensures) (adding-more _ _ _ _ _ _ (w .adding) (c .before .share-of .ensures)))
 
 enum-known-next : tie.Need-enum-known-next Inv-loop μ-loop

@@ -15,26 +15,26 @@ use Rattle.walk.specs.Slots.{slotOf}
 use Rattle.slots.specs.declared.Term.{Term}
 use Rattle.slots.specs.declared.Terms.{Terms}
 use Rattle.slots.specs.Terms.{termRead, TermsOf, term-of, term-good}
-use Rattle.slots.specs.Ready.{shows-ready}
+use Rattle.slots.specs.Ready.{firstBy, numbers-small, shows-ready}
 use Rattle.slots.proofs.Filling.{filled-more, filled-all}
 use Rattle.slots.proofs.comparisons.ready.Statement.{statement}
 use Rattle.slots.proofs.comparisons.ready.Tie as tie
 
-module _ (B : Board) (ts : List board.Term) (r : Terms) (h : TermsOf ts r) (slots : List Slot) (i : ℕ) (e : take i slots ≡ take i (map (slotOf B) ts)) where
-  more : (s : Slot) (d : Term) → i < r .n → i < length slots → s ≡ slotOf B (termRead (getD (r .terms) i d)) → take (i + 1) (set slots i s) ≡ take (i + 1) (map (slotOf B) ts)
+module _ (B : Board) (f : ℕ → ℕ) (ts : List board.Term) (r : Terms) (h : TermsOf ts r) (slots : List Slot) (i : ℕ) (e : take i slots ≡ take i (map (slotOf B f) ts)) where
+  more : (s : Slot) (d : Term) → i < r .n → i < length slots → s ≡ slotOf B f (termRead (getD (r .terms) i d)) → take (i + 1) (set slots i s) ≡ take (i + 1) (map (slotOf B f) ts)
   more s d k l es =
-      filled-more slots (map (slotOf B) ts) i e s (slotOf B (termRead d)) l (rw length-map (omega (arith, h .counted)))
-      (es ∙ ap (slotOf B) (term-of ts r i d h k) ∙ sym (List·getD-map (slotOf B) ts i (termRead d)))
+      filled-more slots (map (slotOf B f) ts) i e s (slotOf B f (termRead d)) l (rw length-map (omega (arith, h .counted)))
+      (es ∙ ap (slotOf B f) (term-of ts r i d h k) ∙ sym (List·getD-map (slotOf B f) ts i (termRead d)))
 
-  all : i ≡ r .n → take (r .n) slots ≡ map (slotOf B) ts
-  all k = rw (← k) (filled-all slots (map (slotOf B) ts) i e (k ∙ h .counted ∙ sym (length-map ts (slotOf B))))
+  all : i ≡ r .n → take (r .n) slots ≡ map (slotOf B f) ts
+  all k = rw (← k) (filled-all slots (map (slotOf B f) ts) i e (k ∙ h .counted ∙ sym (length-map ts (slotOf B f))))
 
 abbrev Inv-loop : tie.InvT-loop
-Inv-loop bytes bools rules place constant n terms slots₀ i₀ slots i =
-    (i ≤ n) × (length slots ≡ 3) × (take i slots ≡ take i (map (slotOf (boardOf bytes)) (termsAt rules place)))
+Inv-loop bytes numbers rules place constant n terms slots₀ i₀ slots i =
+    (i ≤ n) × (length slots ≡ 3) × (take i slots ≡ take i (map (slotOf (boardOf bytes) (firstBy (boardOf bytes) numbers)) (termsAt rules place)))
 
 abbrev μ-loop : tie.MeasureT-loop
-μ-loop bytes bools rules place constant n terms slots₀ i₀ slots i = n - i
+μ-loop bytes numbers rules place constant n terms slots₀ i₀ slots i = n - i
 
 terms-at-requires : tie.Need-terms-at-requires Inv-loop μ-loop
 terms-at-requires c κs = search needs
@@ -66,13 +66,13 @@ loop-less c = search needs
 
 loop-again : tie.Need-loop-again Inv-loop μ-loop
 loop-again c =
-    (omega arith, rw length-set (c .before .before .before .loop .inv .1), more _ _ _ (c .before .before .before .before .before .terms-at .ensures) _ _ (c .before .before .before .loop .inv .2) _ _ (c .before .before .loop-test .taken) (omega (arith, c .before .before .before .before .before .terms-at .ensures .counted, c .before .before .before .before .before .before .before .before .pre .3 .few)) (c .slot-of .ensures))
+    (omega arith, rw length-set (c .before .before .before .loop .inv .1), more _ _ _ _ (c .before .before .before .before .before .terms-at .ensures) _ _ (c .before .before .before .loop .inv .2) _ _ (c .before .before .loop-test .taken) (omega (arith, c .before .before .before .before .before .terms-at .ensures .counted, c .before .before .before .before .before .before .before .before .pre .3 .few)) (c .slot-of .ensures))
 
 returns : tie.Need-returns Inv-loop μ-loop
 returns c =
-    shows-ready _ (opens-admitted _ (c .before .before .before .before .before .before .pre .0)) _ _ (c .before .before .before .before .before .before .pre .3) (record {
+    shows-ready _ (opens-admitted _ (c .before .before .before .before .before .before .pre .0)) _ (numbers-small _ (opens-admitted _ (c .before .before .before .before .before .before .pre .0)) (c .before .before .before .before .before .before .args .numbers)) _ _ (c .before .before .before .before .before .before .pre .3) (record {
       counted = c .before .before .before .terms-at .ensures .counted;
-      terms = all _ _ _ (c .before .before .before .terms-at .ensures) (c .before .loop .slots) (c .before .loop .i) (c .before .loop .inv .2) (omega arith);
+      terms = all _ _ _ _ (c .before .before .before .terms-at .ensures) (c .before .loop .slots) (c .before .loop .i) (c .before .loop .inv .2) (omega arith);
       constant = toZ-ofZ (c .before .before .before .before .before .before .fits .constant);
     })
 

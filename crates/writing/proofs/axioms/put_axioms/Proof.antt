@@ -6,7 +6,7 @@ use lib.ListN.{length, length-set}
 use Rattle.laws.specs.Written.{rest-length}
 use Rattle.writing.specs.Signs.{minus-fits}
 use Rattle.writing.specs.Axioms.{axioms-length}
-use Rattle.writing.specs.Filling.{room-before, room, last}
+use Rattle.laws.specs.Filling.{room-before, room, last}
 use Rattle.writing.proofs.Parts.{headed, units}
 use borrow.Author.Needs.{needs}
 use Rattle.writing.proofs.axioms.put_axioms.Statement.{statement}

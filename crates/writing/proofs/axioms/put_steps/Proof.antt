@@ -8,7 +8,7 @@ use lib.ListN.{length, length-set}
 use lib.IntN.{pos}
 use Rattle.writing.specs.Signs.{plus-is, minus-fits, minus-is}
 use Rattle.writing.specs.Axioms.{stepsFrom, steps-length, steps-more, steps-none}
-use Rattle.writing.specs.Filling.{Filling, begin, room-before, room, ended, three}
+use Rattle.laws.specs.Filling.{Filling, begin, room-before, room, ended, three}
 use Rattle.writing.proofs.axioms.put_steps.Statement.{statement}
 use Rattle.writing.proofs.axioms.put_steps.Tie as tie
 

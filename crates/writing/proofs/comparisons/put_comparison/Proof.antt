@@ -13,7 +13,7 @@ use mir.Facts.{toZ-ofZ}
 use Rattle.laws.specs.Whole.{whole, back, abs-fits}
 use Rattle.walk.specs.Comparisons.{leastOf}
 use Rattle.writing.specs.Numbers.{leadOf, clause-length, under-low, under-high}
-use Rattle.writing.specs.Filling.{room-before, room, one, ended}
+use Rattle.laws.specs.Filling.{room-before, room, one, ended}
 use Rattle.writing.proofs.Parts.{lead-alone}
 use borrow.Author.Needs.{needs}
 use Rattle.writing.proofs.comparisons.put_comparison.Statement.{statement}

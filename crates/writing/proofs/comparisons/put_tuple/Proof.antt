@@ -8,7 +8,7 @@ use mir.Facts.{toZ-ofZ}
 use Rattle.laws.specs.Written.{rest-length}
 use Rattle.walk.specs.Comparisons.{present}
 use Rattle.writing.specs.Numbers.{clause, leadOf, clause-led}
-use Rattle.writing.specs.Filling.{room-before, room, last}
+use Rattle.laws.specs.Filling.{room-before, room, last}
 use Rattle.writing.proofs.Parts.{leading}
 use borrow.Author.Needs.{needs}
 use Rattle.writing.proofs.comparisons.put_tuple.Statement.{statement}

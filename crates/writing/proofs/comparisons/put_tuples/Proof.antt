@@ -12,7 +12,7 @@ use Rattle.laws.specs.Written.{rest-length}
 use Rattle.walk.specs.declared.At.the-variants.{Tuple}
 use Rattle.walk.specs.Comparisons.{Walking, literalsOf, present, toCome, walking-fine, stepped}
 use Rattle.writing.specs.Numbers.{clause, leadOf, led}
-use Rattle.writing.specs.Filling.{Filling, begin, room-before, room, part, ended}
+use Rattle.laws.specs.Filling.{Filling, begin, room-before, room, part, ended}
 use Rattle.writing.proofs.Parts.{led-end, led-on, led-first}
 use Rattle.writing.proofs.comparisons.put_tuples.Statement.{statement}
 use Rattle.writing.proofs.comparisons.put_tuples.Tie as tie

@@ -14,7 +14,7 @@ use Rattle.definitions.specs.Reading.{times, readLiteral}
 use Rattle.laws.specs.Ahead.{literalsAt}
 use Rattle.reader.specs.Said.{contextOf, saidLiteral}
 use Rattle.writing.specs.Lines.{lineNumbers, takes-few}
-use Rattle.writing.specs.Filling.{Filling, begin, room-before, room, ended, one}
+use Rattle.laws.specs.Filling.{Filling, begin, room-before, room, ended, one}
 use Rattle.writing.proofs.Literals.{line-last, readable, literal-first, line-first, small}
 use Rattle.writing.proofs.lines.put_line.Statement.{statement}
 use Rattle.writing.proofs.lines.put_line.Tie as tie

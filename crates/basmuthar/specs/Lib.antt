@@ -1,0 +1,3 @@
+pub mod Interface
+pub mod Numbers
+pub mod Outcome

@@ -1,0 +1,54 @@
+-- Nothing of an operation's answer is lost in the four numbers: they tell which answer it was. Assumes nothing.
+use mathlib.Core.Path.{_≡_, refl, sym, ap, _∙_}
+use mathlib.Core.Bool.{false}
+use mathlib.Core.List.{List}
+use Prim.Native.Nat.{ℕ}
+use lib.ListN.{getD}
+use lib.Dec.{eqb}
+use Rattle.definitions.specs.Tools.{if_then_else_}
+use Rattle.definitions.specs.Result.{Result, done, refused}
+use Rattle.definitions.specs.Operations.{Sizes}
+use Rattle.definitions.specs.Answers.{said, saidSizing, saidVerdict}
+use Rattle.definitions.specs.declared.Refusal.{Refusal}
+use Rattle.definitions.specs.declared.Sizing.{Sizing}
+use Rattle.definitions.specs.declared.Verdict.{Verdict}
+use Rattle.laws.specs.Outcomes.{one-sizing, one-verdict}
+use Rattle.basmuthar.specs.Interface.{sizesWritten, verdictWritten}
+
+-- no refusal has the number 0
+not-zero : (r : Refusal) → eqb (said r .0) 0 ≡ false
+not-zero Refusal.RecordTooLong = refl
+not-zero Refusal.LengthWrong = refl
+not-zero Refusal.VersionUnknown = refl
+not-zero (Refusal.CountWrong place) = refl
+not-zero (Refusal.BoundWrong place) = refl
+not-zero (Refusal.LiteralWrong place) = refl
+not-zero (Refusal.TermWrong place) = refl
+not-zero (Refusal.EndWrong place) = refl
+not-zero Refusal.ListTooLong = refl
+not-zero (Refusal.ListTooShort wanted) = refl
+not-zero (Refusal.LentWrong wanted) = refl
+not-zero (Refusal.ByteWrong index) = refl
+not-zero (Refusal.ClauseFails number) = refl
+not-zero (Refusal.ValueOutside index) = refl
+
+-- an answer read back from its numbers, with what is meant where the first is 0
+abbrev readAs : {A : Type 0} → A → List ℕ → Result A
+readAs a numbers = if eqb (getD numbers 0 0) 0 then done a else refused (getD numbers 0 0) (getD numbers 1 0)
+
+pub sizing-told : (z z′ : Sizing) → sizesWritten (saidSizing z) ≡ sizesWritten (saidSizing z′) → z ≡ z′
+sizing-told z z′ h = one-sizing z z′ (sym (is z) ∙ ap back h ∙ is z′)
+  where
+    back : List ℕ → Result Sizes
+    back numbers = readAs (record { n = getD numbers 1 0; m = getD numbers 2 0; k = getD numbers 3 0 }) numbers
+
+    is : (z : Sizing) → back (sizesWritten (saidSizing z)) ≡ saidSizing z
+    is (Sizing.Sizes n m k) = refl
+    is (Sizing.Unsized r) = rw (not-zero r)
+
+pub verdict-told : (v v′ : Verdict) → verdictWritten (saidVerdict v) ≡ verdictWritten (saidVerdict v′) → v ≡ v′
+verdict-told v v′ h = one-verdict v v′ (sym (is v) ∙ ap (readAs tt) h ∙ is v′)
+  where
+    is : (v : Verdict) → readAs tt (verdictWritten (saidVerdict v)) ≡ saidVerdict v
+    is Verdict.Accepted = refl
+    is (Verdict.Refused r) = rw (not-zero r)

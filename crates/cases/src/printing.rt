@@ -1,0 +1,79 @@
+// What the operations answer, and lists, as lines.
+use answers::detail_of;
+use answers::number_of;
+use definitions::Refusal;
+use definitions::Sizing;
+use definitions::Verdict;
+use libc::STDOUT_FILENO;
+
+fn put(word: &[u8]) {
+    io::write_all(STDOUT_FILENO, word);
+}
+
+fn put_size(word: &[u8], n: usize) {
+    put(word);
+    io::print_decimal(STDOUT_FILENO, n as u64);
+}
+
+fn put_refusal(r: Refusal) {
+    put(b": refused ");
+    io::print_decimal(STDOUT_FILENO, number_of(r));
+    put(b" ");
+    io::print_decimal(STDOUT_FILENO, detail_of(r));
+}
+
+pub fn put_sizing(name: &[u8], sizing: Sizing) {
+    put(name);
+    match sizing {
+        Sizing::Sizes { n, m, k } => {
+            put_size(b": N ", n);
+            put_size(b", M ", m);
+            put_size(b", K ", k);
+        }
+        Sizing::Unsized(r) => {
+            put_refusal(r);
+        }
+    }
+    put(b"\n");
+}
+
+pub fn put_verdict(name: &[u8], verdict: Verdict) {
+    put(name);
+    match verdict {
+        Verdict::Accepted => {
+            put(b": accepted");
+        }
+        Verdict::Refused(r) => {
+            put_refusal(r);
+        }
+    }
+    put(b"\n");
+}
+
+// A number without its sign.
+fn without_sign(number: i32) -> u64 {
+    if number < 0 {
+        return (-(number as i64)) as u64;
+    }
+    number as u64
+}
+
+fn put_number(number: i32) {
+    if number < 0 {
+        put(b" -");
+    } else {
+        put(b" ");
+    }
+    io::print_decimal(STDOUT_FILENO, without_sign(number));
+}
+
+// A list as it was left: all its numbers in one line.
+pub fn put_list(list: &[i32]) {
+    put(b"left:");
+    let mut i: usize = 0;
+    while i < list.len() {
+        put_number(list[i]);
+        i += 1;
+    }
+    put(b"\n");
+}

@@ -1,0 +1,80 @@
+// The plain model's bytes of the selectors: whether the values meet the comparison of each.
+ghost use mathlib.Core.Path.{_≡_};
+ghost use mathlib.Core.List.{[]};
+ghost use Prim.Native.Nat.{_≤_};
+ghost use lib.ListN.{length};
+ghost use Rattle.definitions.specs.Encoding.{selections};
+ghost use Rattle.definitions.specs.Meaning.{assigned};
+ghost use Rattle.judge.specs.Suited.{Near};
+ghost use Rattle.laws.specs.Boards.{Opens, boardOf};
+ghost use Rattle.laws.specs.Written.{written};
+ghost use Rattle.opening.specs.Said.{headerOf};
+ghost use Rattle.reader.specs.Said.{contextOf};
+ghost use Rattle.rules.specs.Cursors.{Sound, atStart};
+ghost use Rattle.image.specs.Parts.{selectorBytes};
+ghost use Rattle.image.specs.Selectors.{ledAt};
+use crate::parts::bit;
+use judge::literals::compares;
+use opening::Header;
+use reader::Context;
+use rules::Piece;
+use rules::Stepped;
+use rules::start;
+use rules::step;
+
+// Of the pieces of the rules, a comparison under its selector has a byte.
+fn put_led(rules: &[u8], known: Context, clauses: usize, values: &[i32], model: &mut [u8]) -> usize
+    requires { ⌜ Sound (contextOf known) (now rules) (atStart clauses) × (length (now values) ≡ known .ints) × Near (now values) × (length (ledAt (contextOf known) (now rules) (atStart clauses)) ≤ length (now model)) ⌝ }
+    ensures { λ r. ⌜ (r ≡ length (ledAt (contextOf known) (now (rules .entry)) (atStart clauses))) × (now (model .exit) ≡ written (selectorBytes (assigned (now (values .entry)) []) (ledAt (contextOf known) (now (rules .entry)) (atStart clauses))) (now (model .entry))) ⌝ }
+{
+    let mut at: usize = 0;
+    let mut cursor = start(clauses);
+    loop {
+        match step(rules, known, cursor) {
+            Stepped::Met(piece, next) => match piece {
+                Piece::Led {
+                    selector: _,
+                    place,
+                    constant,
+                } => {
+                    model[at] = bit(compares(rules, values, place, constant));
+                    at += 1;
+                    cursor = next;
+                }
+                Piece::Line {
+                    place: _,
+                    literals: _,
+                    selector: _,
+                } => {
+                    cursor = next;
+                }
+                Piece::Lone {
+                    place: _,
+                    constant: _,
+                } => {
+                    cursor = next;
+                }
+            },
+            Stepped::Passed(next) => {
+                cursor = next;
+            }
+            Stepped::End => {
+                return at;
+            }
+        }
+    }
+}
+
+// The rules are the record's tail.
+pub fn put_selectors(bytes: &[u8], header: Header, values: &[i32], model: &mut [u8]) -> usize
+    requires { ⌜ Opens (now bytes) × (header ≡ headerOf (boardOf (now bytes))) × (length (now values) ≡ length (boardOf (now bytes) .bounds)) × Near (now values) × (length (selections (boardOf (now bytes))) ≤ length (now model)) ⌝ }
+    ensures { λ r. ⌜ (r ≡ length (selections (boardOf (now (bytes .entry))))) × (now (model .exit) ≡ written (selectorBytes (assigned (now (values .entry)) []) (selections (boardOf (now (bytes .entry))))) (now (model .entry))) ⌝ }
+{
+    let known = Context {
+        version: 1,
+        ints: header.ints as u32,
+        bools: header.bools as u32,
+    };
+    let tail = header.rules;
+    put_led(&bytes[tail..], known, header.clauses, values, model)
+}

@@ -1,0 +1,110 @@
+#!/usr/bin/env python3
+"""Wrong versions of Compile and Decode that a must-fail edit cannot make, since they change the code's shape.
+
+Each is made in a copy of the crates, and the program `cases` is run over it, unproved. It has to end and to write something else
+than crates/cases/stdout; the first line that differs is printed.
+"""
+import pathlib
+import re
+import shutil
+import subprocess
+import sys
+import tempfile
+
+# What is wrong, and the changes that make it so: a file, its text, the text in its stead.
+MUTANTS = [
+    ("the same list each time", [
+        ("compile/src/lib.rt",
+         "put_list(bytes, header, list)",
+         r'put_list(b"\x01\0\0\0\x0A\0\x01\0\0\0\0\0\x05\0\x05", Header { ints: 1, bools: 0, clauses: 0, rules: 15 }, list)')]),
+    ("nothing written, the sizes right", [
+        ("compile/src/lib.rt",
+         "let k = put_list(bytes, header, list);",
+         "let mut elsewhere = [0; 16384];\n                let k = put_list(bytes, header, &mut elsewhere);")]),
+    ("the first comparison's clauses, of later ones the line of selectors alone", [
+        ("compile/src/pieces.rt",
+         "            let number = selectors + selector as u32;",
+         "            if 0 < selector {\n                return 0;\n            }\n            let number = selectors + selector as u32;")]),
+    ("the selector left off a single-term comparison", [
+        ("compile/src/pieces.rt",
+         "                -(number as i32),",
+         "                if ready(bytes, numbers, rules, place, constant).n == 1 { 0 } else { -(number as i32) },")]),
+    ("one selector for a whole clause", [
+        ("writing/src/lines.rt", "number += selectors_of(literal);", ""),
+        ("rules/src/lib.rt", "after(c, next, c.selector + 1)", "after(c, next, c.selector)")]),
+    ("tuples used below the least sum", [
+        ("writing/src/comparisons.rt", "if c.constant < least(c) {", "if false {")]),
+    ("place K written too", [
+        ("compile/src/lib.rt",
+         "let k = put_list(bytes, header, list);",
+         "let k = put_list(bytes, header, list);\n                if k < list.len() {\n                    list[k] = 0;\n                }")]),
+    ("values written before the clauses are tested", [
+        ("decode/src/lib.rt",
+         "    match first_bad_byte(model) {",
+         "    write_values(bytes, model, header, values);\n    match first_bad_byte(model) {")]),
+    ("the last clause that does not hold", [
+        ("decode/src/search.rt", "    let mut at = number;", "    let mut at = number;\n    let mut last = Checked::Hold(0);"),
+        ("decode/src/search.rt", "break 'search Checked::Fails(at);", "last = Checked::Fails(at);"),
+        ("decode/src/search.rt",
+         "break 'search Checked::Hold(at);",
+         "match last { Checked::Fails(_) => { break 'search last; } Checked::Hold(_) => { break 'search Checked::Hold(at); } }")]),
+]
+
+
+def changed(crates, changes):
+    """Makes the changes; answers what stood in the files before, and whether each text stood there once."""
+    before = {}
+    for file, old, new in changes:
+        path = crates / file
+        text = path.read_text()
+        before.setdefault(path, text)
+        if text.count(old) != 1:
+            return before, False
+        path.write_text(text.replace(old, new))
+    return before, True
+
+
+def run(copy):
+    """Whether the program wrote what is expected; if not, the line of stdout where it first differs."""
+    done = subprocess.run(["rt", "try", "cases"], cwd=copy, capture_output=True, text=True)
+    told = done.stdout + done.stderr
+    if done.returncode == 0:
+        return True, None
+    found = re.search(r"the interpreter ended, but did not write what is expected\non standard output, at byte (\d+)", told)
+    if not found:
+        return False, None
+    expected = (copy / "crates/cases/stdout").read_bytes()
+    return False, expected[:int(found.group(1))].count(b"\n") + 1
+
+
+def tried(copy, changes):
+    before, made = changed(copy / "crates", changes)
+    same, line = run(copy) if made else (True, None)
+    for path, text in before.items():
+        path.write_text(text)
+    if not made:
+        return "cannot be tried: a text does not stand once in its file"
+    if same:
+        return "NOT NOTICED"
+    return f"differs at line {line}" if line else "did not run to its end"
+
+
+def main():
+    root = pathlib.Path(__file__).resolve().parent.parent
+    noticed = 0
+    with tempfile.TemporaryDirectory() as folder:
+        copy = pathlib.Path(folder)
+        shutil.copytree(root / "crates", copy / "crates")
+        shutil.copy(root / "crates.txt", copy)
+        if not run(copy)[0]:
+            sys.exit("mutants: unchanged, the program cases does not write what is expected")
+        for name, changes in MUTANTS:
+            answer = tried(copy, changes)
+            noticed += answer.startswith("differs")
+            print(f"{name}: {answer}", flush=True)
+    print(f"mutants: {noticed} of {len(MUTANTS)} noticed")
+    sys.exit(noticed != len(MUTANTS))
+
+
+if __name__ == "__main__":
+    main()
