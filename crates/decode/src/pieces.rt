@@ -19,12 +19,12 @@ ghost use lib.ListN.{length};
 ghost use Rattle.definitions.specs.Tools.{All};
 ghost use Rattle.laws.specs.Boards.{boardOf};
 ghost use Rattle.laws.specs.Reread.{comparisonAt, contextOf};
-ghost use Rattle.laws.specs.Mentions.{Sound};
+ghost use Rattle.laws.specs.Mentions.{InList, Sound};
 ghost use Rattle.rules.specs.Cursors.{saidPiece, Held, Stands};
 ghost use Rattle.walk.specs.Comparisons.{FairComparison, Walking, present};
 ghost use Rattle.decode.specs.Given.{Given, Opened};
 ghost use Rattle.decode.specs.Truth.{trueClause};
-ghost use Rattle.decode.specs.Tails.{clauseTest, leadOf, Tails, Single, InModel, TailsOf};
+ghost use Rattle.decode.specs.Tails.{clauseTest, leadOf, Tails, Single, TailsOf};
 
 // Whether the piece's lead holds: of a line, some literal; of a comparison, its negated selector.
 pub fn lead_holds(bytes: &[u8], rules: &[u8], model: &[u8], header: Header, piece: Piece) -> bool
@@ -105,7 +105,7 @@ pub fn tails_of(bytes: &[u8], rules: &[u8], header: Header, piece: Piece) -> Com
 
 // Whether the lead or some literal of the present tuple holds.
 pub fn clause_holds(model: &[u8], lead: bool, tails: Comparison, tuple: Walk) -> bool
-    requires { ⌜ FairComparison tails × Walking tails (At.Tuple tuple) × All (InModel (now model)) (present tails tuple) × (length (now model) < 2147483648) ⌝ }
+    requires { ⌜ FairComparison tails × Walking tails (At.Tuple tuple) × All (InList (length (now model))) (present tails tuple) × (length (now model) < 2147483648) ⌝ }
     ensures { λ r. ⌜ r ≡ clauseTest (now (model .entry)) lead (present tails tuple) ⌝ }
 {
     if lead {
