@@ -5,12 +5,12 @@ use mathlib.Core.List.{List, [], _∷_, _++_, map, zipWith, append-nil, map-map}
 use Prim.Native.Nat.{ℕ, _≤_}
 use native.Mathlib.Omega.{arith}
 use lib.ListN.{length}
-use lib.IntN.{ℤ, negsuc, natAbs}
+use lib.IntN.{ℤ, negsuc}
 use lib.Signed.{_≤ℤ_, _<ℤ_}
 use Rattle.definitions.specs.Tools.{All, any}
 use Rattle.definitions.specs.Board.{Board, boundsOf}
 use Rattle.definitions.specs.Board as board
-use Rattle.definitions.specs.Encoding.{SatLiteral, SatClause, minus, selector, least, tuples, tuplesOf, sharp, clausesUnder, number, N, literalNumber}
+use Rattle.definitions.specs.Encoding.{SatClause, minus, selector, least, tuples, tuplesOf, sharp, clausesUnder, number, N, literalNumber}
 use Rattle.definitions.specs.Meaning.{on, satisfies, inModel}
 use Rattle.laws.specs.Whole.{le-test, gt-test}
 use Rattle.laws.specs.Some.{any-append}
