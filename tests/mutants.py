@@ -38,16 +38,10 @@ MUTANTS = [
         ("compile/src/lib.rt",
          "let k = put_list(bytes, header, list);",
          "let k = put_list(bytes, header, list);\n                if k < list.len() {\n                    list[k] = 0;\n                }")]),
-    ("values written before the clauses are tested", [
-        ("decode/src/lib.rt",
-         "    match first_bad_byte(model) {",
-         "    write_values(bytes, model, header, values);\n    match first_bad_byte(model) {")]),
     ("the last clause that does not hold", [
-        ("decode/src/search.rt", "    let mut at = number;", "    let mut at = number;\n    let mut last = Checked::Hold(0);"),
-        ("decode/src/search.rt", "break 'search Checked::Fails(at);", "last = Checked::Fails(at);"),
-        ("decode/src/search.rt",
-         "break 'search Checked::Hold(at);",
-         "match last { Checked::Fails(_) => { break 'search last; } Checked::Hold(_) => { break 'search Checked::Hold(at); } }")]),
+        ("decode/src/search.rt", "    let mut number = from;", "    let mut number = from;\n    let mut last = Found::Nothing;"),
+        ("decode/src/search.rt", "break 'search Found::At(number);", "last = Found::At(number);"),
+        ("decode/src/search.rt", "break 'search Found::Nothing;", "break 'search last;")]),
 ]
 
 

@@ -3,7 +3,7 @@ use mathlib.Core.Path.{_≡_, refl, sym, ap, ap₂, _∙_}
 use mathlib.Core.Bool.{Bool, true, false, not, _||_, or-false}
 use mathlib.Core.List.{List, [], _∷_, _++_, map, flatten, map-map, map-append}
 use Prim.Native.Nat.{ℕ, _+_, _-_, _^_, _≤_, _<_}
-use native.Mathlib.Nat.{add-zero, sub-zero}
+use native.Mathlib.Nat.{add-zero}
 use native.Mathlib.Omega.{arith}
 use lib.ListN.{length, length-map}
 use lib.IntN.{ℤ, pos, sucℤ, _+ℤ_, _-ℤ_}
@@ -16,6 +16,7 @@ use Rattle.laws.specs.Whole.{whole, add-law, sub-law, suc-law, part-law}
 use Rattle.laws.specs.Lists.{map-same, all-every, countUp-shift, countUp-first, countUp-none, length-flatten}
 use Rattle.laws.specs.Admitted.{Admitted}
 use Rattle.laws.specs.Fits.{M-fits}
+use Rattle.laws.specs.Axioms.{axiomsFrom, axioms-more, order-number}
 use Rattle.laws.specs.Ranges.{range-shift}
 use Rattle.decode.specs.declared.Checked.{Checked}
 use Rattle.decode.specs.Truth.{trueClause, tests}
@@ -75,38 +76,27 @@ module _ (B : Board) (model : List ℕ) (x : ℕ) (h : boundsOf B x .lo ≤ℤ b
   hi = boundsOf B x .hi
 
   below : (k : ℕ) → number B (order x (lo +ℤ pos k -ℤ pos 1)) ≡ first B x + k
-  unfolding number
-  below k =
-      let c = lo +ℤ pos k -ℤ pos 1 in
-      let e : size (c -ℤ lo +ℤ pos 1) ≡ k = omega (whole, add-law (c -ℤ lo) (pos 1), sub-law c lo, sub-law (lo +ℤ pos k) (pos 1), add-law lo (pos k), part-law (c -ℤ lo +ℤ pos 1)) in
-      ap (λ n. first B x + n) e
+  below k = let c = lo +ℤ pos k -ℤ pos 1 in order-number B x c k (omega (whole, add-law c (pos 1), sub-law (lo +ℤ pos k) (pos 1)))
 
-  pub at-offset : (k : ℕ) → number B (order x (lo +ℤ pos k)) ≡ first B x + k + 1
-  unfolding number
+  at-offset : (k : ℕ) → number B (order x (lo +ℤ pos k)) ≡ first B x + k + 1
   at-offset k =
       let c = lo +ℤ pos k in
-      let e : size (c -ℤ lo +ℤ pos 1) ≡ k + 1 = omega (whole, add-law (c -ℤ lo) (pos 1), sub-law c lo, add-law lo (pos k), part-law (c -ℤ lo +ℤ pos 1)) in
-      ap (λ n. first B x + n) e ∙ omega arith
+      order-number B x c (k + 1) (omega (whole, add-law c (pos 1), add-law lo (pos k), add-law lo (pos (k + 1)))) ∙ omega arith
 
   lowest : number B (order x (lo -ℤ pos 1)) ≡ first B x
-  unfolding number
-  lowest =
-      let c = lo -ℤ pos 1 in
-      let e : size (c -ℤ lo +ℤ pos 1) ≡ 0 = omega (whole, add-law (c -ℤ lo) (pos 1), sub-law c lo, sub-law lo (pos 1), part-law (c -ℤ lo +ℤ pos 1)) in
-      ap (λ n. first B x + n) e ∙ add-zero _
+  lowest = let c = lo -ℤ pos 1 in order-number B x c 0 (omega (whole, add-law c (pos 1), sub-law lo (pos 1), add-law lo (pos 0))) ∙ add-zero _
+
+  -- as many steps as order variables, less 1
+  count : size (sucℤ hi -ℤ lo) ≡ first B x + width (boundsOf B x) - 1 - first B x
+  unfolding width
+  count = omega (whole, add-law (hi -ℤ lo) (pos 2), sub-law hi lo, sub-law (sucℤ hi) lo, suc-law hi, part-law (sucℤ hi -ℤ lo), part-law (hi -ℤ lo +ℤ pos 2))
 
   highest : number B (order x hi) ≡ first B x + width (boundsOf B x) - 1
-  unfolding number width
-  highest =
-      let z = hi -ℤ lo +ℤ pos 1 in
-      let w = hi -ℤ lo +ℤ pos 2 in
-      omega (whole, add-law (hi -ℤ lo) (pos 1), add-law (hi -ℤ lo) (pos 2), sub-law hi lo, part-law z, part-law w)
-
-  steps : size (sucℤ hi -ℤ lo) ≡ first B x + width (boundsOf B x) - 1 - first B x
   unfolding width
-  steps =
-      let w = hi -ℤ lo +ℤ pos 2 in
-      omega (whole, add-law (hi -ℤ lo) (pos 2), sub-law hi lo, sub-law (sucℤ hi) lo, suc-law hi, part-law (sucℤ hi -ℤ lo), part-law w)
+  highest =
+      let k = width (boundsOf B x) - 1 in
+      let w = part-law (hi -ℤ lo +ℤ pos 2) in
+      order-number B x hi k (omega (whole, add-law hi (pos 1), add-law lo (pos k), add-law (hi -ℤ lo) (pos 2), sub-law hi lo, w)) ∙ omega (whole, add-law (hi -ℤ lo) (pos 2), sub-law hi lo, w)
 
   abbrev step : ℤ → SatClause
   step c = minus (order x (c -ℤ pos 1)) ∷ plus (order x c) ∷ []
@@ -127,29 +117,16 @@ module _ (B : Board) (model : List ℕ) (x : ℕ) (h : boundsOf B x .lo ≤ℤ b
       ∙ map-map (λ c. trueClause B model (step c)) (λ k. lo +ℤ pos k) (countUp 0 n)
       ∙ map-same (λ k. trueClause B model (step (lo +ℤ pos k))) (λ k. rises model (f + k)) (countUp 0 n) (all-every _ step-test (countUp 0 n))
       ∙ sym (map-map (rises model) (λ k. f + k) (countUp 0 n))
-      ∙ ap (map (rises model)) (countUp-shift f 0 n ∙ ap₂ countUp (add-zero f) steps)))
+      ∙ ap (map (rises model)) (countUp-shift f 0 n ∙ ap₂ countUp (add-zero f) count)))
 
--- ---- variable by variable: those from x on
-unfoldable pub axiomsFrom : Board → List ℕ → ℕ → List Bool
-axiomsFrom B model x = tests B model (flatten (map (axiomsOf (boundsOf B)) (countUp x (length (B .bounds) - x))))
-
+-- ---- variable by variable
 module _ (B : Board) (model : List ℕ) where
-  pub axioms-all : axiomsFrom B model 0 ≡ tests B model (flatten (axioms B))
-  unfolding axiomsFrom axioms variables
-  axioms-all = rw sub-zero
-
   pub axioms-first : (x : ℕ) → x < length (B .bounds) → boundsOf B x .lo ≤ℤ boundsOf B x .hi
-      → axiomsFrom B model x ≡ axiomTests model (first B x) (first B x + width (boundsOf B x) - 1) ++ axiomsFrom B model (x + 1)
-  unfolding axiomsFrom flatten
+      → tests B model (axiomsFrom B x) ≡ axiomTests model (first B x) (first B x + width (boundsOf B x) - 1) ++ tests B model (axiomsFrom B (x + 1))
   axioms-first x h o =
-      let rest = flatten (map (axiomsOf (boundsOf B)) (countUp (x + 1) (length (B .bounds) - (x + 1)))) in
-      ap (λ l. tests B model (flatten (map (axiomsOf (boundsOf B)) l))) (countUp-first x (length (B .bounds)) h)
-      ∙ map-append (trueClause B model) (axiomsOf (boundsOf B) x) rest
-      ∙ ap (λ l. l ++ tests B model rest) (axioms-tests B model x o)
-
-  pub axioms-none : (x : ℕ) → length (B .bounds) ≤ x → axiomsFrom B model x ≡ []
-  unfolding axiomsFrom flatten
-  axioms-none x h = ap (λ l. tests B model (flatten (map (axiomsOf (boundsOf B)) l))) (countUp-none x (length (B .bounds)) h)
+      ap (tests B model) (axioms-more B x h)
+      ∙ map-append (trueClause B model) (axiomsOf (boundsOf B) x) (axiomsFrom B (x + 1))
+      ∙ ap (λ l. l ++ tests B model (axiomsFrom B (x + 1))) (axioms-tests B model x o)
 
   pub axioms-fit : Admitted B → length (tests B model (flatten (axioms B))) < 2 ^ 63
   unfolding M

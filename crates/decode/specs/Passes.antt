@@ -28,7 +28,7 @@ use Rattle.walk.specs.Walks.{places, left, seen, Over}
 use Rattle.decode.specs.Given.{Opened, clauses-is, admitted}
 use Rattle.decode.specs.Truth.{trueClause, tests}
 use Rattle.decode.specs.Goes.{Goes, goes-start, goes-one, goes-stop, goes-end}
-use Rattle.decode.specs.Tails.{InModel, clauseTest, leadOf, Tails, tails-tests, tails-numbered}
+use Rattle.decode.specs.Tails.{clauseTest, leadOf, Tails, tails-tests, tails-numbered}
 
 -- the pieces at the cursor, the tests of their clauses, and the tests of all the rules' clauses
 abbrev pub ahead : Board → List ℕ → Cursor → List Piece
@@ -51,7 +51,7 @@ module _ (B : Board) (model t : List ℕ) where
   pub record Walks (i n : ℕ) (lead : Bool) (q : Comparison) (at : At) (c : Cursor) : Type 0 where
     pub goes : Goes i (ruleTests B model) n (map (clauseTest model lead) (toCome q at) ++ testsAt B model t c)
     pub walking : Walking q at
-    pub numbered : All (All (InModel model)) (toCome q at)
+    pub numbered : All (All (Mentions.InList (length model))) (toCome q at)
 
 module _ {B : Board} {model t : List ℕ} {i n : ℕ} {c : Cursor} (h : Passing B model t i n c) where
   pub passing-end : ahead B t c ≡ [] → done tt ≡ each 13 i (ruleTests B model)
@@ -99,7 +99,7 @@ module _ {B : Board} {model t : List ℕ} {i n : ℕ} {lead : Bool} {q : Compari
       walks-less = rw (e, onward .1) (omega arith)
 
     -- of the present tuple
-    pub walks-numbered : All (InModel model) (present q w)
+    pub walks-numbered : All (Mentions.InList (length model)) (present q w)
     unfolding toCome left present
     walks-numbered = (rw e at (h .numbered)) .0
 

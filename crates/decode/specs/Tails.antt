@@ -5,27 +5,23 @@ use mathlib.Core.List.{List, [], _∷_, _++_, map, zipWith, append-nil, map-map}
 use Prim.Native.Nat.{ℕ, _≤_}
 use native.Mathlib.Omega.{arith}
 use lib.ListN.{length}
-use lib.IntN.{ℤ, negsuc, natAbs}
+use lib.IntN.{ℤ, negsuc}
 use lib.Signed.{_≤ℤ_, _<ℤ_}
 use Rattle.definitions.specs.Tools.{All, any}
 use Rattle.definitions.specs.Board.{Board, boundsOf}
 use Rattle.definitions.specs.Board as board
-use Rattle.definitions.specs.Encoding.{SatLiteral, SatClause, minus, selector, least, tuples, tuplesOf, sharp, clausesUnder, number, N, literalNumber}
+use Rattle.definitions.specs.Encoding.{SatClause, minus, selector, least, tuples, tuplesOf, sharp, clausesUnder, number, N, literalNumber}
 use Rattle.definitions.specs.Meaning.{on, satisfies, inModel}
 use Rattle.laws.specs.Whole.{le-test, gt-test}
 use Rattle.laws.specs.Some.{any-append}
 use Rattle.laws.specs.Lists.{all-impl, all-map, map-all, append-all, map-same}
 use Rattle.laws.specs.Pieces.{Piece, line, under, pieceClauses}
 use Rattle.laws.specs.Layout.{number-range}
-use Rattle.laws.specs.Mentions.{atomOf, Mentions, Sound, piece-mentions, literal-size}
+use Rattle.laws.specs.Mentions.{atomOf, Mentions, InList, Sound, piece-mentions, literal-size}
 use Rattle.walk.specs.declared.Comparison.{Comparison}
 use Rattle.walk.specs.Comparisons.{FairComparison, literalsOf, shows-literals}
 use Rattle.slots.specs.Ready.{ReadyFor}
 use Rattle.decode.specs.Truth.{selectorNumber, trueNumber, trueClause, Numbered, clause-true}
-
--- a literal's number of which the model has a byte
-abbrev pub InModel : List ℕ → ℤ → Type 0
-InModel model z = (1 ≤ natAbs z) × (natAbs z ≤ length model)
 
 -- one tuple, without literals
 pub record Single (c : Comparison) : Type 0 where
@@ -86,14 +82,11 @@ module _ (B : Board) (model : List ℕ) (p : Piece) (c : Comparison) (h : Tails 
       all-impl (λ t. All (Mentions B) (leadOf p ++ t)) (All (Mentions B)) (λ t a. append-all (Mentions B) (leadOf p) t a .1) (h .tails)
       (map-all (All (Mentions B)) (λ t. leadOf p ++ t) (h .tails) (rw (h .clauses) at (piece-mentions B p s)))
 
-  numbered : (l : SatLiteral) → Mentions B l → Numbered B model l
-  numbered l a = number-range B (atomOf l) a .0
-
   tail-test : (t : SatClause) → All (Mentions B) t
       → trueClause B model (leadOf p ++ t) ≡ clauseTest model (trueClause B model (leadOf p)) (map (literalNumber B) t)
   tail-test t a =
       any-append (satisfies (inModel B model)) (leadOf p) t
-      ∙ ap (λ b. trueClause B model (leadOf p) || b) (clause-true B model t (all-impl (Mentions B) (Numbered B model) numbered t a))
+      ∙ ap (λ b. trueClause B model (leadOf p) || b) (clause-true B model t (all-impl (Mentions B) (Numbered B) (λ l m. number-range B (atomOf l) m .0) t a))
 
   -- the tests of the piece's clauses, by the tuples' literals
   pub tails-tests : map (trueClause B model) (pieceClauses (boundsOf B) p) ≡ map (clauseTest model (trueClause B model (leadOf p))) (literalsOf c)
@@ -105,12 +98,12 @@ module _ (B : Board) (model : List ℕ) (p : Piece) (c : Comparison) (h : Tails 
       ∙ sym (map-map (clauseTest model (trueClause B model (leadOf p))) (map (literalNumber B)) (h .tails))
       ∙ ap (map (clauseTest model (trueClause B model (leadOf p)))) (sym (h .literals))
 
-  pub tails-numbered : length model ≡ N B → All (All (InModel model)) (literalsOf c)
+  pub tails-numbered : length model ≡ N B → All (All (InList (length model))) (literalsOf c)
   tails-numbered e =
       rw (h .literals)
-      (all-map (All (InModel model)) (map (literalNumber B)) (h .tails)
-      (all-impl (All (Mentions B)) (λ t. All (InModel model) (map (literalNumber B) t))
-      (λ t a. all-map (InModel model) (literalNumber B) t (all-impl (Mentions B) (λ l. InModel model (literalNumber B l)) (λ l k. rw (literal-size B l, e) (number-range B (atomOf l) k)) t a))
+      (all-map (All (InList (length model))) (map (literalNumber B)) (h .tails)
+      (all-impl (All (Mentions B)) (λ t. All (InList (length model)) (map (literalNumber B) t))
+      (λ t a. all-map (InList (length model)) (literalNumber B) t (all-impl (Mentions B) (λ l. InList (length model) (literalNumber B l)) (λ l k. rw (literal-size B l, e) (number-range B (atomOf l) k)) t a))
       (h .tails) tails-mention))
 
 -- a negated selector

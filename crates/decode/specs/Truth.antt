@@ -31,6 +31,10 @@ module _ (model : List ℕ) where
   true-below (pos v) h = absurd (omega whole)
   true-below (negsuc v) h = refl
 
+-- its number is from 1 on
+abbrev pub Numbered : Board → SatLiteral → Type 0
+Numbered B l = 1 ≤ number B (atomOf l)
+
 module _ (B : Board) (model : List ℕ) where
   abbrev pub trueClause : SatClause → Bool
   trueClause c = any (satisfies (inModel B model)) c
@@ -39,11 +43,7 @@ module _ (B : Board) (model : List ℕ) where
   abbrev pub tests : List SatClause → List Bool
   tests cs = map trueClause cs
 
-  -- its number is from 1 on
-  abbrev pub Numbered : SatLiteral → Type 0
-  Numbered l = 1 ≤ number B (atomOf l)
-
-  pub literal-true : (l : SatLiteral) → Numbered l → satisfies (inModel B model) l ≡ trueNumber model (literalNumber B l)
+  pub literal-true : (l : SatLiteral) → Numbered B l → satisfies (inModel B model) l ≡ trueNumber model (literalNumber B l)
   unfolding satisfies inModel literalNumber
   literal-true (plus a) h = refl
   literal-true (minus a) h = go (number B a) h
@@ -52,6 +52,6 @@ module _ (B : Board) (model : List ℕ) where
       go zero h = absurd (omega arith)
       go (suc v) h = refl
 
-  pub clause-true : (c : SatClause) → All Numbered c → trueClause c ≡ any (trueNumber model) (map (literalNumber B) c)
+  pub clause-true : (c : SatClause) → All (Numbered B) c → trueClause c ≡ any (trueNumber model) (map (literalNumber B) c)
   clause-true [] h = refl
   clause-true (l ∷ c) h = ap₂ _||_ (literal-true l (h .0)) (clause-true c (h .1))

@@ -26,29 +26,30 @@ fn holds_from(model: &[u8], v: usize) -> bool
     true
 }
 
-// The axioms of a variable whose order variables are those from first to last.
-fn search_variable(model: &[u8], first: usize, last: usize, number: usize) -> Checked
-    requires { ⌜ (1 ≤ first) × (first ≤ last) × (last ≤ length (now model)) × (length (now model) < 2147483648) × (number < 9223372036854775808) ⌝ }
-    ensures { λ r. ⌜ Sought number (axiomTests (now (model .entry)) first last) r ⌝ }
+// The axioms of a variable whose order variables are those from first to last; they are counted from `from` on.
+fn search_variable(model: &[u8], first: usize, last: usize, from: usize) -> Checked
+    requires { ⌜ (1 ≤ first) × (first ≤ last) × (last ≤ length (now model)) × (length (now model) < 2147483648) × (from < 9223372036854775808) ⌝ }
+    ensures { λ r. ⌜ Sought from (axiomTests (now (model .entry)) first last) r ⌝ }
 {
     if is_on(model, first) {
-        return Checked::Fails(number);
+        return Checked::Fails(from);
     }
     if !is_on(model, last) {
-        return Checked::Fails(number + 1);
+        return Checked::Fails(from + 1);
     }
     let mut v = first;
-    let mut at = number + 2;
+    let mut number = from + 2;
     while v < last {
         if !holds_from(model, v) {
-            return Checked::Fails(at);
+            return Checked::Fails(number);
         }
         v += 1;
-        at += 1;
+        number += 1;
     }
-    Checked::Hold(at)
+    Checked::Hold(number)
 }
 
+// The axioms of each variable in turn.
 pub fn search_axioms(bytes: &[u8], model: &[u8], header: Header) -> Checked
     requires { ⌜ Given (now bytes) (now model) header ⌝ }
     ensures { λ r. ⌜ Sought 0 (tests (boardOf (now (bytes .entry))) (now (model .entry)) (flatten (axioms (boardOf (now (bytes .entry)))))) r ⌝ }

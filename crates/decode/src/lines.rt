@@ -22,6 +22,7 @@ ghost use Rattle.decode.specs.Given.{Given};
 ghost use Rattle.decode.specs.Truth.{trueClause};
 ghost use Rattle.decode.specs.Lines.{numberIn, signed, selectorAfter};
 
+// What the reader of a literal has to know of the record.
 pub fn known_of(header: Header) -> Context
     requires { ⌜ (header .ints ≤ 1024) × (header .bools ≤ 4096) ⌝ }
     ensures { λ r. ⌜ contextOf r ≡ record { version = 1; ints = header .ints; bools = header .bools } ⌝ }
@@ -33,7 +34,7 @@ pub fn known_of(header: Header) -> Context
     }
 }
 
-// The next selector is j of those that have the numbers from `selectors` on.
+// Whether a literal of a line holds: a comparison stands there as selector j, and selector 0 has the number `selectors`.
 fn literal_holds(model: &[u8], literal: Literal, selectors: usize, j: usize) -> bool
     requires { ⌜ (1 ≤ numberIn (selectors + j) literal) × (numberIn (selectors + j) literal ≤ length (now model)) × (length (now model) < 2147483648) ⌝ }
     ensures { λ r. ⌜ r ≡ signed (now (model .entry)) (selectors + j) literal ⌝ }
@@ -63,7 +64,7 @@ fn selector_after(literal: Literal, j: usize) -> usize
     }
 }
 
-// Whether some literal of the line holds: n literals at a place, the first selector.
+// Whether some literal of a line holds: it has n literals, from the place `at` on, and selectors from `selector` on.
 pub fn line_holds(
     bytes: &[u8],
     rules: &[u8],

@@ -19,12 +19,12 @@ ghost use lib.ListN.{length};
 ghost use Rattle.definitions.specs.Tools.{All};
 ghost use Rattle.laws.specs.Boards.{boardOf};
 ghost use Rattle.laws.specs.Reread.{comparisonAt, contextOf};
-ghost use Rattle.laws.specs.Mentions.{Sound};
+ghost use Rattle.laws.specs.Mentions.{InList, Sound};
 ghost use Rattle.rules.specs.Cursors.{saidPiece, Held, Stands};
 ghost use Rattle.walk.specs.Comparisons.{FairComparison, Walking, present};
 ghost use Rattle.decode.specs.Given.{Given, Opened};
 ghost use Rattle.decode.specs.Truth.{trueClause};
-ghost use Rattle.decode.specs.Tails.{clauseTest, leadOf, Tails, Single, InModel, TailsOf};
+ghost use Rattle.decode.specs.Tails.{clauseTest, leadOf, Tails, Single, TailsOf};
 
 // Whether the piece's lead holds: of a line, some literal; of a comparison, its negated selector.
 pub fn lead_holds(bytes: &[u8], rules: &[u8], model: &[u8], header: Header, piece: Piece) -> bool
@@ -83,7 +83,7 @@ fn tails_at(bytes: &[u8], rules: &[u8], header: Header, place: usize, constant: 
     c
 }
 
-// What is walked for the clauses of a piece.
+// What is walked for the clauses of a piece: each tuple gives what stands behind the lead.
 pub fn tails_of(bytes: &[u8], rules: &[u8], header: Header, piece: Piece) -> Comparison
     requires { ⌜ Opened (now bytes) header × Held (contextOf (boardOf (now bytes))) (now rules) piece ⌝ }
     ensures { λ r. ⌜ Tails (boardOf (now (bytes .entry))) (saidPiece (contextOf (boardOf (now (bytes .entry)))) (now (rules .entry)) piece) r ⌝ }
@@ -104,16 +104,16 @@ pub fn tails_of(bytes: &[u8], rules: &[u8], header: Header, piece: Piece) -> Com
 }
 
 // Whether the lead or some literal of the present tuple holds.
-pub fn clause_holds(model: &[u8], lead: bool, c: Comparison, w: Walk) -> bool
-    requires { ⌜ FairComparison c × Walking c (At.Tuple w) × All (InModel (now model)) (present c w) × (length (now model) < 2147483648) ⌝ }
-    ensures { λ r. ⌜ r ≡ clauseTest (now (model .entry)) lead (present c w) ⌝ }
+pub fn clause_holds(model: &[u8], lead: bool, tails: Comparison, tuple: Walk) -> bool
+    requires { ⌜ FairComparison tails × Walking tails (At.Tuple tuple) × All (InList (length (now model))) (present tails tuple) × (length (now model) < 2147483648) ⌝ }
+    ensures { λ r. ⌜ r ≡ clauseTest (now (model .entry)) lead (present tails tuple) ⌝ }
 {
     if lead {
         return true;
     }
     let mut i: usize = 0;
-    while i < c.n {
-        if holds(model, literal_at(c, w, i)) {
+    while i < tails.n {
+        if holds(model, literal_at(tails, tuple, i)) {
             return true;
         }
         i += 1;

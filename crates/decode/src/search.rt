@@ -31,6 +31,7 @@ ghost use Rattle.decode.specs.Truth.{tests};
 ghost use Rattle.decode.specs.Next.{Came};
 ghost use Rattle.decode.specs.Passes.{ruleTests};
 
+// The next piece at or behind the cursor.
 fn next_piece(rules: &[u8], known: Context, cursor: Cursor) -> Ahead
     requires { ⌜ Sound (contextOf known) (now rules) cursor ⌝ }
     ensures { λ r. ⌜ Came (contextOf known) (now (rules .entry)) cursor r ⌝ }
@@ -51,19 +52,13 @@ fn next_piece(rules: &[u8], known: Context, cursor: Cursor) -> Ahead
     }
 }
 
-// The clauses are counted from `number` on.
-pub fn search_rules(
-    bytes: &[u8],
-    rules: &[u8],
-    model: &[u8],
-    header: Header,
-    number: usize,
-) -> Found
-    requires { ⌜ Given (now bytes) (now model) header × (now rules ≡ drop (tableEnd (boardOf (now bytes))) (now bytes)) × (number + length (ruleTests (boardOf (now bytes)) (now model)) < 9223372036854775808) ⌝ }
-    ensures { λ r. ⌜ saidFound 13 r ≡ each 13 number (ruleTests (boardOf (now (bytes .entry))) (now (model .entry))) ⌝ }
+// The clauses of the rules, which are counted from `from` on: piece by piece, and in each piece tuple by tuple.
+pub fn search_rules(bytes: &[u8], rules: &[u8], model: &[u8], header: Header, from: usize) -> Found
+    requires { ⌜ Given (now bytes) (now model) header × (now rules ≡ drop (tableEnd (boardOf (now bytes))) (now bytes)) × (from + length (ruleTests (boardOf (now bytes)) (now model)) < 9223372036854775808) ⌝ }
+    ensures { λ r. ⌜ saidFound 13 r ≡ each 13 from (ruleTests (boardOf (now (bytes .entry))) (now (model .entry))) ⌝ }
 {
     let known = known_of(header);
-    let mut at = number;
+    let mut number = from;
     let mut cursor = start(header.clauses);
     let found = 'search: loop {
         let Ahead::Met(piece, behind) = next_piece(rules, known, cursor) else {
@@ -71,23 +66,23 @@ pub fn search_rules(
         };
         let lead = lead_holds(bytes, rules, model, header, piece);
         let tails = tails_of(bytes, rules, header, piece);
-        let mut tuple = first(tails);
+        let mut here = first(tails);
         loop {
-            let At::Tuple(w) = tuple else {
+            let At::Tuple(tuple) = here else {
                 break;
             };
-            if !clause_holds(model, lead, tails, w) {
-                break 'search Found::At(at);
+            if !clause_holds(model, lead, tails, tuple) {
+                break 'search Found::At(number);
             }
-            at += 1;
-            tuple = next(w);
+            number += 1;
+            here = next(tuple);
         }
         cursor = behind;
     };
     found
 }
 
-// All clauses: the axioms, then the rules, which stand from the end of the variable table on.
+// The first of all clauses that does not hold: the axioms come first, then the rules, which stand where the variable table ends.
 pub fn search_clauses(bytes: &[u8], model: &[u8], header: Header) -> Found
     requires { ⌜ Given (now bytes) (now model) header ⌝ }
     ensures { λ r. ⌜ saidFound 13 r ≡ each 13 0 (tests (boardOf (now (bytes .entry))) (now (model .entry)) (clauses (boardOf (now (bytes .entry))))) ⌝ }

@@ -14,6 +14,7 @@ pub fn is_on(model: &[u8], v: usize) -> bool
     model[v - 1] == 1
 }
 
+// A negative number is a negated literal.
 pub fn holds(model: &[u8], literal: i32) -> bool
     requires { ⌜ (1 ≤ natAbs literal) × (natAbs literal ≤ length (now model)) × (length (now model) < 2147483648) ⌝ }
     ensures { λ r. ⌜ r ≡ trueNumber (now (model .entry)) literal ⌝ }

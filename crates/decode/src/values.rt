@@ -27,9 +27,11 @@ fn value_of(model: &[u8], first: usize, bounds: slots::Bounds) -> i32
         }
         k += 1;
     }
+    // no other is true, so upper's own need not be looked at
     bounds.upper
 }
 
+// The value of each variable in turn.
 pub fn write_values(bytes: &[u8], model: &[u8], header: Header, values: &mut [i32])
     requires { ⌜ Given (now bytes) (now model) header × (length (now values) ≡ header .ints) ⌝ }
     ensures { λ _. ⌜ now (values .exit) ≡ valuesOf (boardOf (now (bytes .entry))) (now (model .entry)) ⌝ }
@@ -44,6 +46,7 @@ pub fn write_values(bytes: &[u8], model: &[u8], header: Header, values: &mut [i3
     }
 }
 
+// The Booleans are the first bytes of the model.
 pub fn write_booleans(model: &[u8], booleans: &mut [u8])
     requires { ⌜ length (now booleans) ≤ length (now model) ⌝ }
     ensures { λ _. ⌜ now (booleans .exit) ≡ take (length (now (booleans .entry))) (now (model .entry)) ⌝ }

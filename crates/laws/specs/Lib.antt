@@ -10,6 +10,7 @@ pub mod Offsets
 pub mod Tuples
 pub mod Ranges
 pub mod Layout
+pub mod Axioms
 pub mod Outcomes
 pub mod Decide
 pub mod Tests

@@ -1,7 +1,8 @@
 -- `decode::axioms::search_axioms` meets its contract.
 use borrow.Author.Needs.{needs}
 use mathlib.Core.Path.{_≡_, sym, ap, ap₂, _∙_}
-use mathlib.Core.List.{_++_, flatten}
+use mathlib.Core.Bool.{Bool}
+use mathlib.Core.List.{List, _++_, flatten}
 use Prim.Native.Nat.{ℕ, _+_, _-_, _≤_, _<_}
 use native.Mathlib.Omega.{arith}
 use lib.ListN.{length}
@@ -9,17 +10,18 @@ use Rattle.definitions.specs.Board.{Board}
 use Rattle.definitions.specs.Encoding.{width, axioms}
 use Rattle.definitions.specs.Encoding as Encoding
 use Rattle.laws.specs.Boards.{boardOf}
+use Rattle.laws.specs.Axioms.{axiomsFrom, axioms-all, axioms-none}
 use Rattle.slots.specs.Variables.{bounds-same, first-none, first-more}
 use Rattle.decode.specs.Given.{ints-is, bools-is, counts-small, admitted, short, inside, ordered, within}
 use Rattle.decode.specs.Truth.{tests}
 use Rattle.decode.specs.Goes.{Goes, goes-start, goes-part, goes-fails, goes-end}
-use Rattle.decode.specs.Axioms.{axiomTests, axiomsFrom, axioms-all, axioms-first, axioms-none, axioms-fit}
+use Rattle.decode.specs.Axioms.{axiomTests, axioms-first, axioms-fit}
 use Rattle.decode.proofs.axioms.search_axioms.Statement.{statement}
 use Rattle.decode.proofs.axioms.search_axioms.Tie as tie
 
 abbrev Inv-loop : tie.InvT-loop
 Inv-loop bytes model header x₀ first₀ number₀ x first number =
-    (x ≤ header .ints) × (first ≡ Encoding.first (boardOf bytes) x) × Goes 0 (tests (boardOf bytes) model (flatten (axioms (boardOf bytes)))) number (axiomsFrom (boardOf bytes) model x)
+    (x ≤ header .ints) × (first ≡ Encoding.first (boardOf bytes) x) × Goes 0 (tests (boardOf bytes) model (flatten (axioms (boardOf bytes)))) number (tests (boardOf bytes) model (axiomsFrom (boardOf bytes) x))
 
 abbrev μ-loop : tie.MeasureT-loop
 μ-loop bytes model header x₀ first₀ number₀ x first number = header .ints - x
@@ -37,17 +39,20 @@ module _ (c : tie.After-width-of Inv-loop μ-loop) where
       let w = within (c .before .before .before .before .before .before .before .before .pre) x (c .before .before .if1 .taken) (c .before .bounds-of .ensures) in
       rw (c .before .before .before .before .loop .inv .1, c .width-of .ensures) (w .0, w .1, w .2, short (c .before .before .before .before .before .before .before .before .pre))
 
-  here : axiomsFrom (B (c .before .before .before .before .before .before .before .before)) (c .before .before .before .before .before .before .before .before .args .model .now) x ≡ axiomTests (c .before .before .before .before .before .before .before .before .args .model .now) (c .before .before .before .before .loop .first) (c .before .before .before .before .loop .first + c .width-of .result - 1) ++ axiomsFrom (B (c .before .before .before .before .before .before .before .before)) (c .before .before .before .before .before .before .before .before .args .model .now) (x + 1)
+  abbrev testsFrom : ℕ → List Bool
+  testsFrom y = tests (B (c .before .before .before .before .before .before .before .before)) (c .before .before .before .before .before .before .before .before .args .model .now) (axiomsFrom (B (c .before .before .before .before .before .before .before .before)) y)
+
+  here : testsFrom x ≡ axiomTests (c .before .before .before .before .before .before .before .before .args .model .now) (c .before .before .before .before .loop .first) (c .before .before .before .before .loop .first + c .width-of .result - 1) ++ testsFrom (x + 1)
   here =
       axioms-first (B (c .before .before .before .before .before .before .before .before)) (c .before .before .before .before .before .before .before .before .args .model .now) x (inside (c .before .before .before .before .before .before .before .before .pre) x (c .before .before .if1 .taken) (c .before .bounds-of .ensures)) (ordered (c .before .before .before .before .before .before .before .before .pre) x (c .before .before .if1 .taken) (c .before .bounds-of .ensures))
-      ∙ ap₂ (λ f w. axiomTests (c .before .before .before .before .before .before .before .before .args .model .now) f (f + w - 1) ++ axiomsFrom (B (c .before .before .before .before .before .before .before .before)) (c .before .before .before .before .before .before .before .before .args .model .now) (x + 1)) (sym (c .before .before .before .before .loop .inv .1)) (sym (c .width-of .ensures ∙ ap width (bounds-same (B (c .before .before .before .before .before .before .before .before)) x _ (c .before .bounds-of .ensures))))
+      ∙ ap₂ (λ f w. axiomTests (c .before .before .before .before .before .before .before .before .args .model .now) f (f + w - 1) ++ testsFrom (x + 1)) (sym (c .before .before .before .before .loop .inv .1)) (sym (c .width-of .ensures ∙ ap width (bounds-same (B (c .before .before .before .before .before .before .before .before)) x _ (c .before .bounds-of .ensures))))
 
 add-first : tie.Need-add-first Inv-loop μ-loop
 add-first c = omega (arith, counts-small (c .before .before .before .pre .opened))
 
 loop-holds : tie.Need-loop-holds Inv-loop μ-loop
 loop-holds c =
-    (omega arith, rw (bools-is (c .before .before .before .pre .opened)) (sym (first-none (B (c .before .before .before)))), rw (axioms-all (B (c .before .before .before)) (c .before .before .before .args .model .now)) (goes-start 0 _))
+    (omega arith, rw (bools-is (c .before .before .before .pre .opened)) (sym (first-none (B (c .before .before .before)))), rw (axioms-all (B (c .before .before .before))) (goes-start 0 _))
 
 bounds-of-requires : tie.Need-bounds-of-requires Inv-loop μ-loop
 bounds-of-requires c κs = (c .before .before .before .before .before .before .pre .opened .opens, omega (arith, ints-is (c .before .before .before .before .before .before .pre .opened)))
@@ -97,7 +102,7 @@ loop-again c =
 
 returns-2 : tie.Need-returns-2 Inv-loop μ-loop
 returns-2 c =
-    goes-end (c .before .before .loop .inv .2) (axioms-none (B (c .before .before .before .before .before .before)) (c .before .before .before .before .before .before .args .model .now) _ (omega (arith, ints-is (c .before .before .before .before .before .before .pre .opened))))
+    goes-end (c .before .before .loop .inv .2) (ap (tests (B (c .before .before .before .before .before .before)) (c .before .before .before .before .before .before .args .model .now)) (axioms-none (B (c .before .before .before .before .before .before)) _ (omega (arith, ints-is (c .before .before .before .before .before .before .pre .opened)))))
 
 pub search-axioms-spec : {M : Type 1} → statement M
 search-axioms-spec =

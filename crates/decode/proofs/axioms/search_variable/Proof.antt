@@ -11,11 +11,11 @@ use Rattle.decode.proofs.axioms.search_variable.Statement.{statement}
 use Rattle.decode.proofs.axioms.search_variable.Tie as tie
 
 abbrev Inv-loop : tie.InvT-loop
-Inv-loop model first last number v₀ at₀ v at =
-    (first ≤ v) × (v ≤ last) × (at ≤ number + 2 + v) × Goes number (axiomTests model first last) at (map (rises model) (countUp v (last - v)))
+Inv-loop model first last from v₀ number₀ v number =
+    (first ≤ v) × (v ≤ last) × (number ≤ from + 2 + v) × Goes from (axiomTests model first last) number (map (rises model) (countUp v (last - v)))
 
 abbrev μ-loop : tie.MeasureT-loop
-μ-loop model first last number v₀ at₀ v at = last - v
+μ-loop model first last from v₀ number₀ v number = last - v
 
 is-on-requires : tie.Need-is-on-requires Inv-loop μ-loop
 is-on-requires c κs = omega arith
@@ -34,8 +34,8 @@ returns-2 : tie.Need-returns-2 Inv-loop μ-loop
 returns-2 c =
     last-fails _ _ _ _ (sym (c .before .before .before .is-on .ensures) ∙ c .before .before .if1 .left) (sym (c .before .is-on2 .ensures) ∙ not-true _ (c .if2 .taken))
 
-add-at : tie.Need-add-at Inv-loop μ-loop
-add-at c = omega arith
+add-number : tie.Need-add-number Inv-loop μ-loop
+add-number c = omega arith
 
 loop-holds : tie.Need-loop-holds Inv-loop μ-loop
 loop-holds c =
@@ -51,8 +51,8 @@ returns-3 c =
 add-v : tie.Need-add-v Inv-loop μ-loop
 add-v c = omega arith
 
-add-at-2 : tie.Need-add-at-2 Inv-loop μ-loop
-add-at-2 c = omega arith
+add-number-2 : tie.Need-add-number-2 Inv-loop μ-loop
+add-number-2 c = omega arith
 
 loop-less : tie.Need-loop-less Inv-loop μ-loop
 loop-less c = omega arith
@@ -76,12 +76,12 @@ search-variable-spec =
     is-on-requires-2
     add-t10
     returns-2
-    add-at
+    add-number
     loop-holds
     holds-from-requires
     returns-3
     add-v
-    add-at-2
+    add-number-2
     loop-less
     loop-again
     returns-4)

@@ -10,27 +10,27 @@ use mir.Val.{SFits}
 use mir.Facts.{toZ-ofZ}
 use Rattle.definitions.specs.Tools.{any}
 use Rattle.laws.specs.Lists.{all-at}
+use Rattle.laws.specs.Mentions.{InList}
 use Rattle.laws.specs.Some.{any-hit, any-miss, any-none}
 use Rattle.walk.specs.Comparisons.{present, present-length}
 use Rattle.decode.specs.Truth.{trueNumber}
-use Rattle.decode.specs.Tails.{InModel}
 use Rattle.decode.proofs.pieces.clause_holds.Statement.{statement}
 use Rattle.decode.proofs.pieces.clause_holds.Tie as tie
 
 abbrev Inv-loop : tie.InvT-loop
-Inv-loop model lead c w i₀ i =
-    (i ≤ c .n) × (any (trueNumber model) (drop i (present c w)) ≡ any (trueNumber model) (present c w))
+Inv-loop model lead tails tuple i₀ i =
+    (i ≤ tails .n) × (any (trueNumber model) (drop i (present tails tuple)) ≡ any (trueNumber model) (present tails tuple))
 
 abbrev μ-loop : tie.MeasureT-loop
-μ-loop model lead c w i₀ i = c .n - i
+μ-loop model lead tails tuple i₀ i = tails .n - i
 
 -- the literals of the tuple
 module _ (c : tie.Start Inv-loop μ-loop) where
   abbrev literals : List ℤ
-  literals = present (c .args .c) (c .args .w)
+  literals = present (c .args .tails) (c .args .tuple)
 
-  how-many : length literals ≡ c .args .c .n
-  how-many = present-length (c .args .c) (c .args .w) (c .pre .0)
+  how-many : length literals ≡ c .args .tails .n
+  how-many = present-length (c .args .tails) (c .args .tuple) (c .pre .0)
 
 -- literal i was tested
 module _ (c : tie.After-holds Inv-loop μ-loop) where
@@ -55,7 +55,7 @@ holds-requires : tie.Need-holds-requires Inv-loop μ-loop
 holds-requires c κs =
     let s = c .before .before .before .before .before .before in
     let f : SFits w32 (c .literal-at .result) = record { sfits = c .literal-at .ok } in
-    let a = all-at (InModel (s .args .model .now)) (pos 0) (literals s) (s .pre .2) (c .before .before .before .loop .i) (omega (arith, how-many s)) in
+    let a = all-at (InList (length (s .args .model .now))) (pos 0) (literals s) (s .pre .2) (c .before .before .before .loop .i) (omega (arith, how-many s)) in
     simp toZ-ofZ (rw (c .literal-at .ensures) (a .0, a .1, s .pre .3))
 
 returns-2 : tie.Need-returns-2 Inv-loop μ-loop

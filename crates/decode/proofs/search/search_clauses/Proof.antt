@@ -1,15 +1,14 @@
 -- `decode::search::search_clauses` meets its contract.
 use borrow.Author.Needs.{needs}
-use mathlib.Core.Path.{_≡_, _∙_}
-use Prim.Native.Nat.{ℕ, _-_, _≤_}
+use mathlib.Core.Path.{_≡_, ap, _∙_}
+use Prim.Native.Nat.{ℕ, _≤_}
 use native.Mathlib.Omega.{arith}
-use lib.ListN.{length, drop, length-drop}
-use lib.Seq.{take-all}
+use lib.ListN.{length, drop}
 use Rattle.definitions.specs.Board.{Board}
 use Rattle.definitions.specs.Encoding.{clauses}
 use Rattle.laws.specs.Boards.{boardOf, opens-board}
 use Rattle.laws.specs.Reread.{tableEnd}
-use Rattle.laws.specs.Written.{rest}
+use Rattle.laws.specs.Written.{rest, rest-drop}
 use Rattle.decode.specs.declared.Checked.{Checked}
 use Rattle.decode.specs.Given.{rules-is, admitted}
 use Rattle.decode.specs.Truth.{tests}
@@ -26,9 +25,7 @@ module _ (c : tie.Start) where
   room = omega (arith, opens-board (c .args .bytes .now) (c .pre .opened .opens) .room, rules-is (c .pre .opened))
 
   tail : rest (c .args .bytes .now) (c .args .header .rules) ≡ drop (tableEnd B) (c .args .bytes .now)
-  tail =
-      rw (rules-is (c .pre .opened))
-      (take-all (length (c .args .bytes .now) - tableEnd B) (drop (tableEnd B) (c .args .bytes .now)) (omega (arith, length-drop (tableEnd B) (c .args .bytes .now))))
+  tail = rest-drop (c .args .bytes .now) (c .args .header .rules) ∙ ap (λ n. drop n (c .args .bytes .now)) (rules-is (c .pre .opened))
 
 -- the axioms hold: the rules are left
 rules-left : (c : tie.After-search-axioms) (n : ℕ) → c .search-axioms .result ≡ Checked.Hold n

@@ -18,17 +18,17 @@ use Rattle.decode.proofs.search.search_rules.Statement.{statement}
 use Rattle.decode.proofs.search.search_rules.Tie as tie
 
 abbrev Inv-loop : tie.InvT-loop
-Inv-loop bytes rules model header number known at₀ behind lead tails tuple₀ at tuple =
-    Walks (boardOf bytes) model rules number at lead tails tuple behind
+Inv-loop bytes rules model header from known number₀ behind lead tails here₀ number here =
+    Walks (boardOf bytes) model rules from number lead tails here behind
 
 abbrev μ-loop : tie.MeasureT-loop
-μ-loop bytes rules model header number known at₀ behind lead tails tuple₀ at tuple = length (toCome tails tuple)
+μ-loop bytes rules model header from known number₀ behind lead tails here₀ number here = length (toCome tails here)
 
 abbrev Inv-search : tie.InvT-search
-Inv-search bytes rules model header number known at₀ cursor₀ at cursor = Passing (boardOf bytes) model rules number at cursor
+Inv-search bytes rules model header from known number₀ cursor₀ number cursor = Passing (boardOf bytes) model rules from number cursor
 
 abbrev μ-search : tie.MeasureT-search
-μ-search bytes rules model header number known at₀ cursor₀ at cursor = todo (reread.contextOf (boardOf bytes)) rules cursor
+μ-search bytes rules model header from known number₀ cursor₀ number cursor = todo (reread.contextOf (boardOf bytes)) rules cursor
 
 module _ (c : tie.Start Inv-loop μ-loop Inv-search μ-search) where
   abbrev B : Board
@@ -49,7 +49,7 @@ start-requires : tie.Need-start-requires Inv-loop μ-loop Inv-search μ-search
 start-requires c κs = search needs
 
 search-holds : tie.Need-search-holds Inv-loop μ-loop Inv-search μ-search
-search-holds c = rw (c .start .ensures, c .before .before .before .before .before .pre .1) (passing-start (c .before .before .before .before .before .pre .0 .opened) (c .before .before .before .before .before .args .model .now) (c .before .before .before .before .before .args .number))
+search-holds c = rw (c .start .ensures, c .before .before .before .before .before .pre .1) (passing-start (c .before .before .before .before .before .pre .0 .opened) (c .before .before .before .before .before .args .model .now) (c .before .before .before .before .before .args .from))
 
 next-piece-requires : tie.Need-next-piece-requires Inv-loop μ-loop Inv-search μ-search
 next-piece-requires c κs = rw (c .before .before .known-of .ensures, known-is (c .before .before .before .before .before .before .pre .0 .opened)) (c .search .inv .readable)
@@ -73,28 +73,28 @@ loop-holds : tie.Need-loop-holds Inv-loop μ-loop Inv-search μ-search
 loop-holds c =
     walks-start (c .before .before .before .before .before .before .before .search .inv) _ (met (c .before .before .before .before) .ahead) _ _ _ (c .before .before .before .before .before .before .before .before .before .before .before .before .before .pre .0 .long) (c .before .before .lead-holds .ensures) (c .before .tails-of .ensures) (c .first .ensures)
 
-enum-known-tuple : tie.Need-enum-known-tuple Inv-loop μ-loop Inv-search μ-search
-enum-known-tuple c = search needs
+enum-known-here : tie.Need-enum-known-here Inv-loop μ-loop Inv-search μ-search
+enum-known-here c = search needs
 
 enum-told-2 : tie.Need-enum-told-2 Inv-loop μ-loop Inv-search μ-search
 enum-told-2 c = search needs
 
 clause-holds-requires : tie.Need-clause-holds-requires Inv-loop μ-loop Inv-search μ-search
 clause-holds-requires c κs =
-    (c .before .before .before .before .before .tails-of .ensures .fair, walks-at (c .before .before .before .loop .inv) (c .before .tuple .given .1), walks-numbered (c .before .before .before .loop .inv) (c .before .tuple .given .1), short (c .before .before .before .before .before .before .before .before .before .before .before .before .before .before .before .before .before .pre .0))
+    (c .before .before .before .before .before .tails-of .ensures .fair, walks-at (c .before .before .before .loop .inv) (c .before .here .given .1), walks-numbered (c .before .before .before .loop .inv) (c .before .here .given .1), short (c .before .before .before .before .before .before .before .before .before .before .before .before .before .before .before .before .before .pre .0))
 
-add-at : tie.Need-add-at Inv-loop μ-loop Inv-search μ-search
-add-at c = omega (arith, walks-room (c .before .before .before .before .before .loop .inv) (c .before .before .before .tuple .given .1), c .before .before .before .before .before .before .before .before .before .before .before .before .before .before .before .before .before .before .before .pre .2)
+add-number : tie.Need-add-number Inv-loop μ-loop Inv-search μ-search
+add-number c = omega (arith, walks-room (c .before .before .before .before .before .loop .inv) (c .before .before .before .here .given .1), c .before .before .before .before .before .before .before .before .before .before .before .before .before .before .before .before .before .before .before .pre .2)
 
 next-requires : tie.Need-next-requires Inv-loop μ-loop Inv-search μ-search
-next-requires c κs = walking-fine _ _ (walks-at (c .before .before .before .before .before .loop .inv) (c .before .before .before .tuple .given .1))
+next-requires c κs = walking-fine _ _ (walks-at (c .before .before .before .before .before .loop .inv) (c .before .before .before .here .given .1))
 
 loop-less : tie.Need-loop-less Inv-loop μ-loop Inv-search μ-search
-loop-less c = walks-less (c .before .before .before .before .before .before .loop .inv) (c .before .before .before .before .tuple .given .1) _ (c .next .ensures)
+loop-less c = walks-less (c .before .before .before .before .before .before .loop .inv) (c .before .before .before .before .here .given .1) _ (c .next .ensures)
 
 loop-again : tie.Need-loop-again Inv-loop μ-loop Inv-search μ-search
 loop-again c =
-    walks-next (c .before .before .before .before .before .before .loop .inv) (c .before .before .before .before .tuple .given .1) _ (c .next .ensures) (sym (c .before .before .clause-holds .ensures) ∙ not-false _ (c .before .if1 .left))
+    walks-next (c .before .before .before .before .before .before .loop .inv) (c .before .before .before .before .here .given .1) _ (c .next .ensures) (sym (c .before .before .clause-holds .ensures) ∙ not-false _ (c .before .if1 .left))
 
 search-less : tie.Need-search-less Inv-loop μ-loop Inv-search μ-search
 search-less c = met (c .before .before .before .before .before .before .before) .onward .less
@@ -109,7 +109,7 @@ returns c =
     passing-end (c .before .before .before .search .inv) (came-none (ctx (c .before .before .before .before .before .before .before .before .before)) (c .before .before .before .before .before .before .before .before .before .args .rules .now) (c .before .before .before .search .cursor) (rw (c .before .before .before .before .before .known-of .ensures, known-is (c .before .before .before .before .before .before .before .before .before .pre .0 .opened)) at (c .before .before .next-piece .ensures)) (c .enum-told .given .1))
 
 returns-2 : tie.Need-returns-2 Inv-loop μ-loop Inv-search μ-search
-returns-2 c = walks-stop (c .before .before .before .before .before .loop .inv) (c .before .before .before .tuple .given .1) (sym (c .before .clause-holds .ensures) ∙ not-true _ (c .if1 .taken))
+returns-2 c = walks-stop (c .before .before .before .before .before .loop .inv) (c .before .before .before .here .given .1) (sym (c .before .clause-holds .ensures) ∙ not-true _ (c .if1 .taken))
 
 pub search-rules-spec : {M : Type 1} → statement M
 search-rules-spec =
@@ -129,10 +129,10 @@ search-rules-spec =
     tails-of-requires
     first-requires
     loop-holds
-    enum-known-tuple
+    enum-known-here
     enum-told-2
     clause-holds-requires
-    add-at
+    add-number
     next-requires
     loop-less
     loop-again
