@@ -9,7 +9,7 @@ use lib.ListN.{length, length-map}
 use lib.IntN.{ℤ, pos, sucℤ, _+ℤ_, _-ℤ_}
 use lib.Signed.{_≤ℤ_}
 use Rattle.definitions.specs.Tools.{countUp, size, range}
-use Rattle.definitions.specs.Board.{Board, boundsOf, variables}
+use Rattle.definitions.specs.Board.{Board, boundsOf}
 use Rattle.definitions.specs.Encoding.{SatClause, order, plus, minus, axiomsOf, axioms, width, first, number, M}
 use Rattle.definitions.specs.Meaning.{on, satisfies, inModel}
 use Rattle.laws.specs.Whole.{whole, add-law, sub-law, suc-law, part-law}

@@ -1,5 +1,5 @@
 -- What Decode answers to an accepted record, check by check. Assumes nothing.
-use mathlib.Core.Path.{_≡_, refl, sym, ap, _∙_}
+use mathlib.Core.Path.{_≡_, refl, ap, _∙_}
 use mathlib.Core.List.{List}
 use Prim.Native.Nat.{ℕ}
 use lib.ListN.{length, take}
@@ -9,17 +9,17 @@ use Rattle.definitions.specs.Result.{Result, _>>=_, _>>_, done, refused, each}
 use Rattle.definitions.specs.Board.{Board}
 use Rattle.definitions.specs.Encoding.{N, clauses}
 use Rattle.definitions.specs.Meaning.{valuesOf}
-use Rattle.definitions.specs.Operations.{Outcome, lending, long, bits, accepted, Decode}
+use Rattle.definitions.specs.Operations.{lending, long, bits, accepted, Decode}
 use Rattle.definitions.specs.Answers.{saidVerdict, refusal}
 use Rattle.definitions.specs.declared.Refusal.{Refusal}
 use Rattle.definitions.specs.declared.Verdict.{Verdict}
 use Rattle.laws.specs.Boards.{boardOf}
-use Rattle.laws.specs.Outcomes.{one-verdict}
 use Rattle.opening.specs.declared.Header.{Header}
 use Rattle.lent.specs.declared.Found.{Found}
 use Rattle.lent.specs.Said.{saidFound}
 use Rattle.size.specs.declared.Totals.{Totals}
 use Rattle.size.specs.Told.{Measures}
+use Rattle.decode.specs.Outcome.{Leaves}
 use Rattle.decode.specs.Truth.{tests}
 
 -- 12, and 13 over the emitted clauses
@@ -50,18 +50,6 @@ readBack s header n model values booleans = do
   long (header .bools) booleans
   modelChecks (boardOf s) model
   done (tt, (valuesOf (boardOf s) model, take (header .bools) model))
-
--- the answer and the lent lists at the end
-pub record Leaves (o : Outcome (Unit {0}) (List ℤ × List ℕ)) (r : Verdict) (v : List ℤ) (w : List ℕ) : Type 0 where
-  pub answer : saidVerdict r ≡ o .answer
-  pub values : v ≡ o .left .0
-  pub booleans : w ≡ o .left .1
-
--- two results, with the lists that they leave, which the contract allows are equal
-pub one-outcome : (o : Outcome (Unit {0}) (List ℤ × List ℕ)) (r r′ : Verdict) (v v′ : List ℤ) (w w′ : List ℕ)
-    → Leaves o r v w → Leaves o r′ v′ w′ → (r ≡ r′) × (v ≡ v′) × (w ≡ w′)
-one-outcome o r r′ v v′ w w′ h k =
-    (one-verdict r r′ (h .answer ∙ sym (k .answer)), h .values ∙ sym (k .values), h .booleans ∙ sym (k .booleans))
 
 module _ (s : List ℕ) (header : Header) (n : ℕ) (model : List ℕ) (values : List ℤ) (booleans : List ℕ) where
   abbrev Answers : Verdict → List ℤ → List ℕ → Type 0

@@ -8,3 +8,4 @@ pub mod Tails
 pub mod Next
 pub mod Passes
 pub mod Decoded
+pub mod Outcome

@@ -10,7 +10,7 @@ use lib.IntN.{ℤ, pos, sucℤ, _+ℤ_, _-ℤ_}
 use lib.Signed.{_≤ℤ_}
 use Rattle.definitions.specs.Tools.{if_then_else_, countUp, size}
 use Rattle.definitions.specs.Board.{Board, Bounds, boundsOf, variables}
-use Rattle.definitions.specs.Encoding.{order, width, first, number}
+use Rattle.definitions.specs.Encoding.{width, first, number}
 use Rattle.definitions.specs.Meaning.{on, inModel, leastTrue, valueOf, valuesOf}
 use Rattle.laws.specs.Whole.{whole, add-law, sub-law, suc-law, part-law}
 use Rattle.laws.specs.Ranges.{range-shift}

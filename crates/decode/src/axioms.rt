@@ -1,6 +1,6 @@
 // The search over the axioms, by the numbers of the order variables.
 use crate::Checked;
-use crate::truth::is_on;
+use lent::is_on;
 use opening::Header;
 use slots::variables::bounds_of;
 use slots::variables::width_of;

@@ -17,7 +17,8 @@ ghost use Rattle.definitions.specs.Answers.{saidVerdict};
 ghost use Rattle.definitions.specs.Operations.{lending, Decode};
 ghost use Rattle.laws.specs.Boards.{boardOf};
 ghost use Rattle.decode.specs.Given.{Opened, Given};
-ghost use Rattle.decode.specs.Decoded.{modelChecks, readBack, Leaves};
+ghost use Rattle.decode.specs.Decoded.{modelChecks, readBack};
+ghost use Rattle.decode.specs.Outcome.{Leaves};
 
 // The first clause that does not hold, or that all do, and the number of the clause after them.
 pub enum Checked {

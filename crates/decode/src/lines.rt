@@ -1,5 +1,5 @@
 // The clause of a record clause's Boolean literals and selectors.
-use crate::truth::is_on;
+use lent::is_on;
 use opening::Header;
 use reader::Context;
 use reader::Literal;

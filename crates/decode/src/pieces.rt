@@ -1,7 +1,7 @@
 // The clauses of a piece of the rules: each is the piece's lead and, behind it, the literals of a tuple.
 use crate::lines::line_holds;
 use crate::truth::holds;
-use crate::truth::is_on;
+use lent::is_on;
 use opening::Header;
 use rules::Piece;
 use slots::Numbers;

@@ -1,5 +1,5 @@
 // What is read back from a model: the integer values and the Booleans.
-use crate::truth::is_on;
+use lent::is_on;
 use opening::Header;
 use slots::variables::bounds_of;
 use slots::variables::width_of;
