@@ -1,5 +1,5 @@
 #!/usr/bin/env python3
-"""Wrong versions of Compile and Decode that a must-fail edit cannot make, since they change the code's shape.
+"""Wrong versions of the operations that change the code's shape, beside the must-fail edits, which keep it.
 
 Each is made in a copy of the crates, and the program `cases` is run over it, unproved. It has to end and to write something else
 than crates/cases/stdout; the first line that differs is printed.
@@ -42,6 +42,18 @@ MUTANTS = [
         ("decode/src/search.rt", "    let mut number = from;", "    let mut number = from;\n    let mut last = Found::Nothing;"),
         ("decode/src/search.rt", "break 'search Found::At(number);", "last = Found::At(number);"),
         ("decode/src/search.rt", "break 'search Found::Nothing;", "break 'search last;")]),
+    ("a value outside its bounds told before a byte that is not 0 or 1", [
+        ("judge/src/checks.rt", "match first_bad_byte(booleans) {", "match first_outside(bytes, values) {"),
+        ("judge/src/checks.rt", "Refusal::ByteWrong { index: index }", "Refusal::ValueOutside { index: index, }"),
+        ("judge/src/checks.rt", "Found::Nothing => match first_outside(bytes, values) {", "Found::Nothing => match first_bad_byte(booleans) {"),
+        ("judge/src/checks.rt", "Refusal::ValueOutside { index: index }", "Refusal::ByteWrong { index: index }")]),
+    ("the model written before the clauses are tested", [
+        ("image/src/lib.rt",
+         "            let verdict = checked(",
+         "            if booleans.len() == header.bools && values.len() == header.ints && model.len() == totals.n {\n"
+         "                put_model(bytes, header, values, booleans, model);\n"
+         "            }\n"
+         "            let verdict = checked(")]),
 ]
 
 

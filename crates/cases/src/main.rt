@@ -1,8 +1,10 @@
-// Cases of 01, run: what Size, Compile and Decode answer, and each lent list as it is left. Lists hold 99 in every place before.
+// Cases of 01 and others, run: what the operations answer, and each lent list as it is left. Lists hold 99 in every place before.
 use crate::printing::put_list;
+use crate::printing::put_model;
 use crate::printing::put_sizing;
 use crate::printing::put_verdict;
 use crate::records::AT_MOST_7;
+use crate::records::BOOLEAN_OR_EARLY;
 use crate::records::EITHER_FIRST;
 use crate::records::FEW_TUPLES;
 use crate::records::IMPOSSIBLE;
@@ -11,6 +13,8 @@ use crate::records::SINGLE_TERMS;
 use crate::records::WIDE_SUM;
 use compile::compile;
 use decode::decode;
+use image::image;
+use judge::judge;
 use size::size;
 
 pub mod printing; // printing.rt: answers and lists as lines
@@ -99,6 +103,34 @@ fn lengths_in_order() {
     );
 }
 
+fn judged(name: &[u8], value: i32, byte: u8) {
+    put_verdict(name, judge(&BOOLEAN_OR_EARLY, &[value], &[byte]));
+}
+
+// A byte that is not 0 or 1 is told before a value outside its bounds, and that before a clause that does not hold.
+fn judgements() {
+    judged(b"b 2, x 7", 7, 2);
+    judged(b"b 0, x 7", 7, 0);
+    judged(b"b 0, x 2", 2, 0);
+    judged(b"b 0, x 1", 1, 0);
+    judged(b"b 1, x 2", 2, 1);
+}
+
+fn imaged(name: &[u8], value: i32, byte: u8) {
+    let mut model = [99u8; 7];
+    put_verdict(
+        name,
+        image(&BOOLEAN_OR_EARLY, &[value], &[byte], &mut model),
+    );
+    put_model(&model);
+}
+
+fn plain_models() {
+    imaged(b"image, b 0, x 1", 1, 0);
+    imaged(b"image, b 1, x 2", 2, 1);
+    imaged(b"image, b 0, x 2", 2, 0);
+}
+
 fn main() {
     refused_sizes();
     list_lengths();
@@ -107,4 +139,6 @@ fn main() {
     selectors();
     models();
     lengths_in_order();
+    judgements();
+    plain_models();
 }

@@ -77,3 +77,20 @@ pub fn put_list(list: &[i32]) {
     }
     put(b"\n");
 }
+
+fn put_byte(byte: u8) {
+    put_size(b" ", byte as usize);
+}
+
+// A model as it was left.
+pub fn put_model(model: &[u8; 7]) {
+    put(b"left:");
+    put_byte(model[0]);
+    put_byte(model[1]);
+    put_byte(model[2]);
+    put_byte(model[3]);
+    put_byte(model[4]);
+    put_byte(model[5]);
+    put_byte(model[6]);
+    put(b"\n");
+}

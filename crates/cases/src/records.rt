@@ -32,5 +32,11 @@ pub const EITHER_FIRST: [u8; 44] = *b"\x01\0\0\0\x27\0\x02\0\0\0\x01\
     \x02\x02\x02\x01\0\0\xFF\0\x01\xFF\xFF\xFF\xFF\
     \x02\x02\xFF\0\0\x01\0\x01\xFF\xFF\xFF\xFF";
 
+// x in 0..3 and a Boolean b, b or x at most 1.
+pub const BOOLEAN_OR_EARLY: [u8; 28] = *b"\x01\0\0\0\x17\0\x01\0\x01\0\x01\
+    \0\0\0\x03\
+    \x02\0\0\x01\
+    \x02\x01\x01\0\0\0\0\0\x01";
+
 // Case 14: a model of case 13's board.
 pub const MODEL: [u8; 10] = *b"\0\x01\x01\x01\0\0\x01\x01\x01\0";
