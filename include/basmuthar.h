@@ -4,9 +4,27 @@
  * order encoding and reads models back. The library is linked as libbasmuthar.a. It keeps nothing between calls:
  * every list is lent by the caller.
  *
+ * THE RECORD
+ *   All numbers are big-endian, signed ones in two's complement.
+ *     byte 0           the version, 1
+ *     bytes 1 to 4     how many bytes follow
+ *     2 bytes each     how many integer variables (0 to 1,024), Boolean variables m (0 to 4,096), clauses (0 to 4,096)
+ *     each integer variable: lower and upper bound, 2 bytes each, signed, from -4,096 to 4,095, lower not above upper
+ *     each clause: 1 byte, how many literals (0 to 64), and the literals, one of which has to hold:
+ *       0 and 2 bytes  the Boolean variable of that number, 1 to m, is true
+ *       1 and 2 bytes  it is false
+ *       2              a comparison: 1 byte, how many terms (1 to 3); each term, 1 byte, signed, its coefficient (-64 to 64,
+ *                      not 0) and 2 bytes, its integer variable counted from 0 (no variable twice); 4 bytes, signed, a
+ *                      constant from -1,000,000 to 1,000,000. The sum of the terms is at most the constant.
+ *
+ * THE SAT VARIABLES
+ *   1 to m are the Boolean variables. Then come, one integer variable x after another, p(x,c) for c from its lower bound
+ *   less 1 to its upper bound: "x is at most c". Then the selectors, in the order of clauses and literals: each comparison
+ *   in a clause of two or more literals has one.
+ *
  * WHAT A CALLER OWES
  *   Every pointer points to as many places as the length beside it says, and `answer` to four. No pointer is NULL,
- *   also where its length is 0. A list that is written overlaps no other list of the same call, nor `answer`.
+ *   also where its length is 0. `answer` overlaps nothing, and a list that is written no other list of the call.
  *   What the lists hold is free: every content has an answer.
  *
  * THE ANSWER

@@ -3,8 +3,27 @@
 use std::error::Error;
 use std::fmt;
 
-/// What is wrong with an input, by the number in the table of refusals, and where.
-#[derive(Debug, Clone, Copy, PartialEq, Eq)]
+/// What is wrong with an input, and where.
+///
+/// | number | when | detail |
+/// |---|---|---|
+/// | 1 | the record has more than 65,536 bytes | 0 |
+/// | 2 | it has fewer than 5 bytes, or its stated length is not its length less 5 | 0 |
+/// | 3 | its version is not 1 | 0 |
+/// | 4 | a count is outside its range | place |
+/// | 5 | a bound is outside its range, or an upper is below its lower | place |
+/// | 6 | a kind byte is above 2, or a Boolean number is not of the board | place |
+/// | 7 | a coefficient is 0 or out of range, a variable unknown or repeated, a constant out of range | place |
+/// | 8 | a field runs past the end, or bytes are left over after the last clause | place |
+/// | 9 | the clause list would have more than 2,000,000,000 numbers | 0 |
+/// | 10 | the lent clause list is too short | how many numbers there are |
+/// | 11 | another lent list has the wrong length | the length wanted |
+/// | 12 | a model byte or Boolean byte is not 0 or 1 | index |
+/// | 13 | a clause does not hold | its number from 0 |
+/// | 14 | a value is outside its bounds | index |
+///
+/// A place is an offset in the record.
+#[derive(Clone, Copy, PartialEq, Eq)]
 pub struct Refusal {
     /// The number of the refusal, from 1.
     pub number: u64,
@@ -81,6 +100,13 @@ impl Refusal {
 
     fn row(&self) -> Option<&'static Row> {
         ROWS.iter().find(|row| row.number == self.number)
+    }
+}
+
+/// The sentence, so that a `main` that returns a refusal tells what is wrong.
+impl fmt::Debug for Refusal {
+    fn fmt(&self, out: &mut fmt::Formatter) -> fmt::Result {
+        fmt::Display::fmt(self, out)
     }
 }
 

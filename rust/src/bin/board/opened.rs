@@ -50,5 +50,6 @@ fn refused_record(
 
 /// The text of a file.
 pub fn read_text(name: &str) -> Result<String, String> {
-    fs::read_to_string(name).map_err(|error| format!("{name}: {error}"))
+    let bytes = fs::read(name).map_err(|error| format!("{name}: {error}"))?;
+    String::from_utf8(bytes).map_err(|_| format!("{name} is no text; `board text` reads records"))
 }
