@@ -4,14 +4,17 @@ use mathlib.Core.List.{List, [], _∷_, _++_}
 use Prim.Native.Nat.{ℕ, _+_, _≤_, _<_}
 use native.Mathlib.Omega.{arith}
 use lib.ListN.{length}
-use lib.IntN.{ℤ, pos, _+ℤ_, _-ℤ_}
+use lib.IntN.{ℤ, pos}
 use Rattle.definitions.specs.Tools.{neg}
-use Rattle.definitions.specs.Board.{Board, Clause}
+use Rattle.definitions.specs.Board.{Board, Clause, boundsOf}
 use Rattle.definitions.specs.Board as board
 use Rattle.definitions.specs.Reading.{Context}
-use Rattle.definitions.specs.Encoding.{selector, minus, width, first, number, literalNumber}
-use Rattle.laws.specs.Whole.{whole, add-law, sub-law, part-law, neg-law}
-use Rattle.laws.specs.Admitted.{Admitted, GoodBounds, GoodComparison}
+use Rattle.definitions.specs.Encoding.{selector, minus, axiomsOf, width, first, number, literalNumber}
+use Rattle.laws.specs.Whole.{whole, neg-law}
+use Rattle.laws.specs.Admitted.{Admitted, GoodComparison}
+use Rattle.laws.specs.Axioms as laws
+use Rattle.laws.specs.Axioms.{axioms-more}
+use Rattle.laws.specs.Terms.{good-bounds}
 use Rattle.laws.specs.Fits.{first-most}
 use Rattle.laws.specs.Boards.{boardOf, opens-admitted}
 use Rattle.laws.specs.Reread.{comparisonAt}
@@ -29,25 +32,24 @@ use Rattle.slots.specs.Terms.{TermsStand}
 use Rattle.slots.specs.Variables.{boundsRead, BoundsOf, bounds-same}
 use Rattle.walk.specs.declared.Comparison.{Comparison}
 use Rattle.walk.specs.Comparisons.{Shows}
-use Rattle.writing.specs.Numbers.{underLead, lead-some, lead-none, under-is}
-use Rattle.writing.specs.Axioms.{axiomNumbers}
+use Rattle.writing.specs.Numbers.{numbersOf, numbers-append, underLead, lead-some, lead-none, under-is}
+use Rattle.writing.specs.Axioms.{axiomNumbers, axioms-are}
 use Rattle.writing.specs.Lines.{lineNumbers, line-is}
-use Rattle.compile.specs.Lists.{axiomsFrom, axioms-more, pieceNumbers, piecesNumbers, pieces-more, pieces-end}
+use Rattle.compile.specs.Lists.{axiomsFrom, pieceNumbers, piecesNumbers, pieces-more, pieces-end}
 
 -- the same numbers, written
 pub renamed : (old : List ℤ) {f g : List ℤ} → f ≡ g → {n : ℕ} {out : List ℤ} → (n ≡ length f) × (out ≡ written f old) → (n ≡ length g) × (out ≡ written g old)
 renamed old e w = (w .0 ∙ ap length e, w .1 ∙ ap (λ l. written l old) e)
 
 -- ---- variables
-pub width-some : (b : board.Bounds) → GoodBounds b → 0 < width b
-unfolding width
-width-some b g =
-    let d = b .hi -ℤ b .lo in omega (whole, g .ordered, add-law d (pos 2), sub-law (b .hi) (b .lo), part-law (d +ℤ pos 2))
-
 pub axioms-next : (B : Board) → Admitted B → (x : ℕ) → x < length (B .bounds) → (b : Bounds) (i w : ℕ) → BoundsOf B x b → i ≡ first B x → w ≡ width (boundsRead b)
     → axiomsFrom B x ≡ axiomNumbers i w ++ axiomsFrom B (x + 1)
+unfolding axiomsFrom
 axioms-next B g x h b i w o ei ew =
-    axioms-more B g x h ∙ ap₂ (λ i w. axiomNumbers i w ++ axiomsFrom B (x + 1)) (sym ei) (ap width (sym (bounds-same B x b o)) ∙ sym ew)
+    let e = axioms-are B x (good-bounds B (g .bounds) x h .ordered) ∙ ap₂ axiomNumbers (sym ei) (ap width (sym (bounds-same B x b o)) ∙ sym ew) in
+    ap (numbersOf B) (axioms-more B x h)
+    ∙ numbers-append B (axiomsOf (boundsOf B) x) (laws.axiomsFrom B (x + 1))
+    ∙ ap (λ l. l ++ axiomsFrom B (x + 1)) e
 
 -- ---- the numbers of a piece
 module _ (B : Board) (n : ℕ) (e : n ≡ first B (length (B .bounds))) where

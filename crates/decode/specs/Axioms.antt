@@ -12,11 +12,11 @@ use Rattle.definitions.specs.Tools.{countUp, size, range}
 use Rattle.definitions.specs.Board.{Board, boundsOf}
 use Rattle.definitions.specs.Encoding.{SatClause, order, plus, minus, axiomsOf, axioms, width, first, number, M}
 use Rattle.definitions.specs.Meaning.{on, satisfies, inModel}
-use Rattle.laws.specs.Whole.{whole, add-law, sub-law, suc-law, part-law}
 use Rattle.laws.specs.Lists.{map-same, all-every, countUp-shift, countUp-first, countUp-none, length-flatten}
 use Rattle.laws.specs.Admitted.{Admitted}
 use Rattle.laws.specs.Fits.{M-fits}
-use Rattle.laws.specs.Axioms.{axiomsFrom, axioms-more, order-number}
+use Rattle.laws.specs.Axioms.{axiomsFrom, axioms-more, before-value, at-value, lowest-number, highest-number}
+use Rattle.laws.specs.Layout.{width-range}
 use Rattle.laws.specs.Ranges.{range-shift}
 use Rattle.decode.specs.declared.Checked.{Checked}
 use Rattle.decode.specs.Truth.{trueClause, tests}
@@ -75,49 +75,29 @@ module _ (B : Board) (model : List ℕ) (x : ℕ) (h : boundsOf B x .lo ≤ℤ b
   abbrev hi : ℤ
   hi = boundsOf B x .hi
 
-  below : (k : ℕ) → number B (order x (lo +ℤ pos k -ℤ pos 1)) ≡ first B x + k
-  below k = let c = lo +ℤ pos k -ℤ pos 1 in order-number B x c k (omega (whole, add-law c (pos 1), sub-law (lo +ℤ pos k) (pos 1)))
-
-  at-offset : (k : ℕ) → number B (order x (lo +ℤ pos k)) ≡ first B x + k + 1
-  at-offset k =
-      let c = lo +ℤ pos k in
-      order-number B x c (k + 1) (omega (whole, add-law c (pos 1), add-law lo (pos k), add-law lo (pos (k + 1)))) ∙ omega arith
-
-  lowest : number B (order x (lo -ℤ pos 1)) ≡ first B x
-  lowest = let c = lo -ℤ pos 1 in order-number B x c 0 (omega (whole, add-law c (pos 1), sub-law lo (pos 1), add-law lo (pos 0))) ∙ add-zero _
-
-  -- as many steps as order variables, less 1
-  count : size (sucℤ hi -ℤ lo) ≡ first B x + width (boundsOf B x) - 1 - first B x
-  unfolding width
-  count = omega (whole, add-law (hi -ℤ lo) (pos 2), sub-law hi lo, sub-law (sucℤ hi) lo, suc-law hi, part-law (sucℤ hi -ℤ lo), part-law (hi -ℤ lo +ℤ pos 2))
-
-  highest : number B (order x hi) ≡ first B x + width (boundsOf B x) - 1
-  unfolding width
-  highest =
-      let k = width (boundsOf B x) - 1 in
-      let w = part-law (hi -ℤ lo +ℤ pos 2) in
-      order-number B x hi k (omega (whole, add-law hi (pos 1), add-law lo (pos k), add-law (hi -ℤ lo) (pos 2), sub-law hi lo, w)) ∙ omega (whole, add-law (hi -ℤ lo) (pos 2), sub-law hi lo, w)
-
   abbrev step : ℤ → SatClause
   step c = minus (order x (c -ℤ pos 1)) ∷ plus (order x c) ∷ []
 
   step-test : (k : ℕ) → trueClause B model (step (lo +ℤ pos k)) ≡ rises model (first B x + k)
   unfolding satisfies inModel rises
-  step-test k = ap₂ (λ v w. not (on model v) || (on model w || false)) (below k) (at-offset k) ∙ ap (λ b. not (on model (first B x + k)) || b) (or-false _)
+  step-test k = ap₂ (λ v w. not (on model v) || (on model w || false)) (before-value B x (lo +ℤ pos k) k refl) (at-value B x (lo +ℤ pos k) k refl) ∙ ap (λ b. not (on model (first B x + k)) || b) (or-false _)
 
   pub axioms-tests : tests B model (axiomsOf (boundsOf B) x) ≡ axiomTests model (first B x) (first B x + width (boundsOf B x) - 1)
   unfolding axiomsOf axiomTests satisfies inModel
   axioms-tests =
       let n = size (sucℤ hi -ℤ lo) in
       let f = first B x in
-      ap₂ _∷_ (or-false _ ∙ ap (λ v. not (on model v)) lowest)
+      let w = width (boundsOf B x) in
+      let highest : number B (order x hi) ≡ f + w - 1 = omega (arith, highest-number B x h) in
+      let steps : n ≡ f + w - 1 - f = omega (arith, width-range (boundsOf B x) h) in
+      ap₂ _∷_ (or-false _ ∙ ap (λ v. not (on model v)) (lowest-number B x))
       (ap₂ _∷_ (or-false _ ∙ ap (on model) highest)
       (map-map (trueClause B model) step (range lo hi)
       ∙ ap (map (λ c. trueClause B model (step c))) (range-shift lo hi)
       ∙ map-map (λ c. trueClause B model (step c)) (λ k. lo +ℤ pos k) (countUp 0 n)
       ∙ map-same (λ k. trueClause B model (step (lo +ℤ pos k))) (λ k. rises model (f + k)) (countUp 0 n) (all-every _ step-test (countUp 0 n))
       ∙ sym (map-map (rises model) (λ k. f + k) (countUp 0 n))
-      ∙ ap (map (rises model)) (countUp-shift f 0 n ∙ ap₂ countUp (add-zero f) count)))
+      ∙ ap (map (rises model)) (countUp-shift f 0 n ∙ ap₂ countUp (add-zero f) steps)))
 
 -- ---- variable by variable
 module _ (B : Board) (model : List ℕ) where

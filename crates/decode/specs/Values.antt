@@ -12,7 +12,8 @@ use Rattle.definitions.specs.Tools.{if_then_else_, countUp, size}
 use Rattle.definitions.specs.Board.{Board, Bounds, boundsOf, variables}
 use Rattle.definitions.specs.Encoding.{width, first, number}
 use Rattle.definitions.specs.Meaning.{on, inModel, leastTrue, valueOf, valuesOf}
-use Rattle.laws.specs.Whole.{whole, add-law, sub-law, suc-law, part-law}
+use Rattle.laws.specs.Whole.{whole, add-law, sub-law, part-law}
+use Rattle.laws.specs.Layout.{width-range}
 use Rattle.laws.specs.Ranges.{range-shift}
 use Rattle.laws.specs.Lists.{length-countUp, countUp-first, countUp-none, counted-at}
 use Rattle.laws.specs.Admitted.{GoodBounds}
@@ -65,11 +66,11 @@ module _ (model : List ℕ) (f : ℕ) (b : Bounds) where
 -- ---- of the board
 module _ (B : Board) (model : List ℕ) where
   pub value-is : (x : ℕ) → boundsOf B x .lo ≤ℤ boundsOf B x .hi → valueFrom model (first B x) (boundsOf B x) ≡ valueOf B model x
-  unfolding valueAfter valueOf inModel number width
+  unfolding valueAfter valueOf inModel number
   value-is x h =
       let l = boundsOf B x .lo in
       let u = boundsOf B x .hi in
-      let e : width (boundsOf B x) - 1 - 0 ≡ size (sucℤ u -ℤ l) = omega (whole, add-law (u -ℤ l) (pos 2), sub-law u l, sub-law (sucℤ u) l, suc-law u, part-law (sucℤ u -ℤ l), part-law (u -ℤ l +ℤ pos 2)) in
+      let e : width (boundsOf B x) - 1 - 0 ≡ size (sucℤ u -ℤ l) = omega (arith, width-range (boundsOf B x) h) in
       ap (λ n. leastTrue (λ c. on model (first B x + size (c -ℤ l +ℤ pos 1))) u (map (λ i. l +ℤ pos i) (countUp 0 n))) e
       ∙ ap (leastTrue (λ c. on model (first B x + size (c -ℤ l +ℤ pos 1))) u) (sym (range-shift l u))
 

@@ -1,4 +1,4 @@
-pub mod Filling
+pub mod Entries
 pub mod Imaged
 pub mod Joined
 pub mod Numbers

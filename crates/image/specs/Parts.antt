@@ -9,12 +9,12 @@ use lib.Dec.{eqb}
 use lib.Signed.{leZ}
 use lib.IntN.{ℤ, pos, sucℤ, _+ℤ_, _-ℤ_}
 use Rattle.definitions.specs.Tools.{countUp, size, range, if_then_else_}
-use Rattle.definitions.specs.Board.{Board, Bounds, Comparison, Clause, boundsOf, variables, isTrue, isFalse, atMost}
+use Rattle.definitions.specs.Board.{Board, Comparison, Clause, boundsOf, variables, isTrue, isFalse, atMost}
 use Rattle.definitions.specs.Encoding.{Atom, bool, order, selector, orders, comparisons, selected, selections, atoms, width}
 use Rattle.definitions.specs.Meaning.{Assignment, on, compares, selection, truth, plainModel}
 use Rattle.laws.specs.Lists.{all-every, counted-at, length-countUp, map-same, map-flatten, map-at}
 use Rattle.laws.specs.Ranges.{range-shift}
-use Rattle.laws.specs.Layout.{spread}
+use Rattle.laws.specs.Layout.{orders-count}
 use Rattle.laws.specs.Pieces.{Piece, line, under, compared, used, lone, opening, piecesFrom}
 
 abbrev pub bit : Bool → ℕ
@@ -53,11 +53,6 @@ module _ (value lower : ℤ) (width : ℕ) where
   pub orders-length : length (orderFrom value lower width) ≡ width
   orders-length = length-map (countUp 0 width) (λ k. bit (leZ value ((lower -ℤ pos 1) +ℤ pos k))) ∙ length-countUp 0 width
 
--- how many order variables a variable has
-width-is : (b : Bounds) → size (sucℤ (b .hi) -ℤ (b .lo -ℤ pos 1)) ≡ width b
-unfolding width
-width-is b = ap size (spread (b .lo) (b .hi))
-
 module _ (B : Board) (a : Assignment) where
   pub orders-from : (x : ℕ) → orderBytes B a x ≡ orderFrom (a .α x) (boundsOf B x .lo) (width (boundsOf B x))
   orders-from x =
@@ -65,7 +60,7 @@ module _ (B : Board) (a : Assignment) where
       let l = b .lo -ℤ pos 1 in
       ap (map (λ c. bit (leZ (a .α x) c))) (range-shift l (b .hi))
       ∙ map-map (λ c. bit (leZ (a .α x) c)) (λ k. l +ℤ pos k) (countUp 0 (size (sucℤ (b .hi) -ℤ l)))
-      ∙ ap (orderFrom (a .α x) (b .lo)) (width-is b)
+      ∙ ap (orderFrom (a .α x) (b .lo)) (orders-count b)
 
   abbrev byte : Atom → ℕ
   byte v = bit (truth B a v)

@@ -1,9 +1,7 @@
 -- The order variables' bytes from a variable on. Assumes nothing.
 use mathlib.Core.Path.{_≡_, sym, ap, ap₂, _∙_}
 use mathlib.Core.List.{List, [], _++_, map, flatten}
-use Prim.Native.Nat.{ℕ, suc, _+_, _-_, _≤_, _<_}
-use native.Mathlib.Numerals.{add-one}
-use native.Mathlib.Omega.{arith}
+use Prim.Native.Nat.{ℕ, _+_, _-_, _≤_, _<_}
 use lib.ListN.{length, getD}
 use lib.IntN.{ℤ, pos, natAbs}
 use Rattle.definitions.specs.Tools.{countUp}
@@ -11,6 +9,7 @@ use Rattle.definitions.specs.Board.{Board, boundsOf}
 use Rattle.definitions.specs.Encoding.{width}
 use Rattle.definitions.specs.Meaning.{Assignment, assigned}
 use Rattle.laws.specs.Whole.{whole, abs-le}
+use Rattle.laws.specs.Lists.{countUp-first, countUp-none}
 use Rattle.laws.specs.Admitted.{GoodBounds}
 use Rattle.slots.specs.declared.Bounds.{Bounds}
 use Rattle.slots.specs.Variables.{boundsRead, BoundsOf, bounds-same}
@@ -21,18 +20,13 @@ ordersFrom B a x = flatten (map (orderBytes B a) (countUp x (length (B .bounds) 
 
 pub orders-end : (B : Board) (a : Assignment) (x : ℕ) → length (B .bounds) ≤ x → ordersFrom B a x ≡ []
 unfolding ordersFrom flatten
-orders-end B a x h =
-    let e : length (B .bounds) - x ≡ 0 = omega arith in
-    ap (λ n. flatten (map (orderBytes B a) (countUp x n))) e
+orders-end B a x h = ap (λ l. flatten (map (orderBytes B a) l)) (countUp-none x (length (B .bounds)) h)
 
-pub orders-more : (B : Board) (a : Assignment) (x : ℕ) → x < length (B .bounds)
+orders-more : (B : Board) (a : Assignment) (x : ℕ) → x < length (B .bounds)
     → ordersFrom B a x ≡ orderFrom (a .α x) (boundsOf B x .lo) (width (boundsOf B x)) ++ ordersFrom B a (x + 1)
 unfolding ordersFrom flatten
 orders-more B a x h =
-    let n = length (B .bounds) - suc x in
-    let e : length (B .bounds) - x ≡ suc n = omega arith in
-    ap (λ n. flatten (map (orderBytes B a) (countUp x n))) e
-    ∙ ap₂ _++_ (orders-from B a x) (ap (λ y. flatten (map (orderBytes B a) (countUp y (length (B .bounds) - y)))) (sym (add-one x)))
+    ap (λ l. flatten (map (orderBytes B a) l)) (countUp-first x (length (B .bounds)) h) ∙ ap (λ l. l ++ ordersFrom B a (x + 1)) (orders-from B a x)
 
 -- those of the next variable, from its value and its bounds as they are read
 pub orders-next : (B : Board) (values : List ℤ) (x : ℕ) → x < length (B .bounds) → (b : Bounds) (w : ℕ) → BoundsOf B x b → w ≡ width (boundsRead b)

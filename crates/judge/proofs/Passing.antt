@@ -6,16 +6,12 @@ use Prim.Native.Nat.{ℕ, suc, _+_}
 use native.Mathlib.Numerals.{add-one}
 use lib.ListN.{length}
 use lib.IntN.{ℤ}
-use mir.Syntax.{w32}
-use mir.Val.{SFits}
 use Rattle.definitions.specs.Tools.{any, if_then_else_}
 use Rattle.definitions.specs.Board.{Comparison, Literal, Clause, isTrue, isFalse}
 use Rattle.definitions.specs.Result.{done, refused}
 use Rattle.definitions.specs.Result as result
 use Rattle.definitions.specs.Reading.{Got, Reader, Context, times, count, readLiteral, readClause}
 use Rattle.definitions.specs.Meaning.{Assignment, holds}
-use Rattle.laws.specs.Whole.{whole, abs-le, abs-fits}
-use Rattle.laws.specs.Admitted.{GoodComparison}
 use Rattle.laws.specs.Readings.{never, same, times-parts}
 use Rattle.laws.specs.Grammar.{found}
 use Rattle.laws.specs.Reads.{reads-literal}
@@ -50,9 +46,6 @@ module _ {A : Type 0} (r : Reader A) (t : List ℕ) (at : ℕ) {k n : ℕ} (e : 
         rw (rest, same (sym f ∙ q .read)) (ap (λ h. h .value) (q .joined))
 
 -- ---- a literal
-pub constant-fits : {ints : ℕ} {q : Comparison} → GoodComparison ints q → SFits w32 (q .constant)
-constant-fits {q = q} g = abs-fits (omega (whole, abs-le (q .constant) {k = 1000000} (omega (whole, g .least, g .most))))
-
 module _ (ctx : Context) (t : List ℕ) where
   pub known : {values : List ℤ} {booleans : List ℕ} (at next : ℕ) (l : code.Literal) → Suited ctx values booleans
       → readLiteral ctx t at ≡ done (record { value = literalOf t l; next = next }) → Placed (at + 1) (LiteralRead.Got l next) → Known t (length values) (length booleans) l

@@ -8,10 +8,12 @@ use native.Mathlib.Omega.{arith}
 use lib.ListN.{length, take, drop, length-append, take-append-drop}
 use lib.IntN.{pos, natAbs, _+ℤ_, _-ℤ_}
 use lib.Signed.{leZ, _≤ℤ_}
+use mir.Syntax.{w32}
+use mir.Val.{SFits}
 use Rattle.definitions.specs.Tools.{All, if_then_else_, sum}
 use Rattle.definitions.specs.Board.{Board, Bounds, Term, Comparison, Clause, isTrue, isFalse, atMost, boundsOf}
 use Rattle.definitions.specs.Encoding.{termBounds, least, tuplesOf, comparisons, selected, axioms, rules, SatClause, places, width, first, N, M, K}
-use Rattle.laws.specs.Whole.{whole, add-law, sub-law, part-law, abs-law, abs-add}
+use Rattle.laws.specs.Whole.{whole, add-law, sub-law, part-law, abs-law, abs-le, abs-add, abs-fits}
 use Rattle.laws.specs.Lists.{all-impl, sum-append, sum-most}
 use Rattle.laws.specs.Admitted.{Admitted, GoodBounds, GoodTerm, GoodComparison, GoodClause}
 use Rattle.laws.specs.Terms.{good-bounds, ranges, term-size}
@@ -32,6 +34,9 @@ unfolding width
 width-least b g =
     let d = b .hi -ℤ b .lo in
     omega (whole, g .ordered, add-law d (pos 2), sub-law (b .hi) (b .lo), part-law (d +ℤ pos 2))
+
+pub good-constant : {ints : ℕ} {q : Comparison} → GoodComparison ints q → SFits w32 (q .constant)
+good-constant {q = q} g = abs-fits (omega (whole, abs-le (q .constant) {k = 1000000} (omega (whole, g .least, g .most))))
 
 widths-length : (of : ℕ → Bounds) (ts : List Term) → length (widths (ranges of ts)) ≡ length ts
 widths-length of [] = refl

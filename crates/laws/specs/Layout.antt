@@ -27,18 +27,30 @@ offset lo i =
     let c = lo -ℤ pos 1 +ℤ pos i in
     omega (whole, add-law (c -ℤ lo) (pos 1), sub-law c lo, add-law (lo -ℤ pos 1) (pos i), sub-law lo (pos 1))
 
-pub spread : (lo hi : ℤ) → sucℤ hi -ℤ (lo -ℤ pos 1) ≡ hi -ℤ lo +ℤ pos 2
-spread lo hi =
-    omega (whole, sub-law (sucℤ hi) (lo -ℤ pos 1), suc-law hi, sub-law lo (pos 1), add-law (hi -ℤ lo) (pos 2), sub-law hi lo)
+pub orders-count : (b : Bounds) → size (sucℤ (b .hi) -ℤ (b .lo -ℤ pos 1)) ≡ width b
+unfolding width
+orders-count b =
+    let l = b .lo in
+    let u = b .hi in
+    let e : sucℤ u -ℤ (l -ℤ pos 1) ≡ u -ℤ l +ℤ pos 2 = omega (whole, sub-law (sucℤ u) (l -ℤ pos 1), suc-law u, sub-law l (pos 1), add-law (u -ℤ l) (pos 2), sub-law u l) in
+    ap size e
+
+-- one more than there are values
+pub width-range : (b : Bounds) → b .lo ≤ℤ b .hi → width b ≡ suc (size (sucℤ (b .hi) -ℤ b .lo))
+unfolding width
+width-range b h =
+    let l = b .lo in
+    let u = b .hi in
+    omega (whole, add-law (u -ℤ l) (pos 2), sub-law u l, sub-law (sucℤ u) l, suc-law u, part-law (u -ℤ l +ℤ pos 2), part-law (sucℤ u -ℤ l))
 
 orders-are : (B : Board) (x : ℕ) → orders (boundsOf B) x ≡ map (λ i. order x (boundsOf B x .lo -ℤ pos 1 +ℤ pos i)) (countUp 0 (width (boundsOf B x)))
-unfolding orders width
+unfolding orders
 orders-are B x =
     let b = boundsOf B x in
     let l = b .lo -ℤ pos 1 in
     ap (map (order x)) (range-shift l (b .hi))
     ∙ map-map (order x) (λ i. l +ℤ pos i) (countUp 0 (size (sucℤ (b .hi) -ℤ l)))
-    ∙ ap (λ z. map (λ i. order x (l +ℤ pos i)) (countUp 0 (size z))) (spread (b .lo) (b .hi))
+    ∙ ap (λ n. map (λ i. order x (l +ℤ pos i)) (countUp 0 n)) (orders-count b)
 
 orders-numbered : (B : Board) (x : ℕ) → map (number B) (orders (boundsOf B) x) ≡ countUp (first B x) (width (boundsOf B x))
 unfolding number

@@ -1,5 +1,5 @@
 -- The clauses of an admitted board speak of the board's own atoms, so that each literal's number is from 1 to N.
-use mathlib.Core.Path.{_≡_, refl, ap}
+use mathlib.Core.Path.{_≡_, refl}
 use mathlib.Core.Bool.{Bool, true, false, not}
 use mathlib.Core.List.{List, [], _∷_, _++_, map, flatten, zipWith}
 use Prim.Native.Nat.{ℕ, suc, _+_, _≤_, _<_}
@@ -16,7 +16,7 @@ use Rattle.laws.specs.Ranges.{all-range}
 use Rattle.laws.specs.Division.{floor-within, ceil-within}
 use Rattle.laws.specs.Admitted.{Admitted, GoodTerm, GoodLiteral, GoodComparison, GoodClause}
 use Rattle.laws.specs.Terms.{good-bounds, ranges, Within, tuples-within}
-use Rattle.laws.specs.Pieces.{Piece, line, under, pieceClauses, compared, lineFrom, lone, opening, piecesFrom, used, selected-count, rules-pieces}
+use Rattle.laws.specs.Pieces.{Piece, line, under, pieceClauses, compared, lineFrom, line-length, lone, opening, piecesFrom, used, selected-count, rules-pieces}
 use Rattle.laws.specs.Layout.{Has, number-range}
 
 abbrev pub atomOf : SatLiteral → Atom
@@ -78,13 +78,6 @@ module _ (B : Board) where
 
   abbrev Fits : ℕ → ℕ → Type 0
   Fits j n = j + n ≤ length (selections B)
-
-  line-length : (j : ℕ) (C : Clause) → length (lineFrom j C) ≡ length C
-  unfolding lineFrom
-  line-length j [] = refl
-  line-length j (isTrue b ∷ C) = ap suc (line-length j C)
-  line-length j (isFalse b ∷ C) = ap suc (line-length j C)
-  line-length j (atMost q ∷ C) = ap suc (line-length (suc j) C)
 
   line-mentions : (j : ℕ) (C : Clause) → Good C → Fits j (length (comparisons C)) → All Mentions (lineFrom j C)
   unfolding lineFrom comparisons

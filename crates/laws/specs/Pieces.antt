@@ -38,6 +38,13 @@ lineFrom j (isTrue b ∷ C) = plus (bool b) ∷ lineFrom j C
 lineFrom j (isFalse b ∷ C) = minus (bool b) ∷ lineFrom j C
 lineFrom j (atMost q ∷ C) = plus (selector j) ∷ lineFrom (suc j) C
 
+pub line-length : (j : ℕ) (C : Clause) → length (lineFrom j C) ≡ length C
+unfolding lineFrom
+line-length j [] = refl
+line-length j (isTrue b ∷ C) = ap suc (line-length j C)
+line-length j (isFalse b ∷ C) = ap suc (line-length j C)
+line-length j (atMost q ∷ C) = ap suc (line-length (suc j) C)
+
 -- a comparison that is its clause's only literal: it has no selector and its clause no line
 unfoldable pub lone : Clause → Bool
 lone [] = false

@@ -5,14 +5,14 @@ use mathlib.Core.List.{List, [], _∷_, _++_, map, flatten, zipWith, map-map}
 use Prim.Native.Nat.{ℕ, suc, _+_, _*_}
 use native.Mathlib.Omega.{arith}
 use lib.ListN.{length, length-append, length-map}
-use lib.IntN.{ℤ, pos, sucℤ, _+ℤ_, _-ℤ_}
+use lib.IntN.{ℤ, pos, _-ℤ_}
 use lib.Signed.{leZ, _≤ℤ_}
-use Rattle.definitions.specs.Tools.{All, if_then_else_, countUp, sum, size, range}
+use Rattle.definitions.specs.Tools.{All, if_then_else_, countUp, sum, range}
 use Rattle.definitions.specs.Board.{Board, Bounds, Term, Comparison, Clause, boundsOf, variables}
 use Rattle.definitions.specs.Encoding.{SatClause, order, plus, minus, least, tuplesOf, sharp, clausesUnder, axiomsOf, comparisons, selected, axioms, rules, clauses, width, literalNumber, clauseList, N, M, places, K}
-use Rattle.laws.specs.Whole.{whole, add-law, sub-law, suc-law, part-law}
 use Rattle.laws.specs.Lists.{all-impl, all-map, all-every, all-countUp, map-same, map-at, length-flatten, length-flat-map, sum-append, sum-flatten, sum-same}
 use Rattle.laws.specs.Ranges.{length-range}
+use Rattle.laws.specs.Layout.{width-range}
 use Rattle.laws.specs.Admitted.{GoodBounds}
 use Rattle.laws.specs.Terms.{good-bounds, ranges, Within, tuples-within}
 use Rattle.laws.specs.Pieces.{Piece, line, under, pieceClauses, compared, lone, opening, piecesFrom, used, selected-count, rules-count, rules-places}
@@ -43,27 +43,20 @@ K-is B =
     ended-length c = omega (arith, length-append (map (literalNumber B) c) (pos 0 ∷ []), length-map c (literalNumber B))
 
 -- ---- a variable's axioms
-widened : (b : Bounds) → b .lo ≤ℤ b .hi → width b ≡ suc (size (sucℤ (b .hi) -ℤ b .lo))
-unfolding width
-widened b h =
-    let l = b .lo in
-    let u = b .hi in
-    omega (whole, add-law (u -ℤ l) (pos 2), sub-law u l, sub-law (sucℤ u) l, suc-law u, part-law (u -ℤ l +ℤ pos 2), part-law (sucℤ u -ℤ l))
-
 module _ (of : ℕ → Bounds) (x : ℕ) (h : of x .lo ≤ℤ of x .hi) where
   abbrev step : ℤ → SatClause
   step c = minus (order x (c -ℤ pos 1)) ∷ plus (order x c) ∷ []
 
   pub axioms-count : length (axiomsOf of x) ≡ width (of x) + 1
   unfolding axiomsOf
-  axioms-count = omega (arith, widened (of x) h, length-map (range (of x .lo) (of x .hi)) step, length-range (of x .lo) (of x .hi))
+  axioms-count = omega (arith, width-range (of x) h, length-map (range (of x .lo) (of x .hi)) step, length-range (of x .lo) (of x .hi))
 
   pub axioms-places : places (axiomsOf of x) ≡ 3 * width (of x) + 1
   unfolding axiomsOf places
   axioms-places =
       let cs = range (of x .lo) (of x .hi) in
       let three = all-map (λ c. length c + 1 ≡ 3) step cs (all-every (λ c. length (step c) + 1 ≡ 3) (λ c. refl) cs) in
-      omega (arith, widened (of x) h, sum-same (λ c. length c + 1) 3 (map step cs) three, length-map cs step, length-range (of x .lo) (of x .hi))
+      omega (arith, width-range (of x) h, sum-same (λ c. length c + 1) 3 (map step cs) three, length-map cs step, length-range (of x .lo) (of x .hi))
 
 -- ---- a piece of the rules: a clause's line, or a comparison's clauses
 unfoldable pub pieceCount : (ℕ → Bounds) → Piece → ℕ

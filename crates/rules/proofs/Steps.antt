@@ -16,7 +16,7 @@ use Rattle.definitions.specs.Result.{Result, done, refused}
 use Rattle.definitions.specs.Result as result
 use Rattle.definitions.specs.Reading.{Got, Context, times, unsigned, count, readLiteral}
 use Rattle.definitions.specs.Encoding.{selector}
-use Rattle.laws.specs.Whole.{whole, abs-le, abs-fits}
+use Rattle.laws.specs.Fits.{good-constant}
 use Rattle.laws.specs.Admitted.{GoodComparison}
 use Rattle.laws.specs.Readings.{times-parts, same}
 use Rattle.laws.specs.Spelling.{Stand, more, natural, comparisonFields}
@@ -55,7 +55,7 @@ module _ (ctx : Context) (t : List ℕ) where
         record { good = d .0; some = r .some; few = r .few; room = omega (arith, r .next, r .room) }
 
   pub constant-fits : {place : ℕ} {k : ℤ} → Stands ctx t place k → SFits w32 k
-  constant-fits {place} {k} s = abs-fits (omega (whole, abs-le k {k = 1000000} (omega (whole, s .good .least, s .good .most))))
+  constant-fits s = good-constant (s .good)
 
   -- ---- past a literal
   module _ (c : Cursor) (s : Sound ctx t c) (h : 0 < c .literals) (next : ℕ) where

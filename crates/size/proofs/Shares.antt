@@ -2,14 +2,14 @@
 use mathlib.Core.Path.{_≡_, refl, sym, ap, ap₂, subst, _∙_}
 use mathlib.Core.Bool.{true, false}
 use mathlib.Core.List.{List, [], _∷_}
-use Prim.Native.Nat.{ℕ, suc, _+_, _*_, _≤_, _<_, _^_}
+use Prim.Native.Nat.{ℕ, _+_, _*_, _≤_, _<_, _^_}
 use native.Mathlib.Nat.{mul-le-mul}
 use native.Mathlib.Omega.{arith}
 use lib.ListN.{length, drop}
 use mir.Syntax.{w64}
 use mir.Val.{Fits}
 use lib.Signed.{leZ, _≤ℤ_, _<ℤ_}
-use Rattle.definitions.specs.Board.{Board, Clause, isTrue, isFalse, atMost, boundsOf}
+use Rattle.definitions.specs.Board.{Board, boundsOf}
 use Rattle.definitions.specs.Board as board
 use Rattle.definitions.specs.Result.{done}
 use Rattle.definitions.specs.Reading.{Context, times, readLiteral, readClause}
@@ -19,7 +19,7 @@ use Rattle.laws.specs.Admitted.{Admitted, GoodComparison}
 use Rattle.laws.specs.Grammar.{finds}
 use Rattle.laws.specs.Reread as reread
 use Rattle.laws.specs.Reread.{BoardRead, tableEnd}
-use Rattle.laws.specs.Pieces.{Piece, line, lineFrom, piecesFrom, left, left-start}
+use Rattle.laws.specs.Pieces.{Piece, line, lineFrom, line-length, piecesFrom, left, left-start}
 use Rattle.laws.specs.Ahead.{gotten, length-times, literalsAt, clausesAt, coming}
 use Rattle.laws.specs.Sizes.{pieceCount, piecePlaces, pieceSelectors, N-sum, M-sum, K-sum}
 use Rattle.laws.specs.Fits.{tuples-fit, N-fits, M-fits, K-fits}
@@ -34,13 +34,6 @@ use Rattle.size.specs.declared.Share.{Share}
 use Rattle.size.specs.Shares.{ShareOf, ShareUnder, Adding, Fit, plus}
 
 -- ---- a line
-line-length : (j : ℕ) (C : Clause) → length (lineFrom j C) ≡ length C
-unfolding lineFrom
-line-length j [] = refl
-line-length j (isTrue b ∷ C) = ap suc (line-length j C)
-line-length j (isFalse b ∷ C) = ap suc (line-length j C)
-line-length j (atMost q ∷ C) = ap suc (line-length (suc j) C)
-
 module _ (B : Board) (ctx : Context) (t : List ℕ) (n place j : ℕ) (h : times n (readLiteral ctx) t place ≡ done (literalsAt ctx t n place)) where
   abbrev piece : Piece
   piece = line (lineFrom j (literalsAt ctx t n place .value))

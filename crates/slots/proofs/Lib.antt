@@ -1,1 +1,1 @@
-pub mod Filling
+pub mod Arrays

@@ -13,7 +13,7 @@ use Rattle.definitions.specs.Reading.{big}
 use Rattle.laws.specs.Whole.{whole, sfits}
 use Rattle.laws.specs.Lists.{all-at, length-countUp}
 use Rattle.laws.specs.Admitted.{GoodTerm}
-use Rattle.laws.specs.Reread.{ComparisonRead, termAt, termsAt, row-at}
+use Rattle.laws.specs.Reread.{termAt, termsAt, row-at}
 use Rattle.slots.specs.declared.Term.{Term}
 use Rattle.slots.specs.declared.Terms.{Terms}
 
@@ -46,9 +46,6 @@ pub record TermsStand (s : List ℕ) (place : ℕ) : Type 0 where
   pub room : place + 1 + 3 * big s place 1 ≤ length s
 
 module _ (s : List ℕ) (place : ℕ) where
-  pub terms-stand : (q : board.Comparison) (end : ℕ) → ComparisonRead s place q end → TermsStand s place
-  terms-stand q end r = record { few = r .few; room = omega (arith, r .next, r .room) }
-
   pub terms-count : length (termsAt s place) ≡ big s place 1
   unfolding termsAt
   terms-count = simp length-map (length-countUp 0 (big s place 1))

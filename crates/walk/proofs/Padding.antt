@@ -1,6 +1,6 @@
 -- Where a comparison's terms stand among three places. Assumes nothing.
 use mathlib.Core.Path.{_≡_, refl, sym, ap, ap₂, _∙_}
-use mathlib.Core.List.{List, [], _∷_, _++_, map, zipWith, map-map}
+use mathlib.Core.List.{List, [], _∷_, _++_, zipWith, map-map}
 use Prim.Native.Nat.{ℕ, zero, suc, _+_, _-_, _≤_, _<_}
 use native.Mathlib.Omega.{arith}
 use lib.ListN.{length, getD, drop, replicate, length-replicate, getD-replicate, List·getD-append, length-append, length-map, length-drop}
@@ -9,7 +9,7 @@ use lib.IntN.{ℤ, pos, _+ℤ_, _-ℤ_}
 use lib.Signed.{_≤ℤ_}
 use Rattle.definitions.specs.Tools.{size}
 use Rattle.laws.specs.Whole.{whole, add-law, sub-law, part-law}
-use Rattle.laws.specs.Lists.{all-at}
+use Rattle.laws.specs.Lists.{all-at, map-read}
 use Rattle.laws.specs.Tuples.{no-term}
 use Rattle.walk.specs.declared.Slot.{Slot}
 use Rattle.walk.specs.declared.Comparison.{Comparison}
@@ -22,11 +22,6 @@ use Rattle.walk.specs.Comparisons.{slotsOf, rangesOf, FairComparison, pa
 use Rattle.walk.proofs.Slots.{slot-ordered}
 
 -- ---- reading
-map-read : {A B : Type 0} (f : A → B) (d : A) (e : B) (l : List A) (i : ℕ) → i < length l → getD (map f l) i e ≡ f (getD l i d)
-map-read f d e [] i h = absurd (omega arith)
-map-read f d e (x ∷ l) zero h = refl
-map-read f d e (x ∷ l) (suc i) h = map-read f d e l i (omega arith)
-
 zip-read : {A B C : Type 0} (f : A → B → C) (d : A) (e : B) (g : C) (l : List A) (m : List B) (i : ℕ) → i < length l → i < length m
     → getD (zipWith f l m) i g ≡ f (getD l i d) (getD m i e)
 unfolding zipWith

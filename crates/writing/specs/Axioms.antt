@@ -11,7 +11,9 @@ use lib.Signed.{_≤ℤ_}
 use Rattle.definitions.specs.Tools.{neg, size, upFrom, range}
 use Rattle.definitions.specs.Board.{Board, boundsOf}
 use Rattle.definitions.specs.Encoding.{SatClause, order, plus, minus, axiomsOf, width, first, number, literalNumber}
-use Rattle.laws.specs.Whole.{whole, add-law, sub-law, suc-law, part-law}
+use Rattle.laws.specs.Whole.{whole, add-law, suc-law}
+use Rattle.laws.specs.Layout.{width-range}
+use Rattle.laws.specs.Axioms.{before-value, at-value, lowest-number, highest-number}
 use Rattle.writing.specs.Numbers.{numbersOf}
 
 -- n steps, from the order variable numbered i on: not this one, or the next
@@ -48,43 +50,22 @@ module _ (B : Board) (x : ℕ) where
   step : ℤ → SatClause
   step c = minus (order x (c -ℤ pos 1)) ∷ plus (order x c) ∷ []
 
-  -- p(x,lo + i - 1) and p(x,lo + i)
-  abbrev before : ℕ → ℕ
-  before i = first B x + i
-
-  at-before : (c : ℤ) (i : ℕ) → c ≡ lo +ℤ pos i → number B (order x (c -ℤ pos 1)) ≡ first B x + i
-  unfolding number
-  at-before c i e =
-      let z = c -ℤ pos 1 -ℤ lo +ℤ pos 1 in
-      let d : z ≡ pos i = omega (whole, add-law (c -ℤ pos 1 -ℤ lo) (pos 1), sub-law (c -ℤ pos 1) lo, sub-law c (pos 1), add-law lo (pos i)) in
-      ap (λ z. first B x + size z) d
-
-  at-here : (c : ℤ) (i : ℕ) → c ≡ lo +ℤ pos i → number B (order x c) ≡ suc (first B x + i)
-  unfolding number
-  at-here c i e =
-      let z = c -ℤ lo +ℤ pos 1 in
-      let d : z ≡ pos (suc i) = omega (whole, add-law (c -ℤ lo) (pos 1), sub-law c lo, add-law lo (pos i)) in
-      ap (λ z. first B x + size z) d ∙ omega arith
-
   steps-are : (n i : ℕ) (c : ℤ) → c ≡ lo +ℤ pos i → numbersOf B (map step (upFrom c n)) ≡ stepsFrom (first B x + i) n
   unfolding numbersOf stepsFrom flatten literalNumber step
   steps-are zero i c e = refl
   steps-are (suc n) i c e =
       let e′ : sucℤ c ≡ lo +ℤ pos (suc i) = omega (whole, suc-law c, add-law lo (pos i), add-law lo (pos (suc i))) in
       let f : first B x + suc i ≡ suc (first B x + i) = omega arith in
-      rw (at-before c i e, at-here c i e, steps-are n (suc i) (sucℤ c) e′, f)
+      rw (before-value B x c i e, at-value B x c i e, add-one, steps-are n (suc i) (sucℤ c) e′, f)
 
   pub axioms-are : lo ≤ℤ boundsOf B x .hi → numbersOf B (axiomsOf (boundsOf B) x) ≡ axiomNumbers (first B x) (width (boundsOf B x))
-  unfolding numbersOf axiomsOf axiomNumbers flatten literalNumber step width number
+  unfolding numbersOf axiomsOf axiomNumbers flatten literalNumber step
   axioms-are h =
       let hi = boundsOf B x .hi in
-      let w = size (hi -ℤ lo +ℤ pos 2) in
-      let n : size (sucℤ hi -ℤ lo) ≡ w - 1 = omega (whole, add-law (hi -ℤ lo) (pos 2), sub-law hi lo, sub-law (sucℤ hi) lo, suc-law hi, part-law (hi -ℤ lo +ℤ pos 2), part-law (sucℤ hi -ℤ lo)) in
+      let w = width (boundsOf B x) in
+      let n : size (sucℤ hi -ℤ lo) ≡ w - 1 = omega (arith, width-range (boundsOf B x) h) in
       let b : lo ≡ lo +ℤ pos 0 = omega (whole, add-law lo (pos 0)) in
-      let t : size (hi -ℤ lo +ℤ pos 1) ≡ w - 1 =
-      omega (whole, add-law (hi -ℤ lo) (pos 2), add-law (hi -ℤ lo) (pos 1), sub-law hi lo, part-law (hi -ℤ lo +ℤ pos 2), part-law (hi -ℤ lo +ℤ pos 1)) in
-      let top : number B (order x hi) ≡ first B x + (w - 1) = ap (λ k. first B x + k) t in
-      let bottom : number B (order x (lo -ℤ pos 1)) ≡ first B x = at-before lo 0 b ∙ omega arith in
-      ap₂ (λ i j. neg i ∷ pos 0 ∷ pos j ∷ pos 0 ∷ numbersOf B (map step (range lo hi))) bottom top
+      let top : number B (order x hi) ≡ first B x + (w - 1) = omega (arith, highest-number B x h, width-range (boundsOf B x) h) in
+      ap₂ (λ i j. neg i ∷ pos 0 ∷ pos j ∷ pos 0 ∷ numbersOf B (map step (range lo hi))) (lowest-number B x) top
       ∙ ap (λ z. neg (first B x) ∷ pos 0 ∷ pos (first B x + (w - 1)) ∷ pos 0 ∷ z)
       (ap (λ k. numbersOf B (map step (upFrom lo k))) n ∙ steps-are (w - 1) 0 lo b ∙ ap (λ k. stepsFrom k (w - 1)) (add-zero (first B x)))

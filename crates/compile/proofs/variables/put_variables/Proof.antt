@@ -5,14 +5,14 @@ use Prim.Native.Nat.{_+_, _-_, _≤_}
 use native.Mathlib.Omega.{arith}
 use lib.ListN.{length}
 use Rattle.definitions.specs.Encoding as encoding
-use Rattle.laws.specs.Fits.{first-most, width-most}
+use Rattle.laws.specs.Fits.{first-most, width-most, width-least}
 use Rattle.laws.specs.Boards.{boardOf, opens-admitted}
 use Rattle.laws.specs.Written.{rest-length}
 use Rattle.slots.specs.Variables.{first-none, first-more}
 use Rattle.writing.specs.Axioms.{axiomNumbers}
 use Rattle.laws.specs.Filling.{Filling, begin, room-before, room, room-for, part, ended}
 use Rattle.compile.specs.Lists.{axiomsFrom, axioms-end}
-use Rattle.compile.proofs.Passes.{width-some, axioms-next}
+use Rattle.compile.proofs.Passes.{axioms-next}
 use Rattle.compile.proofs.variables.put_variables.Statement.{statement}
 use Rattle.compile.proofs.variables.put_variables.Tie as tie
 
@@ -57,7 +57,7 @@ part-put-axioms-end c = search needs
 
 put-axioms-requires : tie.Need-put-axioms-requires Inv-loop μ-loop
 put-axioms-requires c κs =
-    (omega (arith, c .before .width-of .ensures, width-some _ (c .before .before .bounds-of .ensures .good)), omega (arith, c .before .width-of .ensures, width-most _ (c .before .before .bounds-of .ensures .good), c .before .before .before .before .loop .inv .1, first-most _ (opens-admitted (c .before .before .before .before .before .before .args .bytes .now) (c .before .before .before .before .before .before .pre .0)) (c .before .before .before .before .loop .x)), omega (arith, rest-length (c .before .before .before .before .loop .list) (c .before .before .before .before .loop .at), room-for (c .before .before .before .before .loop .inv .0) (axiomNumbers (c .before .before .before .before .loop .first) (c .before .width-of .result)) _ (axioms-next (boardOf (c .before .before .before .before .before .before .args .bytes .now)) (opens-admitted (c .before .before .before .before .before .before .args .bytes .now) (c .before .before .before .before .before .before .pre .0)) (c .before .before .before .before .loop .x) (omega (arith, c .before .before .before .loop-test .taken, c .before .before .before .before .before .before .pre .1)) (c .before .before .bounds-of .result) (c .before .before .before .before .loop .first) (c .before .width-of .result) (c .before .before .bounds-of .ensures) (c .before .before .before .before .loop .inv .1) (c .before .width-of .ensures))))
+    (omega (arith, c .before .width-of .ensures, width-least _ (c .before .before .bounds-of .ensures .good)), omega (arith, c .before .width-of .ensures, width-most _ (c .before .before .bounds-of .ensures .good), c .before .before .before .before .loop .inv .1, first-most _ (opens-admitted (c .before .before .before .before .before .before .args .bytes .now) (c .before .before .before .before .before .before .pre .0)) (c .before .before .before .before .loop .x)), omega (arith, rest-length (c .before .before .before .before .loop .list) (c .before .before .before .before .loop .at), room-for (c .before .before .before .before .loop .inv .0) (axiomNumbers (c .before .before .before .before .loop .first) (c .before .width-of .result)) _ (axioms-next (boardOf (c .before .before .before .before .before .before .args .bytes .now)) (opens-admitted (c .before .before .before .before .before .before .args .bytes .now) (c .before .before .before .before .before .before .pre .0)) (c .before .before .before .before .loop .x) (omega (arith, c .before .before .before .loop-test .taken, c .before .before .before .before .before .before .pre .1)) (c .before .before .bounds-of .result) (c .before .before .before .before .loop .first) (c .before .width-of .result) (c .before .before .bounds-of .ensures) (c .before .before .before .before .loop .inv .1) (c .before .width-of .ensures))))
 
 add-at : tie.Need-add-at Inv-loop μ-loop
 add-at c =

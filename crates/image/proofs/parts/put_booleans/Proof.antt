@@ -6,7 +6,7 @@ use lib.ListN.{length, take, length-set}
 use borrow.Author.Needs.{needs}
 use Rattle.laws.specs.Written.{written, written-none}
 use Rattle.image.specs.Parts.{booleanBytes, boolean-at, booleans-length}
-use Rattle.image.proofs.Filling.{put, all-put}
+use Rattle.image.proofs.Entries.{put, all-put}
 use Rattle.image.proofs.parts.put_booleans.Statement.{statement}
 use Rattle.image.proofs.parts.put_booleans.Tie as tie
 

@@ -12,7 +12,7 @@ use Rattle.image.proofs.Numbers.{below-fits, sum-fits, number-is}
 use borrow.Author.Needs.{needs}
 use Rattle.laws.specs.Written.{written, written-none}
 use Rattle.image.specs.Parts.{bit, orderFrom, order-at, orders-length}
-use Rattle.image.proofs.Filling.{put, all-put}
+use Rattle.image.proofs.Entries.{put, all-put}
 use Rattle.image.proofs.parts.put_orders.Statement.{statement}
 use Rattle.image.proofs.parts.put_orders.Tie as tie
 

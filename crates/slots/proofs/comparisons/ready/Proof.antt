@@ -16,7 +16,7 @@ use Rattle.slots.specs.declared.Term.{Term}
 use Rattle.slots.specs.declared.Terms.{Terms}
 use Rattle.slots.specs.Terms.{termRead, TermsOf, term-of, term-good}
 use Rattle.slots.specs.Ready.{firstBy, numbers-small, shows-ready}
-use Rattle.slots.proofs.Filling.{filled-more, filled-all}
+use Rattle.slots.proofs.Arrays.{filled-more, filled-all}
 use Rattle.slots.proofs.comparisons.ready.Statement.{statement}
 use Rattle.slots.proofs.comparisons.ready.Tie as tie
 

@@ -9,7 +9,7 @@ use Rattle.definitions.specs.Reading.{big}
 use Rattle.laws.specs.Reread.{termAt, termsAt}
 use Rattle.slots.specs.declared.Term.{Term}
 use Rattle.slots.specs.Terms.{termRead, terms-count, terms-at}
-use Rattle.slots.proofs.Filling.{map-set, filled-more, filled-all}
+use Rattle.slots.proofs.Arrays.{map-set, filled-more, filled-all}
 use Rattle.slots.proofs.comparisons.terms_at.Statement.{statement}
 use Rattle.slots.proofs.comparisons.terms_at.Tie as tie
 
