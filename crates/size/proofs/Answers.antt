@@ -1,5 +1,5 @@
 -- From the answer of the opening and the totals to the answers of `measure` and `size`. Assumes nothing.
-use mathlib.Core.Path.{_≡_, refl, sym, ap, ap₂, _∙_}
+use mathlib.Core.Path.{_≡_, sym, ap, ap₂, _∙_}
 use mathlib.Core.List.{List}
 use Prim.Native.Nat.{ℕ, _≤_, _<_}
 use native.Mathlib.Omega.{arith}
@@ -12,9 +12,10 @@ use Rattle.definitions.specs.Result as result
 use Rattle.definitions.specs.Operations.{readBoard, accepted, sizesOf, Size}
 use Rattle.laws.specs.Readings.{same, never}
 use Rattle.laws.specs.Reread.{accepted-parts}
-use Rattle.laws.specs.Boards.{Opens, boardOf, board-is, opens, opens-is}
+use Rattle.laws.specs.Boards.{boardOf, opens-is}
 use Rattle.opening.specs.declared.Header.{Header}
 use Rattle.opening.specs.Said.{mapDone, headerOf}
+use Rattle.opening.specs.Told.{opened}
 use Rattle.size.specs.declared.Totals.{Totals}
 use Rattle.size.specs.Said.{totalsOf, measuredOf}
 
@@ -29,23 +30,16 @@ stopped {C = C} f g (refused n′ d′) n d e = ap again (sym e)
 
 module _ (s : List ℕ) where
   module _ (h : Header) (e : mapDone headerOf (readBoard s) ≡ done h) where
-    pub opened : Opens s × (h ≡ headerOf (boardOf s))
-    opened = go (readBoard s) refl e
-      where
-        go : (m : Result Board) → readBoard s ≡ m → mapDone headerOf m ≡ done h → Opens s × (h ≡ headerOf (boardOf s))
-        go (done B) q e = (opens s B q, sym (same e) ∙ ap headerOf (sym (board-is s B q)))
-        go (refused n d) q e = never e
-
     module _ (t : Totals) (q : t ≡ totalsOf (boardOf s)) where
       pub measured : t .k ≤ 2000000000 → done (h, t) ≡ mapDone measuredOf (accepted s)
       measured l =
           let f : K (boardOf s) ≤ 2000000000 = omega (arith, ap (λ z. z .k) q) in
-          ap₂ (λ a b. done (a, b)) (opened .1) q
-          ∙ ap (mapDone measuredOf) (sym (accepted-parts s (boardOf s) .1 (opens-is s (opened .0), f)))
+          ap₂ (λ a b. done (a, b)) (opened s e .header) q
+          ∙ ap (mapDone measuredOf) (sym (accepted-parts s (boardOf s) .1 (opens-is s (opened s e .opens), f)))
 
       pub too-long : 2000000000 < t .k → refused 9 0 ≡ mapDone measuredOf (accepted s)
       unfolding accepted
-      too-long l = rw (opens-is s (opened .0), lt-leb (K (boardOf s)) 2000000000 (omega (arith, ap (λ z. z .k) q)))
+      too-long l = rw (opens-is s (opened s e .opens), lt-leb (K (boardOf s)) 2000000000 (omega (arith, ap (λ z. z .k) q)))
 
   pub unopened : (n d : ℕ) → mapDone headerOf (readBoard s) ≡ refused n d → refused n d ≡ mapDone measuredOf (accepted s)
   unfolding accepted
