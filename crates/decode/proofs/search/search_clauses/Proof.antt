@@ -6,8 +6,8 @@ use native.Mathlib.Omega.{arith}
 use Rattle.definitions.specs.Board.{Board}
 use Rattle.definitions.specs.Encoding.{clauses}
 use Rattle.laws.specs.Boards.{boardOf}
-use Rattle.decode.specs.declared.Checked.{Checked}
 use Rattle.opening.specs.Headers.{admitted, rules-inside, tail-is}
+use Rattle.decode.specs.declared.Checked.{Checked}
 use Rattle.decode.specs.Truth.{tests}
 use Rattle.decode.specs.Goes.{Goes, goes-start, goes-part, goes-fails}
 use Rattle.decode.specs.Passes.{ruleTests, clauses-split, clauses-fit}
