@@ -3,16 +3,16 @@ ghost use mathlib.Core.Path.{_≡_};
 ghost use Prim.Native.Nat.{_≤_};
 ghost use lib.ListN.{length};
 ghost use Rattle.definitions.specs.Encoding.{clauseList};
-ghost use Rattle.laws.specs.Boards.{Opens, boardOf};
+ghost use Rattle.laws.specs.Boards.{boardOf};
 ghost use Rattle.laws.specs.Written.{written};
-ghost use Rattle.opening.specs.Said.{headerOf};
+ghost use Rattle.opening.specs.Headers.{Opened};
 ghost use Rattle.compile.specs.Outcome.{Allowed};
 use crate::pieces::put_pieces;
 use crate::variables::put_variables;
 use definitions::Refusal;
 use definitions::Sizing;
 use opening::Header;
-use reader::Context;
+use opening::context_of;
 use size::Measured;
 use size::measure;
 use slots::variables::first_number;
@@ -22,14 +22,10 @@ pub mod variables; // variables.rt: the axioms of all variables
 
 // The axioms, and then, in the rest of the list, the clauses of the rules, which stand in the record's tail.
 fn put_list(bytes: &[u8], header: Header, list: &mut [i32]) -> usize
-    requires { ⌜ Opens (now bytes) × (header ≡ headerOf (boardOf (now bytes))) × (length (clauseList (boardOf (now bytes))) ≤ length (now list)) ⌝ }
+    requires { ⌜ Opened (now bytes) header × (length (clauseList (boardOf (now bytes))) ≤ length (now list)) ⌝ }
     ensures { λ r. ⌜ (r ≡ length (clauseList (boardOf (now (bytes .entry))))) × (now (list .exit) ≡ written (clauseList (boardOf (now (bytes .entry)))) (now (list .entry))) ⌝ }
 {
-    let known = Context {
-        version: 1,
-        ints: header.ints as u32,
-        bools: header.bools as u32,
-    };
+    let known = context_of(header);
     let tail = header.rules;
     let selectors = first_number(bytes, header.bools, header.ints);
     let at = put_variables(bytes, header.ints, header.bools, list);

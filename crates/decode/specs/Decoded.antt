@@ -102,5 +102,5 @@ module _ (s model : List ℕ) (values : List ℤ) (booleans : List ℕ) where
   unfolding Decode readBack modelChecks
   decode-is m =
       let B = boardOf s in
-      rw (m .board, m .header, m .totals)
+      rw (m .board, m .opened .header, m .totals)
       (ap (λ z. lending (values, booleans) (long (N B) model >> (long (length (B .bounds)) values >> (long (B .bools) booleans >> z)))) (regroup (bits model) _ _))

@@ -7,49 +7,21 @@ use lib.ListN.{length}
 use lib.Signed.{_≤ℤ_}
 use Rattle.definitions.specs.Board.{boundsOf}
 use Rattle.definitions.specs.Encoding.{N, first, width}
-use Rattle.laws.specs.Admitted.{Admitted}
 use Rattle.laws.specs.Terms.{good-bounds}
-use Rattle.laws.specs.Boards.{boardOf, Opens, opens-admitted}
-use Rattle.laws.specs.Reread.{contextOf, tableEnd}
+use Rattle.laws.specs.Boards.{boardOf}
 use Rattle.laws.specs.Fits.{N-fits, width-least}
 use Rattle.laws.specs.Layout.{orders-range}
-use Rattle.opening.specs.Said.{headerOf}
+use Rattle.opening.specs.Headers.{Opened, ints-is, bools-is, admitted}
 use Rattle.opening.specs.declared.Header.{Header}
 use Rattle.slots.specs.declared.Bounds.{Bounds}
 use Rattle.slots.specs.Variables.{BoundsOf, boundsRead, bounds-same}
-
-pub record Opened (s : List ℕ) (h : Header) : Type 0 where
-  pub opens : Opens s
-  pub header : h ≡ headerOf (boardOf s)
 
 pub record Given (s model : List ℕ) (h : Header) : Type 0 where
   pub opened : Opened s h
   pub long : length model ≡ N (boardOf s)
 
-module _ {s : List ℕ} {h : Header} (o : Opened s h) where
-  pub ints-is : h .ints ≡ length (boardOf s .bounds)
-  ints-is = ap (λ z. z .ints) (o .header)
-
-  pub bools-is : h .bools ≡ boardOf s .bools
-  bools-is = ap (λ z. z .bools) (o .header)
-
-  pub clauses-is : h .clauses ≡ length (boardOf s .clauses)
-  clauses-is = ap (λ z. z .clauses) (o .header)
-
-  pub rules-is : h .rules ≡ tableEnd (boardOf s)
-  rules-is = ap (λ z. z .rules) (o .header)
-
-  pub known-is : record { version = 1; ints = h .ints; bools = h .bools } ≡ contextOf (boardOf s)
-  known-is = rw (o .header)
-
-  pub selectors-are : first (boardOf s) (h .ints) ≡ first (boardOf s) (length (boardOf s .bounds))
-  selectors-are = ap (first (boardOf s)) ints-is
-
-  pub admitted : Admitted (boardOf s)
-  admitted = opens-admitted s (o .opens)
-
-  pub counts-small : (h .ints ≤ 1024) × (h .bools ≤ 4096)
-  counts-small = omega (arith, ints-is, bools-is, admitted .ints, admitted .bools)
+pub selectors-are : {s : List ℕ} {h : Header} → Opened s h → first (boardOf s) (h .ints) ≡ first (boardOf s) (length (boardOf s .bounds))
+selectors-are {s} o = ap (first (boardOf s)) (ints-is o)
 
 module _ {s model : List ℕ} {h : Header} (g : Given s model h) where
   pub short : length model < 2147483648

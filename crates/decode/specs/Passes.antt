@@ -25,7 +25,7 @@ use Rattle.walk.specs.declared.Walk.{Walk}
 use Rattle.walk.specs.declared.At.{At}
 use Rattle.walk.specs.Comparisons.{Walking, toCome, present, literalsOf, none-left, stepped}
 use Rattle.walk.specs.Walks.{places, left, seen, Over}
-use Rattle.decode.specs.Given.{Opened, clauses-is, admitted}
+use Rattle.opening.specs.Headers.{Opened, clauses-is, admitted}
 use Rattle.decode.specs.Truth.{trueClause, tests}
 use Rattle.decode.specs.Goes.{Goes, goes-start, goes-one, goes-stop, goes-end}
 use Rattle.decode.specs.Tails.{clauseTest, leadOf, Tails, tails-tests, tails-numbered}

@@ -16,7 +16,8 @@ ghost use Rattle.definitions.specs.Encoding.{N};
 ghost use Rattle.definitions.specs.Answers.{saidVerdict};
 ghost use Rattle.definitions.specs.Operations.{lending, Decode};
 ghost use Rattle.laws.specs.Boards.{boardOf};
-ghost use Rattle.decode.specs.Given.{Opened, Given};
+ghost use Rattle.opening.specs.Headers.{Opened};
+ghost use Rattle.decode.specs.Given.{Given};
 ghost use Rattle.decode.specs.Decoded.{modelChecks, readBack};
 ghost use Rattle.decode.specs.Outcome.{Leaves};
 

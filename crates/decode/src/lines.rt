@@ -1,7 +1,7 @@
 // The clause of a record clause's Boolean literals and selectors.
 use lent::is_on;
 use opening::Header;
-use reader::Context;
+use opening::context_of;
 use reader::Literal;
 use reader::LiteralRead;
 use reader::clauses::literal_at;
@@ -12,27 +12,14 @@ ghost use lib.ListN.{length};
 ghost use Rattle.definitions.specs.Tools.{All};
 ghost use Rattle.definitions.specs.Result.{done};
 ghost use Rattle.definitions.specs.Reading.{times, readLiteral};
-ghost use Rattle.reader.specs.Said.{contextOf};
 ghost use Rattle.laws.specs.Ahead.{literalsAt};
 ghost use Rattle.laws.specs.Boards.{boardOf};
-ghost use Rattle.laws.specs.Reread as reread;
+ghost use Rattle.laws.specs.Reread.{contextOf};
 ghost use Rattle.laws.specs.Pieces.{lineFrom};
 ghost use Rattle.laws.specs.Mentions.{Mentions};
 ghost use Rattle.decode.specs.Given.{Given};
 ghost use Rattle.decode.specs.Truth.{trueClause};
 ghost use Rattle.decode.specs.Lines.{numberIn, signed, selectorAfter};
-
-// What the reader of a literal has to know of the record.
-pub fn known_of(header: Header) -> Context
-    requires { ⌜ (header .ints ≤ 1024) × (header .bools ≤ 4096) ⌝ }
-    ensures { λ r. ⌜ contextOf r ≡ record { version = 1; ints = header .ints; bools = header .bools } ⌝ }
-{
-    Context {
-        version: 1,
-        ints: header.ints as u32,
-        bools: header.bools as u32,
-    }
-}
 
 // Whether a literal of a line holds: a comparison stands there as selector j, and selector 0 has the number `selectors`.
 fn literal_holds(model: &[u8], literal: Literal, selectors: usize, j: usize) -> bool
@@ -74,10 +61,10 @@ pub fn line_holds(
     at: usize,
     selector: usize,
 ) -> bool
-    requires { ⌜ Given (now bytes) (now model) header × (times n (readLiteral (reread.contextOf (boardOf (now bytes)))) (now rules) at ≡ done (literalsAt (reread.contextOf (boardOf (now bytes))) (now rules) n at)) × All (Mentions (boardOf (now bytes))) (lineFrom selector (literalsAt (reread.contextOf (boardOf (now bytes))) (now rules) n at .value)) ⌝ }
-    ensures { λ r. ⌜ r ≡ trueClause (boardOf (now (bytes .entry))) (now (model .entry)) (lineFrom selector (literalsAt (reread.contextOf (boardOf (now (bytes .entry)))) (now (rules .entry)) n at .value)) ⌝ }
+    requires { ⌜ Given (now bytes) (now model) header × (times n (readLiteral (contextOf (boardOf (now bytes)))) (now rules) at ≡ done (literalsAt (contextOf (boardOf (now bytes))) (now rules) n at)) × All (Mentions (boardOf (now bytes))) (lineFrom selector (literalsAt (contextOf (boardOf (now bytes))) (now rules) n at .value)) ⌝ }
+    ensures { λ r. ⌜ r ≡ trueClause (boardOf (now (bytes .entry))) (now (model .entry)) (lineFrom selector (literalsAt (contextOf (boardOf (now (bytes .entry)))) (now (rules .entry)) n at .value)) ⌝ }
 {
-    let known = known_of(header);
+    let known = context_of(header);
     let selectors = first_number(bytes, header.bools, header.ints) as usize;
     let mut j = selector;
     let mut place = at;

@@ -22,7 +22,8 @@ ghost use Rattle.laws.specs.Reread.{comparisonAt, contextOf};
 ghost use Rattle.laws.specs.Mentions.{InList, Sound};
 ghost use Rattle.rules.specs.Cursors.{saidPiece, Held, Stands};
 ghost use Rattle.walk.specs.Comparisons.{FairComparison, Walking, present};
-ghost use Rattle.decode.specs.Given.{Given, Opened};
+ghost use Rattle.opening.specs.Headers.{Opened};
+ghost use Rattle.decode.specs.Given.{Given};
 ghost use Rattle.decode.specs.Truth.{trueClause};
 ghost use Rattle.decode.specs.Tails.{clauseTest, leadOf, Tails, Single, TailsOf};
 

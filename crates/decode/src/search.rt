@@ -2,12 +2,12 @@
 use crate::Ahead;
 use crate::Checked;
 use crate::axioms::search_axioms;
-use crate::lines::known_of;
 use crate::pieces::clause_holds;
 use crate::pieces::lead_holds;
 use crate::pieces::tails_of;
 use lent::Found;
 use opening::Header;
+use opening::context_of;
 use reader::Context;
 use rules::Cursor;
 use rules::Stepped;
@@ -57,7 +57,7 @@ pub fn search_rules(bytes: &[u8], rules: &[u8], model: &[u8], header: Header, fr
     requires { ⌜ Given (now bytes) (now model) header × (now rules ≡ drop (tableEnd (boardOf (now bytes))) (now bytes)) × (from + length (ruleTests (boardOf (now bytes)) (now model)) < 9223372036854775808) ⌝ }
     ensures { λ r. ⌜ saidFound 13 r ≡ each 13 from (ruleTests (boardOf (now (bytes .entry))) (now (model .entry))) ⌝ }
 {
-    let known = known_of(header);
+    let known = context_of(header);
     let mut number = from;
     let mut cursor = start(header.clauses);
     let found = 'search: loop {

@@ -36,7 +36,7 @@ module _ (s : List ℕ) (header : Header) (totals : Totals) (h : Measures s head
   B = boardOf s
 
   pub lists-long : fitting header values booleans ≡ done tt → Long s header values booleans
-  lists-long e = long-enough s header values booleans (h .opens) (h .header) e
+  lists-long e = long-enough s header values booleans (h .opened) e
 
   module _ (lent : ℕ) where
     n-is : totals .n ≡ N B
@@ -44,16 +44,16 @@ module _ (s : List ℕ) (header : Header) (totals : Totals) (h : Measures s head
 
     pub lists-wrong : {n d : ℕ} → fitting header values booleans ≡ refused n d → refused n d ≡ imaging B values booleans lent
     unfolding imaging
-    lists-wrong e = rw (← h .header, e)
+    lists-wrong e = rw (← h .opened .header, e)
 
     module _ (e : fitting header values booleans ≡ done tt) where
       pub model-wrong : lent ≢ totals .n → refused 11 (totals .n) ≡ imaging B values booleans lent
       unfolding imaging
-      model-wrong n = ap (refused 11) n-is ∙ rw (← h .header, e, ne-eqb lent (N B) (λ q. n (q ∙ sym n-is)))
+      model-wrong n = ap (refused 11) n-is ∙ rw (← h .opened .header, e, ne-eqb lent (N B) (λ q. n (q ∙ sym n-is)))
 
       pub lists-right : lent ≡ totals .n → solving B values booleans ≡ imaging B values booleans lent
       unfolding imaging
-      lists-right q = rw (← h .header, e, eq-eqb lent (N B) (q ∙ n-is))
+      lists-right q = rw (← h .opened .header, e, eq-eqb lent (N B) (q ∙ n-is))
 
 -- ---- what is known once they have passed
 module _ (B : Board) (values : List ℤ) (booleans : List ℕ) (lent : ℕ) where
@@ -86,7 +86,7 @@ in-bounds B values booleans =
 pub to-write : (s : List ℕ) (header : Header) (totals : Totals) → Measures s header totals → (values : List ℤ) (booleans model : List ℕ)
     → Passed (boardOf s) values booleans (length model) → Writable s header values booleans model
 to-write s header totals h values booleans model p =
-    let l = lists-long s header totals h values booleans (rw (h .header) (p .lists)) in
+    let l = lists-long s header totals h values booleans (rw (h .opened .header) (p .lists)) in
     record { lists = l; near = near s header values booleans l (in-bounds (boardOf s) values booleans (p .solution)); room = p .model }
 
 -- ---- the outcome

@@ -6,9 +6,9 @@ ghost use lib.ListN.{length};
 ghost use Rattle.definitions.specs.Encoding.{selections};
 ghost use Rattle.definitions.specs.Meaning.{assigned};
 ghost use Rattle.judge.specs.Suited.{Near};
-ghost use Rattle.laws.specs.Boards.{Opens, boardOf};
+ghost use Rattle.laws.specs.Boards.{boardOf};
 ghost use Rattle.laws.specs.Written.{written};
-ghost use Rattle.opening.specs.Said.{headerOf};
+ghost use Rattle.opening.specs.Headers.{Opened};
 ghost use Rattle.reader.specs.Said.{contextOf};
 ghost use Rattle.rules.specs.Cursors.{Sound, atStart};
 ghost use Rattle.image.specs.Parts.{selectorBytes};
@@ -16,6 +16,7 @@ ghost use Rattle.image.specs.Selectors.{ledAt};
 use crate::parts::bit;
 use judge::literals::compares;
 use opening::Header;
+use opening::context_of;
 use reader::Context;
 use rules::Piece;
 use rules::Stepped;
@@ -67,14 +68,10 @@ fn put_led(rules: &[u8], known: Context, clauses: usize, values: &[i32], model: 
 
 // The rules are the record's tail.
 pub fn put_selectors(bytes: &[u8], header: Header, values: &[i32], model: &mut [u8]) -> usize
-    requires { ⌜ Opens (now bytes) × (header ≡ headerOf (boardOf (now bytes))) × (length (now values) ≡ length (boardOf (now bytes) .bounds)) × Near (now values) × (length (selections (boardOf (now bytes))) ≤ length (now model)) ⌝ }
+    requires { ⌜ Opened (now bytes) header × (length (now values) ≡ length (boardOf (now bytes) .bounds)) × Near (now values) × (length (selections (boardOf (now bytes))) ≤ length (now model)) ⌝ }
     ensures { λ r. ⌜ (r ≡ length (selections (boardOf (now (bytes .entry))))) × (now (model .exit) ≡ written (selectorBytes (assigned (now (values .entry)) []) (selections (boardOf (now (bytes .entry))))) (now (model .entry))) ⌝ }
 {
-    let known = Context {
-        version: 1,
-        ints: header.ints as u32,
-        bools: header.bools as u32,
-    };
+    let known = context_of(header);
     let tail = header.rules;
     put_led(&bytes[tail..], known, header.clauses, values, model)
 }

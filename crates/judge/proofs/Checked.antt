@@ -1,10 +1,9 @@
 -- Refusals 12, 14 and 13 put together: values that passed 14 are small, and the rules are the record's tail. Assumes nothing.
-use mathlib.Core.Path.{_≡_, refl, sym, ap, _∙_}
+use mathlib.Core.Path.{_≡_, sym, ap, _∙_}
 use mathlib.Core.List.{List, [], map}
-use Prim.Native.Nat.{ℕ, _-_, _≤_, _<_}
+use Prim.Native.Nat.{ℕ, _≤_, _<_}
 use native.Mathlib.Omega.{arith}
-use lib.ListN.{length, getD, take, drop, length-drop}
-use lib.Seq.{take-all}
+use lib.ListN.{length, getD}
 use lib.Dec.{T}
 use lib.IntN.{ℤ, pos, natAbs}
 use Rattle.definitions.specs.Tools.{any}
@@ -19,8 +18,11 @@ use Rattle.laws.specs.Decide.{itself, every, is-within}
 use Rattle.laws.specs.Search.{seek-all}
 use Rattle.laws.specs.Terms.{good-bounds}
 use Rattle.laws.specs.Ahead.{gotten, clausesAt}
-use Rattle.laws.specs.Boards.{boardOf, opens, opens-board, opens-admitted}
+use Rattle.laws.specs.Boards.{boardOf, opens-board}
+use Rattle.laws.specs.Reread.{contextOf}
+use Rattle.laws.specs.Written.{rest}
 use Rattle.opening.specs.declared.Header.{Header}
+use Rattle.opening.specs.Headers.{clauses-is, admitted, tail-is}
 use Rattle.judge.specs.Suited.{Near, Suited}
 use Rattle.judge.specs.Checks.{Long, solving}
 
@@ -39,7 +41,7 @@ module _ (s : List ℕ) (header : Header) (values : List ℤ) (booleans : List �
   small x l t =
       let v = getD values x (pos 0) in
       let w = is-within (boundsOf B x .lo) (boundsOf B x .hi) v .sound t in
-      let g = good-bounds B (opens-admitted s (h .opens) .bounds) x l in
+      let g = good-bounds B (admitted (h .opened) .bounds) x l in
       abs-le v (omega (whole, w .0, w .1, g .lowest, g .highest))
 
   -- values that have passed 14
@@ -53,27 +55,22 @@ module _ (s : List ℕ) (header : Header) (values : List ℤ) (booleans : List �
       small x k (countUp-all (λ x. T (test x)) 0 (length (B .bounds)) a x (omega arith) (omega arith)))
 
   -- ---- the rules
-  abbrev pub context : Context
-  context = record { version = 1; ints = length values; bools = length booleans }
+  abbrev ctx : Context
+  ctx = contextOf B
 
-  abbrev pub tail : List ℕ
-  tail = take (length s - header .rules) (drop (header .rules) s)
+  abbrev tail : List ℕ
+  tail = rest s (header .rules)
 
-  pub suited : Near values → Suited context values booleans
-  suited n = record { ints = refl; bools = refl; near = n }
+  pub suited : Near values → Suited ctx values booleans
+  suited n = record { ints = h .ints; bools = h .bools; near = n }
 
-  pub rules-inside : header .rules ≤ length s
-  rules-inside = rw (h .header-is) (opens-board s (h .opens) .room)
+  reading : times (header .clauses) (readClause ctx) tail 0 ≡ done (record { value = B .clauses; next = length tail })
+  reading = rw (tail-is (h .opened), clauses-is (h .opened)) (opens-board s (h .opened .opens) .clauses)
 
-  reading : times (header .clauses) (readClause context) tail 0 ≡ done (record { value = B .clauses; next = length tail })
-  reading =
-      rw (take-all (length s - header .rules) (drop (header .rules) s) (omega (arith, length-drop (header .rules) s)), h .header-is, h .ints, h .bools)
-      (opens-board s (h .opens) .clauses)
-
-  pub rules-read : times (header .clauses) (readClause context) tail 0 ≡ done (clausesAt context tail (header .clauses) 0)
+  pub rules-read : times (header .clauses) (readClause ctx) tail 0 ≡ done (clausesAt ctx tail (header .clauses) 0)
   unfolding clausesAt
   rules-read = reading ∙ ap (λ z. done (gotten z)) (sym reading)
 
-  pub rules-are : clausesAt context tail (header .clauses) 0 .value ≡ B .clauses
+  pub rules-are : clausesAt ctx tail (header .clauses) 0 .value ≡ B .clauses
   unfolding clausesAt
   rules-are = ap (λ z. gotten z .value) reading

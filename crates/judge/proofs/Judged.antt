@@ -1,5 +1,5 @@
 -- Judge in the parts that the code has: the record, the lengths (refusal 11), the other checks. Assumes nothing.
-use mathlib.Core.Path.{_≡_, refl, ap, _∙_}
+use mathlib.Core.Path.{_≡_, refl, _∙_}
 use mathlib.Core.Logic.{_≢_}
 use mathlib.Core.Bool.{Bool, true, false}
 use mathlib.Core.List.{List, map}
@@ -14,9 +14,9 @@ use Rattle.definitions.specs.Result.{Result, done, refused, _>>_, need, each}
 use Rattle.definitions.specs.Result as result
 use Rattle.definitions.specs.Meaning.{assigned, inBounds, holds}
 use Rattle.definitions.specs.Operations.{accepted, long, bits, judged, Judge}
-use Rattle.laws.specs.Boards.{boardOf, Opens}
 use Rattle.opening.specs.declared.Header.{Header}
 use Rattle.opening.specs.Said.{headerOf}
+use Rattle.opening.specs.Headers.{Opened, ints-is, bools-is}
 use Rattle.laws.specs.Readings.{never}
 use Rattle.judge.specs.Checks.{Long, fitting, solving}
 
@@ -86,7 +86,7 @@ unfolding Judge
 judge-not s values booleans e = rw (not-judged s values booleans (λ B. done tt) e)
 
 module _ (s : List ℕ) where
-  pub long-enough : (header : Header) (values : List ℤ) (booleans : List ℕ) → Opens s → header ≡ headerOf (boardOf s) → fitting header values booleans ≡ done tt → Long s header values booleans
-  long-enough header values booleans o e f =
+  pub long-enough : (header : Header) (values : List ℤ) (booleans : List ℕ) → Opened s header → fitting header values booleans ≡ done tt → Long s header values booleans
+  long-enough header values booleans o f =
       let l = fitted header values booleans f in
-      record { opens = o; header-is = e; ints = l .0 ∙ ap (λ h. h .ints) e; bools = l .1 ∙ ap (λ h. h .bools) e }
+      record { opened = o; ints = l .0 ∙ ints-is o; bools = l .1 ∙ bools-is o }

@@ -9,14 +9,13 @@ use Rattle.definitions.specs.Board.{Board, variables}
 use Rattle.definitions.specs.Result.{Result, _>>_, each}
 use Rattle.definitions.specs.Meaning.{assigned, inBounds, holds}
 use Rattle.definitions.specs.Operations.{long, bits}
-use Rattle.laws.specs.Boards.{Opens, boardOf}
+use Rattle.laws.specs.Boards.{boardOf}
 use Rattle.opening.specs.declared.Header.{Header}
-use Rattle.opening.specs.Said.{headerOf}
+use Rattle.opening.specs.Headers.{Opened}
 
 -- an accepted record, and lists as long as it wants
 pub record Long (s : List ℕ) (header : Header) (values : List ℤ) (booleans : List ℕ) : Type 0 where
-  pub opens : Opens s
-  pub header-is : header ≡ headerOf (boardOf s)
+  pub opened : Opened s header
   pub ints : length values ≡ length (boardOf s .bounds)
   pub bools : length booleans ≡ boardOf s .bools
 

@@ -2,11 +2,10 @@
 use mathlib.Core.Path.{_≡_, ap}
 use mathlib.Core.Bool.{Bool, true, false, not, _&&_}
 use mathlib.Core.List.{List, [], _∷_}
-use Prim.Native.Nat.{ℕ, zero, suc, _+_, _-_, _≤_, zero-le}
+use Prim.Native.Nat.{ℕ, zero, suc, _+_, _≤_, zero-le}
 use native.Mathlib.Nat.{add-zero}
 use native.Mathlib.Omega.{arith}
-use lib.ListN.{length, take, drop, length-drop}
-use lib.Seq.{take-all}
+use lib.ListN.{length, drop, length-drop}
 use lib.Dec.{leb, ltb, eqb}
 use lib.IntN.{pos}
 use types.Run.{OneOf, miss}
@@ -22,6 +21,7 @@ use Rattle.definitions.proofs.Refusal.{the-type}
 use Rattle.laws.specs.Readings.{same, moved, place, Orderly}
 use Rattle.laws.specs.Grammar.{reads-times}
 use Rattle.laws.specs.Reads.{reads-clause}
+use Rattle.laws.specs.Written.{rest, rest-drop}
 use Rattle.reader.specs.Parts.{past}
 use Rattle.reader.proofs.Steps.{past-done, past-refused}
 
@@ -127,22 +127,19 @@ fair-clause ctx =
 -- ---- clauses that are read in the tail, said of the whole
 module _ (n : ℕ) (ctx : Context) (s : List ℕ) (base : ℕ) (h : base ≤ length s) where
   abbrev tail : List ℕ
-  tail = take (length s - base) (drop base s)
+  tail = rest s base
 
   abbrev clauses : List ℕ → ℕ → Result (Got (List Clause))
   clauses = times n (readClause ctx)
-
-  tail-is : tail ≡ drop base s
-  tail-is = take-all (length s - base) (drop base s) (simp length-drop (omega arith))
 
   orderly : Orderly clauses
   orderly = reads-times (reads-clause ctx) n .orderly
 
   whole-is : clauses s base ≡ moved base (clauses tail 0)
-  whole-is = rw tail-is (rw add-zero at (orderly .moves s base 0 h))
+  whole-is = rw (rest-drop s base) (rw add-zero at (orderly .moves s base 0 h))
 
   inside : base + place (clauses tail 0) ≤ length s
-  inside = rw tail-is (omega (arith, orderly .inside (drop base s) 0 zero-le, length-drop base s))
+  inside = rw (rest-drop s base) (omega (arith, orderly .inside (drop base s) 0 zero-le, length-drop base s))
 
   pub tail-next : {p : ℕ} → past (clauses tail 0) ≡ done p → (past (clauses s base) ≡ done (base + p)) × (base + p ≤ length s)
   tail-next e =

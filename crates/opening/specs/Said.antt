@@ -2,7 +2,7 @@
 use Rattle.definitions.specs.Tools.{_+_, _*_, length}
 use Rattle.definitions.specs.Board.{Board}
 use Rattle.definitions.specs.Result.{Result, done, refused}
-use Rattle.definitions.specs.Reading.{Got}
+use Rattle.definitions.specs.Reading.{Got, Context}
 use Rattle.reader.specs.Said.{refusal}
 use Rattle.opening.specs.declared.Counts.{Counts}
 use Rattle.opening.specs.declared.CountsRead.{CountsRead}
@@ -21,6 +21,10 @@ saidCounts (CountsRead.Refused r) = refusal r
 abbrev pub headerOf : Board → Header
 headerOf B =
     record { ints = length (B .bounds); bools = B .bools; clauses = length (B .clauses); rules = 11 + 4 * length (B .bounds) }
+
+-- what the readers of clauses have to know
+abbrev pub contextIn : Header → Context
+contextIn h = record { version = 1; ints = h .ints; bools = h .bools }
 
 abbrev pub saidOpening : Opening → Result Header
 saidOpening (Opening.Board header) = done header

@@ -1,8 +1,11 @@
 // The whole record: 01's refusals 1 to 8 for every input, or its counts and the place where its clauses begin.
 ghost use mathlib.Core.Path.{_≡_};
+ghost use Prim.Native.Nat.{_≤_};
 ghost use Rattle.definitions.specs.Operations.{readBoard};
-ghost use Rattle.opening.specs.Said.{mapDone, headerOf, saidOpening};
+ghost use Rattle.reader.specs.Said.{contextOf};
+ghost use Rattle.opening.specs.Said.{mapDone, headerOf, contextIn, saidOpening};
 use definitions::Refusal;
+use reader::Context;
 use reader::Number;
 
 pub mod body; // body.rt: what follows the counts
@@ -46,5 +49,17 @@ pub fn open(bytes: &[u8]) -> Opening
             CountsRead::Refused(r) => Opening::Refused(r),
         },
         Number::Refused(r) => Opening::Refused(r),
+    }
+}
+
+// What the readers of clauses have to know of the record.
+pub fn context_of(header: Header) -> Context
+    requires { ⌜ (header .ints ≤ 1024) × (header .bools ≤ 4096) ⌝ }
+    ensures { λ r. ⌜ contextOf r ≡ contextIn header ⌝ }
+{
+    Context {
+        version: 1,
+        ints: header.ints as u32,
+        bools: header.bools as u32,
     }
 }

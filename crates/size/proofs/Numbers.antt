@@ -1,42 +1,31 @@
 -- From the shares of the rules and the widths of the variables to N, M and K. Assumes nothing.
 use mathlib.Core.Path.{_≡_, refl, sym, ap, _∙_}
 use mathlib.Core.List.{List, [], _∷_, map}
-use Prim.Native.Nat.{ℕ, suc, _+_, _*_, _-_, _≤_, _<_, _^_}
+use Prim.Native.Nat.{ℕ, suc, _+_, _*_, _-_, _<_, _^_}
 use native.Mathlib.Omega.{arith}
-use lib.ListN.{length, take, drop, length-drop}
+use lib.ListN.{length}
 use lib.Seq.{take-all}
 use Rattle.definitions.specs.Tools.{sum}
 use Rattle.definitions.specs.Board.{Board, Bounds, boundsOf}
 use Rattle.definitions.specs.Encoding.{width, first, N, M, K}
 use Rattle.laws.specs.Admitted.{Admitted}
-use Rattle.laws.specs.Boards.{Opens, boardOf, opens-board, opens-admitted}
 use Rattle.laws.specs.Pieces.{piecesFrom}
+use Rattle.laws.specs.Written.{rest}
 use Rattle.laws.specs.Sizes.{N-sum, M-sum, K-sum}
 use Rattle.laws.specs.Fits.{N-fits, M-fits, K-fits}
 use Rattle.opening.specs.declared.Header.{Header}
-use Rattle.opening.specs.Said.{headerOf}
+use Rattle.opening.specs.Said.{headerOf, contextIn}
+use Rattle.opening.specs.Headers.{Opened, context-is, tail-is}
+use Rattle.reader.specs.Said.{contextOf}
+use Rattle.reader.specs.declared.Context.{Context}
 use Rattle.size.specs.declared.Share.{Share}
 use Rattle.size.specs.declared.Totals.{Totals}
 use Rattle.size.specs.Said.{totalsOf}
 use Rattle.size.specs.Shares.{Known, Adding}
 
--- ---- what the header of an accepted record says
-module _ (s : List ℕ) (o : Opens s) (h : Header) (e : h ≡ headerOf (boardOf s)) where
-  pub ints-few : h .ints ≤ 1024
-  ints-few = omega (arith, ap (λ z. z .ints) e, opens-admitted s o .ints)
-
-  pub bools-few : h .bools ≤ 4096
-  bools-few = omega (arith, ap (λ z. z .bools) e, opens-admitted s o .bools)
-
-  pub tail-inside : h .rules ≤ length s
-  tail-inside = omega (arith, ap (λ z. z .rules) e, opens-board s o .room)
-
-  pub known : Known s (record { version = 1; ints = h .ints; bools = h .bools }) (take (length s - h .rules) (drop (h .rules) s))
-  known = record {
-    opens = o;
-    context = rw e;
-    tail = take-all (length s - h .rules) (drop (h .rules) s) (simp length-drop (omega arith)) ∙ ap (λ z. drop (z .rules) s) e;
-  }
+-- what a pass over the rules is given
+pub known : {s : List ℕ} {h : Header} (o : Opened s h) {k : Context} → contextOf k ≡ contextIn h → Known s k (rest s (h .rules))
+known o e = record { opens = o .opens; context = e ∙ context-is o; tail = tail-is o }
 
 -- ---- the sums over the variables
 counts-sum : (bs : List Bounds) → sum (map (λ b. width b + 1) bs) ≡ sum (map width bs) + length bs

@@ -7,16 +7,16 @@ use Rattle.definitions.specs.Result.{Result, done, refused}
 use Rattle.definitions.specs.Operations.{accepted}
 use Rattle.laws.specs.Readings.{same, never}
 use Rattle.laws.specs.Reread.{accepted-parts}
-use Rattle.laws.specs.Boards.{boardOf, Opens, board-is, opens}
+use Rattle.laws.specs.Boards.{boardOf, board-is, opens}
 use Rattle.opening.specs.declared.Header.{Header}
 use Rattle.opening.specs.Said.{mapDone, headerOf}
+use Rattle.opening.specs.Headers.{Opened}
 use Rattle.size.specs.declared.Totals.{Totals}
 use Rattle.size.specs.Said.{totalsOf, measuredOf}
 
 pub record Measures (s : List ℕ) (h : Header) (t : Totals) : Type 0 where
   pub board : accepted s ≡ done (boardOf s)
-  pub opens : Opens s
-  pub header : h ≡ headerOf (boardOf s)
+  pub opened : Opened s h
   pub totals : t ≡ totalsOf (boardOf s)
 
 module _ (s : List ℕ) where
@@ -28,8 +28,7 @@ module _ (s : List ℕ) where
           let r = accepted-parts s B .0 q .0 in
           let b = sym (board-is s B r) in record {
             board = q ∙ ap done b;
-            opens = opens s B r;
-            header = ap (λ z. z .0) (sym (same e)) ∙ ap headerOf b;
+            opened = record { opens = opens s B r; header = ap (λ z. z .0) (sym (same e)) ∙ ap headerOf b };
             totals = ap (λ z. z .1) (sym (same e)) ∙ ap totalsOf b;
           }
       go (refused n d) q e = never e

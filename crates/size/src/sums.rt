@@ -3,6 +3,7 @@ use crate::Share;
 use crate::Totals;
 use crate::pieces::share_of;
 use opening::Header;
+use opening::context_of;
 use reader::Context;
 use rules::Stepped;
 use rules::start;
@@ -12,9 +13,9 @@ ghost use mathlib.Core.Path.{_≡_};
 ghost use mathlib.Core.List.{[]};
 ghost use lib.ListN.{length};
 ghost use Rattle.definitions.specs.Board.{boundsOf};
-ghost use Rattle.laws.specs.Boards.{Opens, boardOf};
+ghost use Rattle.laws.specs.Boards.{boardOf};
 ghost use Rattle.laws.specs.Pieces.{piecesFrom};
-ghost use Rattle.opening.specs.Said.{headerOf};
+ghost use Rattle.opening.specs.Headers.{Opened};
 ghost use Rattle.size.specs.Shares.{Known, Fit, Adding, plus};
 ghost use Rattle.size.specs.Said.{totalsOf};
 
@@ -58,21 +59,17 @@ fn rules_share(bytes: &[u8], known: Context, clauses: usize, rules: &[u8]) -> Sh
 
 // They stand in the record's tail.
 fn tail_share(bytes: &[u8], header: Header) -> Share
-    requires { ⌜ Opens (now bytes) × (header ≡ headerOf (boardOf (now bytes))) ⌝ }
+    requires { ⌜ Opened (now bytes) header ⌝ }
     ensures { λ r. ⌜ Adding (boundsOf (boardOf (now (bytes .entry)))) (piecesFrom 0 (boardOf (now (bytes .entry)) .clauses)) [] r ⌝ }
 {
-    let known = Context {
-        version: 1,
-        ints: header.ints as u32,
-        bools: header.bools as u32,
-    };
+    let known = context_of(header);
     let tail = header.rules;
     rules_share(bytes, known, header.clauses, &bytes[tail..])
 }
 
 // A variable has width + 1 axioms, in 3 * width + 1 places.
 pub fn totals_of(bytes: &[u8], header: Header) -> Totals
-    requires { ⌜ Opens (now bytes) × (header ≡ headerOf (boardOf (now bytes))) ⌝ }
+    requires { ⌜ Opened (now bytes) header ⌝ }
     ensures { λ r. ⌜ r ≡ totalsOf (boardOf (now (bytes .entry))) ⌝ }
 {
     let share = tail_share(bytes, header);

@@ -19,7 +19,7 @@ enum-known-header c = search needs
 
 put-list-requires : tie.Need-put-list-requires
 put-list-requires c κs =
-    let m = measured (c .before .before .before .before .before .before .before .before .args .bytes .now) (told saidMeasured (c .before .before .before .before .before .before .measure .ensures) (c .before .before .before .before .header .given .1)) in (m .opens, m .header, omega (arith, c .before .if1 .left, ap (λ z. z .k) (m .totals), K-is (boardOf (c .before .before .before .before .before .before .before .before .args .bytes .now))))
+    let m = measured (c .before .before .before .before .before .before .before .before .args .bytes .now) (told saidMeasured (c .before .before .before .before .before .before .measure .ensures) (c .before .before .before .before .header .given .1)) in (m .opened, omega (arith, c .before .if1 .left, ap (λ z. z .k) (m .totals), K-is (boardOf (c .before .before .before .before .before .before .before .before .args .bytes .now))))
 
 enum-known-r : tie.Need-enum-known-r
 enum-known-r c = search needs

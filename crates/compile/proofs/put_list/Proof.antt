@@ -1,84 +1,100 @@
 -- `compile::put_list` meets its contract.
 use borrow.Author.Needs.{needs}
 use mathlib.Core.Path.{sym, ap, _∙_}
+use mathlib.Core.List.{List, _++_}
 use Prim.Native.Nat.{_+_, _≤_}
 use native.Mathlib.Omega.{arith}
 use lib.ListN.{length, length-append}
+use lib.IntN.{ℤ}
+use Rattle.definitions.specs.Board.{Board}
 use Rattle.definitions.specs.Encoding.{first}
 use Rattle.laws.specs.Boards.{boardOf}
 use Rattle.laws.specs.Pieces.{piecesFrom}
 use Rattle.laws.specs.Written.{rest-length}
-use Rattle.size.proofs.Numbers.{ints-few, bools-few, tail-inside, known}
-use Rattle.laws.specs.Filling.{begun, room-before, room, last}
+use Rattle.opening.specs.Headers.{ints-is, bools-is, clauses-is, counts-small, rules-inside}
+use Rattle.size.proofs.Numbers.{known}
+use Rattle.laws.specs.Filling.{Filling, begun, room-before, room, last}
 use Rattle.compile.specs.Lists.{axiomsFrom, piecesNumbers, whole-list}
 use Rattle.compile.proofs.Passes.{renamed}
 use Rattle.compile.proofs.put_list.Statement.{statement}
 use Rattle.compile.proofs.put_list.Tie as tie
 
-cast-t8 : tie.Need-cast-t8
-cast-t8 c =
-    omega (arith, ints-few _ (c .before .before .pre .0) _ (c .before .before .pre .1))
+module _ (c : tie.Start) where
+  abbrev B : Board
+  B = boardOf (c .args .bytes .now)
 
-cast-t9 : tie.Need-cast-t9
-cast-t9 c =
-    omega (arith, bools-few _ (c .before .before .before .pre .0) _ (c .before .before .before .pre .1))
+  abbrev pieces : List ℤ
+  pieces = piecesNumbers B (piecesFrom 0 (B .clauses))
+
+  all-fit : length (axiomsFrom B 0 ++ pieces) ≤ length (c .args .list .now)
+  all-fit = omega (arith, ap length (whole-list B), c .pre .1)
+
+-- the axioms are in the list, the clauses of the rules are to come
+module _ (c : tie.After-put-variables) where
+  abbrev start : tie.Start
+  start = c .before .before .before .before .before
+
+  axioms-put : Filling (axiomsFrom (B start) 0 ++ pieces start) (pieces start) (start .args .list .now) (c .put-variables .last .1 .1 .1 .0) (c .put-variables .result)
+  axioms-put = begun (axiomsFrom (B start) 0) (pieces start) _ _ _ (all-fit start) (c .put-variables .ensures .0) (c .put-variables .ensures .1)
+
+context-of-requires : tie.Need-context-of-requires
+context-of-requires c κs = counts-small (c .before .pre .0)
 
 first-number-requires : tie.Need-first-number-requires
-first-number-requires c κs =
-    ((c .before .before .before .pre .0), ap (λ z. z .bools) (c .before .before .before .pre .1), omega (arith, ap (λ z. z .ints) (c .before .before .before .pre .1)))
+first-number-requires c κs = let o = c .before .before .pre .0 in (o .opens, bools-is o, omega (arith, ints-is o))
 
 put-variables-requires : tie.Need-put-variables-requires
 put-variables-requires c κs =
-    ((c .before .before .before .before .before .pre .0), ap (λ z. z .ints) (c .before .before .before .before .before .pre .1), ap (λ z. z .bools) (c .before .before .before .before .before .pre .1), omega (arith, ap length (whole-list (boardOf (c .before .before .before .before .before .args .bytes .now))), length-append (axiomsFrom (boardOf (c .before .before .before .before .before .args .bytes .now)) 0) (piecesNumbers (boardOf (c .before .before .before .before .before .args .bytes .now)) (piecesFrom 0 ((boardOf (c .before .before .before .before .before .args .bytes .now)) .clauses))), c .before .before .before .before .before .pre .2))
+    let s = c .before .before .before .before in
+    let o = s .pre .0 in (o .opens, ints-is o, bools-is o, omega (arith, all-fit s, length-append (axiomsFrom (B s) 0) (pieces s)))
 
 sub-put-pieces : tie.Need-sub-put-pieces
-sub-put-pieces c =
-    omega (arith, tail-inside _ (c .before .before .before .before .before .before .before .pre .0) _ (c .before .before .before .before .before .before .before .pre .1))
+sub-put-pieces c = rules-inside (c .before .before .before .before .before .before .pre .0)
 
 part-put-pieces-start : tie.Need-part-put-pieces-start
-part-put-pieces-start c =
-    omega (arith, tail-inside _ (c .before .before .before .before .before .before .before .pre .0) _ (c .before .before .before .before .before .before .before .pre .1))
+part-put-pieces-start c = omega (arith, rules-inside (c .before .before .before .before .before .before .pre .0))
 
 part-put-pieces-end : tie.Need-part-put-pieces-end
 part-put-pieces-end c = search needs
 
 mul-put-pieces : tie.Need-mul-put-pieces
 mul-put-pieces c =
-    let h : c .before .before .put-variables .result ≤ length (c .before .before .before .before .before .before .before .before .args .list .now) = omega (arith, room-before (begun (axiomsFrom (boardOf (c .before .before .before .before .before .before .before .before .args .bytes .now)) 0) (piecesNumbers (boardOf (c .before .before .before .before .before .before .before .before .args .bytes .now)) (piecesFrom 0 ((boardOf (c .before .before .before .before .before .before .before .before .args .bytes .now)) .clauses))) (c .before .before .before .before .before .before .before .before .args .list .now) (c .before .before .put-variables .last .1 .1 .1 .0) (c .before .before .put-variables .result) (omega (arith, ap length (whole-list (boardOf (c .before .before .before .before .before .before .before .before .args .bytes .now))), c .before .before .before .before .before .before .before .before .pre .2)) (c .before .before .put-variables .ensures .0) (c .before .before .put-variables .ensures .1))) in search needs
+    let h : c .before .before .put-variables .result ≤ length (c .before .before .before .before .before .before .before .args .list .now) = omega (arith, room-before (axioms-put (c .before .before))) in search needs
 
 sub-put-pieces-2 : tie.Need-sub-put-pieces-2
-sub-put-pieces-2 c =
-    omega (arith, room (begun (axiomsFrom (boardOf (c .before .before .before .before .before .before .before .before .args .bytes .now)) 0) (piecesNumbers (boardOf (c .before .before .before .before .before .before .before .before .args .bytes .now)) (piecesFrom 0 ((boardOf (c .before .before .before .before .before .before .before .before .args .bytes .now)) .clauses))) (c .before .before .before .before .before .before .before .before .args .list .now) (c .before .before .put-variables .last .1 .1 .1 .0) (c .before .before .put-variables .result) (omega (arith, ap length (whole-list (boardOf (c .before .before .before .before .before .before .before .before .args .bytes .now))), c .before .before .before .before .before .before .before .before .pre .2)) (c .before .before .put-variables .ensures .0) (c .before .before .put-variables .ensures .1)))
+sub-put-pieces-2 c = omega (arith, room (axioms-put (c .before .before)))
 
 part-put-pieces-start-2 : tie.Need-part-put-pieces-start-2
-part-put-pieces-start-2 c =
-    omega (arith, room (begun (axiomsFrom (boardOf (c .before .before .before .before .before .before .before .before .args .bytes .now)) 0) (piecesNumbers (boardOf (c .before .before .before .before .before .before .before .before .args .bytes .now)) (piecesFrom 0 ((boardOf (c .before .before .before .before .before .before .before .before .args .bytes .now)) .clauses))) (c .before .before .before .before .before .before .before .before .args .list .now) (c .before .before .put-variables .last .1 .1 .1 .0) (c .before .before .put-variables .result) (omega (arith, ap length (whole-list (boardOf (c .before .before .before .before .before .before .before .before .args .bytes .now))), c .before .before .before .before .before .before .before .before .pre .2)) (c .before .before .put-variables .ensures .0) (c .before .before .put-variables .ensures .1)))
+part-put-pieces-start-2 c = omega (arith, room (axioms-put (c .before .before)))
 
 part-put-pieces-end-2 : tie.Need-part-put-pieces-end-2
 part-put-pieces-end-2 c = search needs
 
 put-pieces-requires : tie.Need-put-pieces-requires
 put-pieces-requires c κs =
-    ((known _ (c .before .before .before .before .before .before .before .before .before .pre .0) _ (c .before .before .before .before .before .before .before .before .before .pre .1)), ap (λ z. z .clauses) (c .before .before .before .before .before .before .before .before .before .pre .1), c .before .before .before .before .before .first-number .ensures ∙ ap (λ z. first (boardOf (c .before .before .before .before .before .before .before .before .before .args .bytes .now)) (z .ints)) (c .before .before .before .before .before .before .before .before .before .pre .1), omega (arith, room (begun (axiomsFrom (boardOf (c .before .before .before .before .before .before .before .before .before .args .bytes .now)) 0) (piecesNumbers (boardOf (c .before .before .before .before .before .before .before .before .before .args .bytes .now)) (piecesFrom 0 ((boardOf (c .before .before .before .before .before .before .before .before .before .args .bytes .now)) .clauses))) (c .before .before .before .before .before .before .before .before .before .args .list .now) (c .before .before .before .put-variables .last .1 .1 .1 .0) (c .before .before .before .put-variables .result) (omega (arith, ap length (whole-list (boardOf (c .before .before .before .before .before .before .before .before .before .args .bytes .now))), c .before .before .before .before .before .before .before .before .before .pre .2)) (c .before .before .before .put-variables .ensures .0) (c .before .before .before .put-variables .ensures .1)), rest-length (c .before .before .before .put-variables .last .1 .1 .1 .0) (c .before .before .before .put-variables .result)))
+    let s = c .before .before .before .before .before .before .before .before in
+    let o = s .pre .0 in
+    let l = c .before .before .before in
+    (known o (c .before .before .before .before .before .before .context-of .ensures), clauses-is o, c .before .before .before .before .before .first-number .ensures ∙ ap (first (B s)) (ints-is o), omega (arith, room (axioms-put l), rest-length (l .put-variables .last .1 .1 .1 .0) (l .put-variables .result)))
 
 add-result : tie.Need-add-result
 add-result c =
-    let h : c .before .before .before .before .before .put-variables .result + c .before .put-pieces .result ≤ length (c .before .before .before .before .before .before .before .before .before .before .before .args .list .now) = omega (arith, c .before .put-pieces .ensures .0, room-before (begun (axiomsFrom (boardOf (c .before .before .before .before .before .before .before .before .before .before .before .args .bytes .now)) 0) (piecesNumbers (boardOf (c .before .before .before .before .before .before .before .before .before .before .before .args .bytes .now)) (piecesFrom 0 ((boardOf (c .before .before .before .before .before .before .before .before .before .before .before .args .bytes .now)) .clauses))) (c .before .before .before .before .before .before .before .before .before .before .before .args .list .now) (c .before .before .before .before .before .put-variables .last .1 .1 .1 .0) (c .before .before .before .before .before .put-variables .result) (omega (arith, ap length (whole-list (boardOf (c .before .before .before .before .before .before .before .before .before .before .before .args .bytes .now))), c .before .before .before .before .before .before .before .before .before .before .before .pre .2)) (c .before .before .before .before .before .put-variables .ensures .0) (c .before .before .before .before .before .put-variables .ensures .1))) in search needs
+    let h : c .before .before .before .before .before .put-variables .result + c .before .put-pieces .result ≤ length (c .before .before .before .before .before .before .before .before .before .before .args .list .now) = omega (arith, c .before .put-pieces .ensures .0, room-before (axioms-put (c .before .before .before .before .before))) in search needs
 
 same-length : tie.Need-same-length
-same-length c =
-    last (begun (axiomsFrom (boardOf (c .before .before .before .before .before .before .before .before .before .before .before .args .bytes .now)) 0) (piecesNumbers (boardOf (c .before .before .before .before .before .before .before .before .before .before .before .args .bytes .now)) (piecesFrom 0 ((boardOf (c .before .before .before .before .before .before .before .before .before .before .before .args .bytes .now)) .clauses))) (c .before .before .before .before .before .before .before .before .before .before .before .args .list .now) (c .before .before .before .before .before .put-variables .last .1 .1 .1 .0) (c .before .before .before .before .before .put-variables .result) (omega (arith, ap length (whole-list (boardOf (c .before .before .before .before .before .before .before .before .before .before .before .args .bytes .now))), c .before .before .before .before .before .before .before .before .before .before .before .pre .2)) (c .before .before .before .before .before .put-variables .ensures .0) (c .before .before .before .before .before .put-variables .ensures .1)) _ _ (c .before .put-pieces .ensures .0) (c .before .put-pieces .ensures .1) .2
+same-length c = last (axioms-put (c .before .before .before .before .before)) _ _ (c .before .put-pieces .ensures .0) (c .before .put-pieces .ensures .1) .2
 
 returns : tie.Need-returns
 returns c =
-    let e = last (begun (axiomsFrom (boardOf (c .before .before .before .before .before .before .before .before .before .before .before .args .bytes .now)) 0) (piecesNumbers (boardOf (c .before .before .before .before .before .before .before .before .before .before .before .args .bytes .now)) (piecesFrom 0 ((boardOf (c .before .before .before .before .before .before .before .before .before .before .before .args .bytes .now)) .clauses))) (c .before .before .before .before .before .before .before .before .before .before .before .args .list .now) (c .before .before .before .before .before .put-variables .last .1 .1 .1 .0) (c .before .before .before .before .before .put-variables .result) (omega (arith, ap length (whole-list (boardOf (c .before .before .before .before .before .before .before .before .before .before .before .args .bytes .now))), c .before .before .before .before .before .before .before .before .before .before .before .pre .2)) (c .before .before .before .before .before .put-variables .ensures .0) (c .before .before .before .before .before .put-variables .ensures .1)) _ _ (c .before .put-pieces .ensures .0) (c .before .put-pieces .ensures .1) in renamed (c .before .before .before .before .before .before .before .before .before .before .before .args .list .now) (sym (whole-list (boardOf (c .before .before .before .before .before .before .before .before .before .before .before .args .bytes .now)))) (e .0, e .1)
+    let s = c .before .before .before .before .before .before .before .before .before .before in
+    let e = last (axioms-put (c .before .before .before .before .before)) _ _ (c .before .put-pieces .ensures .0) (c .before .put-pieces .ensures .1) in
+    renamed (s .args .list .now) (sym (whole-list (B s))) (e .0, e .1)
 
 pub put-list-spec : {M : Type 1} → statement M
 put-list-spec =
     tie.close
     (tie.spec
-    cast-t8
-    cast-t9
+    context-of-requires
     first-number-requires
     put-variables-requires
     sub-put-pieces

@@ -20,7 +20,7 @@ enum-known-header c = search needs
 
 read-back-requires : tie.Need-read-back-requires
 read-back-requires c κs =
-    let m = told-all (c .before .before .before) in (record { opens = m .opens; header = m .header }, ap (λ t. t .n) (m .totals))
+    let m = told-all (c .before .before .before) in (m .opened, ap (λ t. t .n) (m .totals))
 
 enum-known-r : tie.Need-enum-known-r
 enum-known-r c = search needs

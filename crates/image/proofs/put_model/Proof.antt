@@ -28,7 +28,7 @@ put-variables-requires : tie.Need-put-variables-requires
 put-variables-requires c κs =
     let start = c .before .before .before .before .before .before .before .before in
     let filled = after-booleans (start .pre) (c .before .before .before .put-booleans .ensures) in
-    (start .pre .lists .opens, start .pre .lists .ints, orders-room (start .pre) filled)
+    (start .pre .lists .opened .opens, start .pre .lists .ints, orders-room (start .pre) filled)
 
 add-selectors : tie.Need-add-selectors
 add-selectors c =
@@ -58,7 +58,7 @@ put-selectors-requires c κs =
     let start = c .before .before .before .before .before .before .before .before .before .before .before .before in
     let filled = after-booleans (start .pre) (c .before .before .before .before .before .before .before .put-booleans .ensures) in
     let further = after-orders (start .pre) filled (c .before .before .before .put-variables .ensures) in
-    (start .pre .lists .opens, start .pre .lists .header-is, start .pre .lists .ints, start .pre .near, selectors-room (start .pre) further)
+    (start .pre .lists .opened, start .pre .lists .ints, start .pre .near, selectors-room (start .pre) further)
 
 same-length : tie.Need-same-length
 same-length c =

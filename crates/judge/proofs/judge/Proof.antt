@@ -24,7 +24,7 @@ enum-told c = search needs
 
 solved-requires : tie.Need-solved-requires
 solved-requires c κs =
-    let m = measured (c .before .before .before .before .before .before .before .before .before .args .bytes .now) (told saidMeasured (c .before .before .before .before .before .before .measure .ensures) (c .before .before .before .before .header .given .1)) in long-enough (c .before .before .before .before .before .before .before .before .before .args .bytes .now) _ (c .before .before .before .before .before .before .before .before .before .args .values .now) (c .before .before .before .before .before .before .before .before .before .args .booleans .now) (m .opens) (m .header) (told saidVerdict (c .before .before .lengths .ensures) (c .enum-told .given .1))
+    let m = measured (c .before .before .before .before .before .before .before .before .before .args .bytes .now) (told saidMeasured (c .before .before .before .before .before .before .measure .ensures) (c .before .before .before .before .header .given .1)) in long-enough (c .before .before .before .before .before .before .before .before .before .args .bytes .now) _ (c .before .before .before .before .before .before .before .before .before .args .values .now) (c .before .before .before .before .before .before .before .before .before .args .booleans .now) (m .opened) (told saidVerdict (c .before .before .lengths .ensures) (c .enum-told .given .1))
 
 enum-known-r : tie.Need-enum-known-r
 enum-known-r c = search needs
@@ -34,11 +34,11 @@ enum-known-r-2 c = search needs
 
 returns : tie.Need-returns
 returns c =
-    let m = measured (c .before .before .before .before .before .before .before .before .before .before .args .bytes .now) (told saidMeasured (c .before .before .before .before .before .before .before .measure .ensures) (c .before .before .before .before .before .header .given .1)) in c .solved .ensures ∙ judge-is (c .before .before .before .before .before .before .before .before .before .before .args .bytes .now) (c .before .before .before .before .before .before .before .before .before .before .args .values .now) (c .before .before .before .before .before .before .before .before .before .before .args .booleans .now) (boardOf (c .before .before .before .before .before .before .before .before .before .before .args .bytes .now)) (m .board) (rw (m .header) at (told saidVerdict (c .before .before .before .lengths .ensures) (c .before .enum-told .given .1))) refl
+    let m = measured (c .before .before .before .before .before .before .before .before .before .before .args .bytes .now) (told saidMeasured (c .before .before .before .before .before .before .before .measure .ensures) (c .before .before .before .before .before .header .given .1)) in c .solved .ensures ∙ judge-is (c .before .before .before .before .before .before .before .before .before .before .args .bytes .now) (c .before .before .before .before .before .before .before .before .before .before .args .values .now) (c .before .before .before .before .before .before .before .before .before .before .args .booleans .now) (boardOf (c .before .before .before .before .before .before .before .before .before .before .args .bytes .now)) (m .board) (rw (m .opened .header) at (told saidVerdict (c .before .before .before .lengths .ensures) (c .before .enum-told .given .1))) refl
 
 returns-2 : tie.Need-returns-2
 returns-2 c =
-    let m = measured (c .before .before .before .before .before .before .before .before .before .before .args .bytes .now) (told saidMeasured (c .before .before .before .before .before .before .before .measure .ensures) (c .before .before .before .before .before .header .given .1)) in judge-is (c .before .before .before .before .before .before .before .before .before .before .args .bytes .now) (c .before .before .before .before .before .before .before .before .before .before .args .values .now) (c .before .before .before .before .before .before .before .before .before .before .args .booleans .now) (boardOf (c .before .before .before .before .before .before .before .before .before .before .args .bytes .now)) (m .board) (rw (m .header) at (told saidVerdict (c .before .before .before .lengths .ensures) (c .before .r .given .1))) refl
+    let m = measured (c .before .before .before .before .before .before .before .before .before .before .args .bytes .now) (told saidMeasured (c .before .before .before .before .before .before .before .measure .ensures) (c .before .before .before .before .before .header .given .1)) in judge-is (c .before .before .before .before .before .before .before .before .before .before .args .bytes .now) (c .before .before .before .before .before .before .before .before .before .before .args .values .now) (c .before .before .before .before .before .before .before .before .before .before .args .booleans .now) (boardOf (c .before .before .before .before .before .before .before .before .before .before .args .bytes .now)) (m .board) (rw (m .opened .header) at (told saidVerdict (c .before .before .before .lengths .ensures) (c .before .r .given .1))) refl
 
 returns-3 : tie.Need-returns-3
 returns-3 c =

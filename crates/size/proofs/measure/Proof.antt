@@ -2,7 +2,8 @@
 use native.Mathlib.Omega.{arith}
 use Rattle.fields.proofs.Laws.{told}
 use Rattle.opening.specs.Said.{saidOpening}
-use Rattle.size.proofs.Answers.{opened, measured, too-long, unopened}
+use Rattle.opening.specs.Told.{opened}
+use Rattle.size.proofs.Answers.{measured, too-long, unopened}
 use borrow.Author.Needs.{needs}
 use Rattle.size.proofs.measure.Statement.{statement}
 use Rattle.size.proofs.measure.Tie as tie
@@ -15,7 +16,7 @@ enum-known-header c = search needs
 
 totals-of-requires : tie.Need-totals-of-requires
 totals-of-requires c κs =
-    opened _ _ (told saidOpening (c .before .before .before .«open» .ensures) (c .before .header .given .1))
+    opened _ (told saidOpening (c .before .before .before .«open» .ensures) (c .before .header .given .1))
 
 enum-known-r : tie.Need-enum-known-r
 enum-known-r c = search needs

@@ -12,7 +12,8 @@ use Rattle.definitions.specs.Encoding as Encoding
 use Rattle.laws.specs.Boards.{boardOf}
 use Rattle.laws.specs.Axioms.{axiomsFrom, axioms-all, axioms-none}
 use Rattle.slots.specs.Variables.{bounds-same, first-none, first-more}
-use Rattle.decode.specs.Given.{ints-is, bools-is, counts-small, admitted, short, inside, ordered, within}
+use Rattle.opening.specs.Headers.{ints-is, bools-is, counts-small, admitted}
+use Rattle.decode.specs.Given.{short, inside, ordered, within}
 use Rattle.decode.specs.Truth.{tests}
 use Rattle.decode.specs.Goes.{Goes, goes-start, goes-part, goes-fails, goes-end}
 use Rattle.decode.specs.Axioms.{axiomTests, axioms-first, axioms-fit}

@@ -11,7 +11,8 @@ use Rattle.laws.specs.Boards.{boardOf}
 use Rattle.laws.specs.Pieces.{lineFrom}
 use Rattle.laws.specs.Reread.{contextOf}
 use Rattle.reader.specs.Said.{literalOf, saidLiteral}
-use Rattle.decode.specs.Given.{ints-is, bools-is, known-is, selectors-are, counts-small, short}
+use Rattle.opening.specs.Headers.{ints-is, bools-is, context-is, counts-small}
+use Rattle.decode.specs.Given.{selectors-are, short}
 use Rattle.decode.specs.Truth.{trueClause}
 use Rattle.decode.specs.Lines.{Reading, none-left, one-left, literal-numbered, literal-true, literal-false}
 use Rattle.decode.proofs.lines.line_holds.Statement.{statement}
@@ -30,10 +31,10 @@ B c = boardOf (c .args .bytes .now)
 -- a literal was read
 read : (c : tie.After-literal Inv-loop μ-loop)
     → readLiteral (contextOf (B (c .before .before .before .before .before .before .before .before .before .before))) (c .before .before .before .before .before .before .before .before .before .before .args .rules .now) (c .before .before .before .before .loop .place) ≡ done (record { value = literalOf (c .before .before .before .before .before .before .before .before .before .before .args .rules .now) (c .literal .given .0 .0); next = c .literal .given .0 .1 .0 })
-read c = rw (c .before .before .before .before .before .before .known-of .ensures, known-is (c .before .before .before .before .before .before .before .before .before .before .pre .0 .opened)) at (told (saidLiteral (c .before .before .before .before .before .before .before .before .before .before .args .rules .now)) (c .before .before .literal-at .ensures .0) (c .literal .given .1))
+read c = rw (c .before .before .before .before .before .before .context-of .ensures, context-is (c .before .before .before .before .before .before .before .before .before .before .pre .0 .opened)) at (told (saidLiteral (c .before .before .before .before .before .before .before .before .before .before .args .rules .now)) (c .before .before .literal-at .ensures .0) (c .literal .given .1))
 
-known-of-requires : tie.Need-known-of-requires Inv-loop μ-loop
-known-of-requires c κs = counts-small (c .before .before .before .pre .0 .opened)
+context-of-requires : tie.Need-context-of-requires Inv-loop μ-loop
+context-of-requires c κs = counts-small (c .before .before .before .pre .0 .opened)
 
 first-number-requires : tie.Need-first-number-requires Inv-loop μ-loop
 first-number-requires c κs =
@@ -56,7 +57,7 @@ enum-told c = search needs
 
 returns : tie.Need-returns Inv-loop μ-loop
 returns c =
-    absurd (one-left (c .before .before .before .before .loop .inv) (c .before .before .before .loop-test .taken) (rw (c .before .before .before .before .before .before .known-of .ensures, known-is (c .before .before .before .before .before .before .before .before .before .before .pre .0 .opened)) at (told (saidLiteral (c .before .before .before .before .before .before .before .before .before .before .args .rules .now)) (c .before .before .literal-at .ensures .0) (c .enum-told .given .1))))
+    absurd (one-left (c .before .before .before .before .loop .inv) (c .before .before .before .loop-test .taken) (rw (c .before .before .before .before .before .before .context-of .ensures, context-is (c .before .before .before .before .before .before .before .before .before .before .pre .0 .opened)) at (told (saidLiteral (c .before .before .before .before .before .before .before .before .before .before .args .rules .now)) (c .before .before .literal-at .ensures .0) (c .enum-told .given .1))))
 
 literal-holds-requires : tie.Need-literal-holds-requires Inv-loop μ-loop
 literal-holds-requires c κs =
@@ -91,7 +92,7 @@ line-holds-spec =
     (tie.spec
     Inv-loop
     μ-loop
-    known-of-requires
+    context-of-requires
     first-number-requires
     cast-selectors
     loop-holds

@@ -7,7 +7,8 @@ use lib.ListN.{length}
 use Rattle.definitions.specs.Board.{Board}
 use Rattle.definitions.specs.Meaning.{on}
 use Rattle.laws.specs.Boards.{boardOf}
-use Rattle.decode.specs.Given.{ints-is, bools-is, selectors-are, short}
+use Rattle.opening.specs.Headers.{ints-is, bools-is}
+use Rattle.decode.specs.Given.{selectors-are, short}
 use Rattle.decode.specs.Truth.{selectorNumber}
 use Rattle.decode.specs.Tails.{negated-true, selector-numbered}
 use borrow.Author.Needs.{needs}

@@ -12,7 +12,7 @@ use Rattle.laws.specs.Boards.{boardOf}
 use Rattle.laws.specs.Reread.{comparisonAt}
 use Rattle.slots.specs.Ready.{ReadyFor}
 use Rattle.walk.specs.Comparisons.{shows-least}
-use Rattle.decode.specs.Given.{bools-is}
+use Rattle.opening.specs.Headers.{bools-is}
 use Rattle.decode.specs.Tails.{below-tails, above-tails}
 use Rattle.decode.proofs.pieces.tails_at.Statement.{statement}
 use Rattle.decode.proofs.pieces.tails_at.Tie as tie

@@ -1,16 +1,13 @@
 -- `decode::search::search_clauses` meets its contract.
 use borrow.Author.Needs.{needs}
-use mathlib.Core.Path.{_≡_, ap, _∙_}
-use Prim.Native.Nat.{ℕ, _≤_}
+use mathlib.Core.Path.{_≡_, _∙_}
+use Prim.Native.Nat.{ℕ}
 use native.Mathlib.Omega.{arith}
-use lib.ListN.{length, drop}
 use Rattle.definitions.specs.Board.{Board}
 use Rattle.definitions.specs.Encoding.{clauses}
-use Rattle.laws.specs.Boards.{boardOf, opens-board}
-use Rattle.laws.specs.Reread.{tableEnd}
-use Rattle.laws.specs.Written.{rest, rest-drop}
+use Rattle.laws.specs.Boards.{boardOf}
+use Rattle.opening.specs.Headers.{admitted, rules-inside, tail-is}
 use Rattle.decode.specs.declared.Checked.{Checked}
-use Rattle.decode.specs.Given.{rules-is, admitted}
 use Rattle.decode.specs.Truth.{tests}
 use Rattle.decode.specs.Goes.{Goes, goes-start, goes-part, goes-fails}
 use Rattle.decode.specs.Passes.{ruleTests, clauses-split, clauses-fit}
@@ -20,12 +17,6 @@ use Rattle.decode.proofs.search.search_clauses.Tie as tie
 module _ (c : tie.Start) where
   abbrev B : Board
   B = boardOf (c .args .bytes .now)
-
-  room : c .args .header .rules ≤ length (c .args .bytes .now)
-  room = omega (arith, opens-board (c .args .bytes .now) (c .pre .opened .opens) .room, rules-is (c .pre .opened))
-
-  tail : rest (c .args .bytes .now) (c .args .header .rules) ≡ drop (tableEnd B) (c .args .bytes .now)
-  tail = rest-drop (c .args .bytes .now) (c .args .header .rules) ∙ ap (λ n. drop n (c .args .bytes .now)) (rules-is (c .pre .opened))
 
 -- the axioms hold: the rules are left
 rules-left : (c : tie.After-search-axioms) (n : ℕ) → c .search-axioms .result ≡ Checked.Hold n
@@ -43,10 +34,10 @@ enum-known-number-2 : tie.Need-enum-known-number-2
 enum-known-number-2 c = search needs
 
 sub-search-rules : tie.Need-sub-search-rules
-sub-search-rules c = room (c .before .before .before .before .before .before)
+sub-search-rules c = rules-inside (c .before .before .before .before .before .before .pre .opened)
 
 part-search-rules-start : tie.Need-part-search-rules-start
-part-search-rules-start c = let h = room (c .before .before .before .before .before .before) in search needs
+part-search-rules-start c = let h = rules-inside (c .before .before .before .before .before .before .pre .opened) in search needs
 
 part-search-rules-end : tie.Need-part-search-rules-end
 part-search-rules-end c = search needs
@@ -54,7 +45,7 @@ part-search-rules-end c = search needs
 search-rules-requires : tie.Need-search-rules-requires
 search-rules-requires c κs =
     let s = c .before .before .before .before .before .before .before in
-    (s .pre, tail s, omega (arith, rules-left (c .before .before .before .before) _ (c .before .before .number2 .given .1) .count, clauses-fit (B s) (s .args .model .now) (admitted (s .pre .opened))))
+    (s .pre, tail-is (s .pre .opened), omega (arith, rules-left (c .before .before .before .before) _ (c .before .before .number2 .given .1) .count, clauses-fit (B s) (s .args .model .now) (admitted (s .pre .opened))))
 
 returns : tie.Need-returns
 returns c =

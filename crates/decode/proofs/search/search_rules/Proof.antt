@@ -11,7 +11,8 @@ use Rattle.laws.specs.Reread as reread
 use Rattle.reader.specs.Said.{contextOf}
 use Rattle.rules.specs.Cursors.{todo}
 use Rattle.walk.specs.Comparisons.{toCome, walking-fine}
-use Rattle.decode.specs.Given.{known-is, counts-small, short}
+use Rattle.opening.specs.Headers.{context-is, counts-small}
+use Rattle.decode.specs.Given.{short}
 use Rattle.decode.specs.Next.{Comes, came-met, came-none}
 use Rattle.decode.specs.Passes.{Passing, Walks, passing-start, passing-end, sound-next, walks-start, walks-end, walks-at, walks-next, walks-less, walks-numbered, walks-stop, walks-room}
 use Rattle.decode.proofs.search.search_rules.Statement.{statement}
@@ -40,10 +41,10 @@ module _ (c : tie.Start Inv-loop μ-loop Inv-search μ-search) where
 -- a piece was met
 module _ (c : tie.After-piece Inv-loop μ-loop Inv-search μ-search) where
   met : Comes (ctx (c .before .before .before .before .before .before .before .before .before)) (c .before .before .before .before .before .before .before .before .before .args .rules .now) (c .before .before .before .search .cursor) (c .piece .given .0 .0) (c .piece .given .0 .1 .0)
-  met = came-met (ctx (c .before .before .before .before .before .before .before .before .before)) (c .before .before .before .before .before .before .before .before .before .args .rules .now) (c .before .before .before .search .cursor) (rw (c .before .before .before .before .before .known-of .ensures, known-is (c .before .before .before .before .before .before .before .before .before .pre .0 .opened)) at (c .before .before .next-piece .ensures)) (c .piece .given .1)
+  met = came-met (ctx (c .before .before .before .before .before .before .before .before .before)) (c .before .before .before .before .before .before .before .before .before .args .rules .now) (c .before .before .before .search .cursor) (rw (c .before .before .before .before .before .context-of .ensures, context-is (c .before .before .before .before .before .before .before .before .before .pre .0 .opened)) at (c .before .before .next-piece .ensures)) (c .piece .given .1)
 
-known-of-requires : tie.Need-known-of-requires Inv-loop μ-loop Inv-search μ-search
-known-of-requires c κs = counts-small (c .before .before .before .pre .0 .opened)
+context-of-requires : tie.Need-context-of-requires Inv-loop μ-loop Inv-search μ-search
+context-of-requires c κs = counts-small (c .before .before .before .pre .0 .opened)
 
 start-requires : tie.Need-start-requires Inv-loop μ-loop Inv-search μ-search
 start-requires c κs = search needs
@@ -52,7 +53,7 @@ search-holds : tie.Need-search-holds Inv-loop μ-loop Inv-search μ-search
 search-holds c = rw (c .start .ensures, c .before .before .before .before .before .pre .1) (passing-start (c .before .before .before .before .before .pre .0 .opened) (c .before .before .before .before .before .args .model .now) (c .before .before .before .before .before .args .from))
 
 next-piece-requires : tie.Need-next-piece-requires Inv-loop μ-loop Inv-search μ-search
-next-piece-requires c κs = rw (c .before .before .known-of .ensures, known-is (c .before .before .before .before .before .before .pre .0 .opened)) (c .search .inv .readable)
+next-piece-requires c κs = rw (c .before .before .context-of .ensures, context-is (c .before .before .before .before .before .before .pre .0 .opened)) (c .search .inv .readable)
 
 enum-known-piece : tie.Need-enum-known-piece Inv-loop μ-loop Inv-search μ-search
 enum-known-piece c = search needs
@@ -106,7 +107,7 @@ search-again c =
 
 returns : tie.Need-returns Inv-loop μ-loop Inv-search μ-search
 returns c =
-    passing-end (c .before .before .before .search .inv) (came-none (ctx (c .before .before .before .before .before .before .before .before .before)) (c .before .before .before .before .before .before .before .before .before .args .rules .now) (c .before .before .before .search .cursor) (rw (c .before .before .before .before .before .known-of .ensures, known-is (c .before .before .before .before .before .before .before .before .before .pre .0 .opened)) at (c .before .before .next-piece .ensures)) (c .enum-told .given .1))
+    passing-end (c .before .before .before .search .inv) (came-none (ctx (c .before .before .before .before .before .before .before .before .before)) (c .before .before .before .before .before .before .before .before .before .args .rules .now) (c .before .before .before .search .cursor) (rw (c .before .before .before .before .before .context-of .ensures, context-is (c .before .before .before .before .before .before .before .before .before .pre .0 .opened)) at (c .before .before .next-piece .ensures)) (c .enum-told .given .1))
 
 returns-2 : tie.Need-returns-2 Inv-loop μ-loop Inv-search μ-search
 returns-2 c = walks-stop (c .before .before .before .before .before .loop .inv) (c .before .before .before .here .given .1) (sym (c .before .clause-holds .ensures) ∙ not-true _ (c .if1 .taken))
@@ -119,7 +120,7 @@ search-rules-spec =
     μ-loop
     Inv-search
     μ-search
-    known-of-requires
+    context-of-requires
     start-requires
     search-holds
     next-piece-requires

@@ -17,7 +17,8 @@ use Rattle.definitions.specs.Meaning.{valuesOf}
 use Rattle.laws.specs.Boards.{boardOf}
 use Rattle.laws.specs.Written.{written, written-none, written-take, written-all}
 use Rattle.slots.specs.Variables.{boundsRead, bounds-same, first-none, first-more}
-use Rattle.decode.specs.Given.{ints-is, bools-is, counts-small, short, inside, ordered, within}
+use Rattle.opening.specs.Headers.{ints-is, bools-is, counts-small}
+use Rattle.decode.specs.Given.{short, inside, ordered, within}
 use Rattle.decode.specs.Values.{value-is, values-length, values-at}
 use Rattle.decode.proofs.values.write_values.Statement.{statement}
 use Rattle.decode.proofs.values.write_values.Tie as tie

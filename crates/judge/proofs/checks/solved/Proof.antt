@@ -19,7 +19,7 @@ enum-told c = search needs
 
 first-outside-requires : tie.Need-first-outside-requires
 first-outside-requires c κs =
-    (c .before .before .before .before .before .pre .opens, c .before .before .before .before .before .pre .ints)
+    (c .before .before .before .before .before .pre .opened .opens, c .before .before .before .before .before .pre .ints)
 
 enum-known-index-2 : tie.Need-enum-known-index-2
 enum-known-index-2 c = search needs
