@@ -1,4 +1,4 @@
-/* Calls the five functions as a C or C++ program does: cases 12, 13 and 14 of the scope paper, and some refusals. */
+/* Calls the five functions as a C or C++ program does: cases 12, 13 and 14 of 01, and some refusals. */
 
 #include "basmuthar.h"
 

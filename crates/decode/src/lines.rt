@@ -70,6 +70,7 @@ pub fn line_holds(
     let mut place = at;
     let mut left = n;
     while 0 < left {
+        // never refused: the record was accepted
         let LiteralRead::Got(literal, next) = literal_at(rules, known, place) else {
             return false;
         };

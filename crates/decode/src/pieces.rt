@@ -53,7 +53,7 @@ pub fn lead_holds(bytes: &[u8], rules: &[u8], model: &[u8], header: Header, piec
     }
 }
 
-// A comparison of no terms that has one tuple, without literals.
+// A comparison of no terms that has one tuple, without literals: the sum asked for, constant - n + 1, is 0, that of no bounds.
 fn single() -> Comparison
     ensures { λ r. ⌜ Single r ⌝ }
 {

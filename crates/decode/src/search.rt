@@ -53,7 +53,7 @@ fn next_piece(rules: &[u8], known: Context, cursor: Cursor) -> Ahead
 }
 
 // The clauses of the rules, which are counted from `from` on: piece by piece, and in each piece tuple by tuple.
-pub fn search_rules(bytes: &[u8], rules: &[u8], model: &[u8], header: Header, from: usize) -> Found
+fn search_rules(bytes: &[u8], rules: &[u8], model: &[u8], header: Header, from: usize) -> Found
     requires { ⌜ Given (now bytes) (now model) header × (now rules ≡ drop (tableEnd (boardOf (now bytes))) (now bytes)) × (from + length (ruleTests (boardOf (now bytes)) (now model)) < 9223372036854775808) ⌝ }
     ensures { λ r. ⌜ saidFound 13 r ≡ each 13 from (ruleTests (boardOf (now (bytes .entry))) (now (model .entry))) ⌝ }
 {

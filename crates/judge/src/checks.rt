@@ -43,6 +43,7 @@ fn first_broken(bytes: &[u8], header: Header, values: &[i32], booleans: &[u8]) -
     first_failing(&bytes[at..], known, values, booleans, header.clauses)
 }
 
+// Refusals 12, 14 and 13: no sum is formed before every value is known to be within its bounds.
 pub fn solved(bytes: &[u8], header: Header, values: &[i32], booleans: &[u8]) -> Verdict
     requires { ⌜ Long (now bytes) header (now values) (now booleans) ⌝ }
     ensures { λ r. ⌜ saidVerdict r ≡ solving (boardOf (now (bytes .entry))) (now (values .entry)) (now (booleans .entry)) ⌝ }

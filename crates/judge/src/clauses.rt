@@ -34,6 +34,7 @@ fn any_holds(
     let mut place = at;
     let mut left = n;
     while 0 < left {
+        // never refused: the record was accepted
         let LiteralRead::Got(literal, next) = literal_at(rules, known, place) else {
             return false;
         };
@@ -50,6 +51,7 @@ fn clause_holds(rules: &[u8], known: Context, values: &[i32], booleans: &[u8], a
     requires { ⌜ Suited (contextOf known) (now values) (now booleans) × (readClause (contextOf known) (now rules) at ≡ done (gotten (readClause (contextOf known) (now rules) at))) ⌝ }
     ensures { λ r. ⌜ r ≡ any (holds (assigned (now (values .entry)) (now (booleans .entry)))) (gotten (readClause (contextOf known) (now (rules .entry)) at) .value) ⌝ }
 {
+    // never refused: the record was accepted
     let Number::Value { value, next } = literal_count_at(rules, at) else {
         return false;
     };
@@ -69,6 +71,7 @@ pub fn first_failing(
     let mut place: usize = 0;
     let mut number: usize = 0;
     while number < clauses {
+        // never refused: the record was accepted
         let Step::Next(next) = past_clause(rules, known, place) else {
             return Found::Nothing;
         };

@@ -13,6 +13,7 @@ pub mod clauses; // clauses.rt: the first clause that does not hold (refusal 13)
 pub mod literals; // literals.rt: comparisons and literals at the values
 pub mod values; // values.rt: the first value outside its bounds (refusal 14)
 
+// Accepts exactly a solution; nothing is written.
 pub fn judge(bytes: &[u8], values: &[i32], booleans: &[u8]) -> Verdict
     ensures { λ r. ⌜ saidVerdict r ≡ Judge (now (bytes .entry)) (now (values .entry)) (now (booleans .entry)) ⌝ }
 {

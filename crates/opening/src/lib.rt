@@ -12,13 +12,14 @@ pub mod body; // body.rt: what follows the counts
 pub mod head; // head.rt: version, stated length and counts
 pub mod table; // table.rt: the variables' bounds
 
-// The three counts and the place after them.
+// The three counts.
 pub struct Counts {
     pub ints: u32,
     pub bools: u32,
     pub clauses: u32,
 }
 
+// The counts and the place after them.
 pub enum CountsRead {
     Got(Counts, usize),
     Refused(Refusal),
@@ -37,6 +38,7 @@ pub enum Opening {
     Refused(Refusal),
 }
 
+// Refusals 1 to 8, in 01's order.
 pub fn open(bytes: &[u8]) -> Opening
     ensures { λ r. ⌜ saidOpening r ≡ mapDone headerOf (readBoard (now (bytes .entry))) ⌝ }
 {

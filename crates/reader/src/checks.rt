@@ -9,6 +9,7 @@ use definitions::Refusal;
 use fields::Signed;
 use fields::Unsigned;
 
+// An unsigned field: its missing bytes (8) before its value.
 pub fn number_at(
     bytes: &[u8],
     at: usize,
@@ -32,6 +33,7 @@ pub fn number_at(
     Number::Value { value, next }
 }
 
+// A signed field, likewise.
 pub fn whole_at(
     bytes: &[u8],
     at: usize,

@@ -102,6 +102,7 @@ fn constant_at(rules: &[u8], at: usize) -> Whole
     whole_at(rules, at, 4, -1000000, 1000000, wrong)
 }
 
+// The terms one after another, then the constant.
 pub fn comparison_at(rules: &[u8], known: Context, at: usize) -> LiteralRead
     ensures { λ r. ⌜ (saidLiteral (now (rules .entry)) r ≡ mapped atMost (readComparison (contextOf known)) (now (rules .entry)) at) × Placed at r ⌝ }
 {

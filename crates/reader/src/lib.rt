@@ -1,4 +1,4 @@
-// From a record's bytes to its parts, with 01's refusals 1 to 8. specs/Said.antt gives the definitions' result for each answer.
+// From the bytes of the rules to literals and clauses, with 01's refusals 4, 6, 7 and 8. specs/Said.antt gives the definitions' result for each answer.
 use definitions::Refusal;
 
 pub mod checks; // checks.rt: fields whose value has a range

@@ -83,6 +83,7 @@ fn past_literal(rules: &[u8], known: Context, c: Cursor) -> Stepped
     requires { ⌜ Sound (contextOf known) (now rules) c × (0 < c .literals) ⌝ }
     ensures { λ r. ⌜ Went (contextOf known) (now (rules .entry)) c r ⌝ }
 {
+    // never refused: the record was accepted
     let LiteralRead::Got(literal, next) = literal_at(rules, known, c.place) else {
         return Stepped::End;
     };
@@ -120,6 +121,7 @@ fn is_lone(rules: &[u8], known: Context, n: usize, at: usize) -> bool
     if n != 1 {
         return false;
     }
+    // never refused: the record was accepted
     let LiteralRead::Got(literal, _) = literal_at(rules, known, at) else {
         return false;
     };
@@ -152,6 +154,7 @@ fn into_clause(rules: &[u8], known: Context, c: Cursor) -> Stepped
     requires { ⌜ Sound (contextOf known) (now rules) c × (c .literals ≡ 0) × (0 < c .clauses) ⌝ }
     ensures { λ r. ⌜ Went (contextOf known) (now (rules .entry)) c r ⌝ }
 {
+    // never refused: the record was accepted
     let Number::Value { value, next } = literal_count_at(rules, c.place) else {
         return Stepped::End;
     };
@@ -169,6 +172,7 @@ fn into_clause(rules: &[u8], known: Context, c: Cursor) -> Stepped
     )
 }
 
+// One step of a pass: to the next piece, or past a literal or a clause's count that begins none.
 pub fn step(rules: &[u8], known: Context, c: Cursor) -> Stepped
     requires { ⌜ Sound (contextOf known) (now rules) c ⌝ }
     ensures { λ r. ⌜ Went (contextOf known) (now (rules .entry)) c r ⌝ }

@@ -33,7 +33,7 @@ fn beyond(u: u32, d: u32) -> u64
 }
 
 // Tuples of three places: u is the sum above the least and 1 more, a to c are the widths and 1 more.
-pub fn triples(u: u32, a: u32, b: u32, c: u32) -> u64
+fn triples(u: u32, a: u32, b: u32, c: u32) -> u64
     requires { ⌜ Places u a b c ⌝ }
     ensures { λ r. ⌜ r ≡ counting.triples u a b c ⌝ }
 {

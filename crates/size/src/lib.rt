@@ -54,6 +54,7 @@ pub fn measure(bytes: &[u8]) -> Measured
     }
 }
 
+// The three numbers, or refusal 1 to 9.
 pub fn size(bytes: &[u8]) -> Sizing
     ensures { λ r. ⌜ saidSizing r ≡ Size (now (bytes .entry)) ⌝ }
 {

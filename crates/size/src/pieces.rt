@@ -34,6 +34,7 @@ fn comparison_share(bytes: &[u8], rules: &[u8], lead: u64, place: usize, constan
     }
 }
 
+// A line is one clause; a comparison's clauses are counted, never walked.
 pub fn share_of(bytes: &[u8], rules: &[u8], piece: Piece) -> Share
     requires { ⌜ Opens (now bytes) × Held (contextOf (boardOf (now bytes))) (now rules) piece × (piecePlaces (boundsOf (boardOf (now bytes))) (saidPiece (contextOf (boardOf (now bytes))) (now rules) piece) < 2 ^ 63) ⌝ }
     ensures { λ r. ⌜ ShareOf (boundsOf (boardOf (now (bytes .entry)))) (saidPiece (contextOf (boardOf (now (bytes .entry)))) (now (rules .entry)) piece) r ⌝ }

@@ -23,5 +23,5 @@ pub struct Terms {
     pub terms: [Term; 3],
 }
 
-pub mod comparisons; // comparisons.rt: its terms, and a comparison made ready to walk
+pub mod comparisons; // comparisons.rt: a comparison's terms, and the comparison made ready to walk
 pub mod variables; // variables.rt: bounds, widths, first numbers

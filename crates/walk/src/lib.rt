@@ -15,6 +15,7 @@ pub struct Comparison {
     pub constant: i32,
 }
 
+// The least and the greatest bound of a term.
 pub struct Range {
     pub lo: i32,
     pub hi: i32,
@@ -34,11 +35,12 @@ pub struct Walk {
     pub c: Place,
 }
 
+// Where a walk stands: at a tuple, or behind the last.
 pub enum At {
     Tuple(Walk),
     End,
 }
 
-pub mod division;
-pub mod terms;
-pub mod tuples;
+pub mod division; // division.rt: signed division, rounded down and up
+pub mod terms; // terms.rt: a term's bounds, and its literal at each
+pub mod tuples; // tuples.rt: the first tuple, the next, their literals

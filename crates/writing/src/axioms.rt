@@ -24,6 +24,7 @@ fn put_steps(first: u32, steps: u32, list: &mut [i32]) -> usize
     at
 }
 
+// Not p(x, lower - 1); p(x, upper); then the steps between.
 pub fn put_axioms(first: u32, width: u32, list: &mut [i32]) -> usize
     requires { ⌜ (0 < width) × (first + width < 20000000) × (length (axiomNumbers first width) ≤ length (now list)) ⌝ }
     ensures { λ r. ⌜ (r ≡ length (axiomNumbers first width)) × (now (list .exit) ≡ written (axiomNumbers first width) (now (list .entry))) ⌝ }

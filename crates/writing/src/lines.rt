@@ -59,6 +59,7 @@ pub fn put_line(
     let mut number = selector;
     let mut at: usize = 0;
     while 0 < left {
+        // never refused: the record was accepted
         let LiteralRead::Got(literal, next) = literal_at(rules, known, next_place) else {
             return at;
         };

@@ -2,7 +2,7 @@
 
 use crate::run::shell;
 
-/// The printed example of the scope paper, case 13.
+/// The printed example of 01, case 13.
 const UNEQUAL_STARTS: &str = "\
 p cnf 10 17
 -1 0
@@ -29,7 +29,7 @@ fn replied(words: &str) -> (String, Option<i32>) {
 }
 
 #[test]
-fn the_clause_list_is_printed_as_the_paper_has_it() {
+fn the_clause_list_is_printed_as_01_has_it() {
     let printed = shell("board cnf boards/unequal_starts.board");
     assert_eq!(printed, (UNEQUAL_STARTS.to_string(), Some(0)));
 }

@@ -1,4 +1,4 @@
-//! The cases of the scope paper, one test for each, by its number there.
+//! The cases of 01, one test for each, by its number there.
 
 use crate::refused;
 use crate::trial::{one_comparison, Board, Literal};
