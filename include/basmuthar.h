@@ -31,6 +31,7 @@
  *   answer[0] is 0 where the call was accepted, and otherwise the number of the refusal.
  *     accepted, Size and Compile:          { 0, N, M, K }
  *     accepted, Decode, Judge and Image:   { 0, 0, 0, 0 }
+ *     accepted, Closing:                   { 0, 0 or 1 or 2, 0, 0 }
  *     refused:                             { number, detail, 0, 0 }
  *   N is how many SAT variables there are, M how many clauses, K how many numbers the clause list has.
  *   All four places are written by every call; what they held before does not matter.
@@ -53,9 +54,11 @@
  *        9  K is above 2,000,000,000                                                     0
  *       10  the lent clause list is shorter than K                                       K
  *       11  another lent list has the wrong length                                       length wanted
- *       12  a model byte or Boolean byte is not 0 or 1                                   index
+ *       12  a model, Boolean or reply byte is not 0 or 1                                 index
  *       13  a clause does not hold                                                       its number from 0
  *       14  a value is outside its bounds                                                index
+ *       22  the record has no integer variable of this number                            its number
+ *       23  replies are left over after the last question                                how many
  *   m is how many Boolean variables the record has. A place is the offset in the record of the first byte of the field
  *   that is wrong (the upper's, where it is below its lower), or of the first byte left over.
  *   All operations look at the record first, in this order: 1; fewer than 5 bytes (2); 3; the stated length (2); the
@@ -140,6 +143,24 @@ void basmuthar_judge(const uint8_t *record, size_t record_len, const int32_t *va
 void basmuthar_image(const uint8_t *record, size_t record_len, const int32_t *values, size_t values_len,
                      const uint8_t *booleans, size_t booleans_len, uint8_t *model, size_t model_len,
                      uint64_t answer[4]);
+
+/* Closing: the least value of an integer variable over all solutions, by a solver's replies to questions 'at most h?'.
+ *
+ *   Reads    record, and replies: a byte for each question so far, 1 yes, 0 no.
+ *   Writes   hours. The answer is
+ *              { 0, 0, 0, 0 }   found: hours is the value, three times
+ *              { 0, 1, 0, 0 }   there is no solution: hours keeps its numbers
+ *              { 0, 2, 0, 0 }   unfinished: hours is low, high, and h, the question to put next
+ *   Refuses  with 1 to 9; then with 22 where the record has no such variable, counted from 0; then with 12 at the first
+ *            reply that is neither 0 nor 1; then with 23 where replies are left over.
+ *
+ *   Begin with no reply. As long as the answer is unfinished, ask the solver whether the board has a solution with the
+ *   variable at most hours[2], put its reply at the end of replies, and call again: at most 14 replies are asked for.
+ *   Do not compute h by division: it is rounded down also where low + high is negative. The question needs no new list:
+ *   it is asked by the one more clause p(x,h) of Compile's list, or by assuming p(x,h).
+ */
+void basmuthar_closing(const uint8_t *record, size_t record_len, size_t variable, const uint8_t *replies,
+                       size_t replies_len, int32_t hours[3], uint64_t answer[4]);
 
 #ifdef __cplusplus
 }

@@ -21,6 +21,8 @@ pub fn number_of(r: Refusal) -> u64
         Refusal::ByteWrong { index: _ } => 12,
         Refusal::ClauseFails { number: _ } => 13,
         Refusal::ValueOutside { index: _ } => 14,
+        Refusal::NoVariable { number: _ } => 22,
+        Refusal::RepliesLeft { count: _ } => 23,
     }
 }
 
@@ -42,5 +44,7 @@ pub fn detail_of(r: Refusal) -> u64
         Refusal::ByteWrong { index } => index as u64,
         Refusal::ClauseFails { number } => number as u64,
         Refusal::ValueOutside { index } => index as u64,
+        Refusal::NoVariable { number } => number as u64,
+        Refusal::RepliesLeft { count } => count as u64,
     }
 }

@@ -1,19 +1,22 @@
 -- Nothing of an operation's answer is lost in the four numbers: they tell which answer it was. Assumes nothing.
-use mathlib.Core.Path.{_≡_, refl, sym, ap, _∙_}
+use mathlib.Core.Path.{_≡_, refl, sym, ap, ap₂, _∙_}
 use mathlib.Core.Bool.{false}
 use mathlib.Core.List.{List}
-use Prim.Native.Nat.{ℕ}
+use Prim.Native.Nat.{ℕ, zero, suc}
+use lib.IntN.{ℤ, pos}
 use lib.ListN.{getD}
 use lib.Dec.{eqb}
 use Rattle.definitions.specs.Tools.{if_then_else_}
 use Rattle.definitions.specs.Result.{Result, done, refused}
 use Rattle.definitions.specs.Operations.{Sizes}
-use Rattle.definitions.specs.Answers.{said, saidSizing, saidVerdict}
+use Rattle.definitions.specs.Closing.{Earliest, found, none, unfinished}
+use Rattle.definitions.specs.Answers.{said, saidSizing, saidVerdict, saidHour}
 use Rattle.definitions.specs.declared.Refusal.{Refusal}
 use Rattle.definitions.specs.declared.Sizing.{Sizing}
 use Rattle.definitions.specs.declared.Verdict.{Verdict}
-use Rattle.laws.specs.Outcomes.{one-sizing, one-verdict}
-use Rattle.basmuthar.specs.Interface.{sizesWritten, verdictWritten}
+use Rattle.definitions.specs.declared.Hour.{Hour}
+use Rattle.laws.specs.Outcomes.{one-sizing, one-verdict, one-hour}
+use Rattle.basmuthar.specs.Interface.{sizesWritten, verdictWritten, hourWritten, hoursWritten}
 
 -- no refusal has the number 0
 not-zero : (r : Refusal) → eqb (said r .0) 0 ≡ false
@@ -31,6 +34,8 @@ not-zero (Refusal.LentWrong wanted) = refl
 not-zero (Refusal.ByteWrong index) = refl
 not-zero (Refusal.ClauseFails number) = refl
 not-zero (Refusal.ValueOutside index) = refl
+not-zero (Refusal.NoVariable number) = refl
+not-zero (Refusal.RepliesLeft count) = refl
 
 -- an answer read back from its numbers, with what is meant where the first is 0
 abbrev readAs : {A : Type 0} → A → List ℕ → Result A
@@ -52,3 +57,21 @@ verdict-told v v′ h = one-verdict v v′ (sym (is v) ∙ ap (readAs tt) h ∙ 
     is : (v : Verdict) → readAs tt (verdictWritten (saidVerdict v)) ≡ saidVerdict v
     is Verdict.Accepted = refl
     is (Verdict.Refused r) = rw (not-zero r)
+
+-- so do the four numbers and the hours of Closing
+pub hour-told : (h h′ : Hour) (hours : List ℤ) → hourWritten (saidHour h) ≡ hourWritten (saidHour h′) → hoursWritten (saidHour h) hours ≡ hoursWritten (saidHour h′) hours → h ≡ h′
+hour-told h h′ hours e f = one-hour h h′ (sym (is h) ∙ ap₂ back e f ∙ is h′)
+  where
+    kind : ℕ → List ℤ → Earliest
+    kind zero hours = found (getD hours 0 (pos 0))
+    kind (suc zero) hours = none
+    kind (suc (suc k)) hours = unfinished (record { lo = getD hours 0 (pos 0); hi = getD hours 1 (pos 0) }) (getD hours 2 (pos 0))
+
+    back : List ℕ → List ℤ → Result Earliest
+    back numbers hours = readAs (kind (getD numbers 1 0) hours) numbers
+
+    is : (h : Hour) → back (hourWritten (saidHour h)) (hoursWritten (saidHour h) hours) ≡ saidHour h
+    is (Hour.Found v) = refl
+    is Hour.None = refl
+    is (Hour.Unfinished low high question) = refl
+    is (Hour.Refused r) = rw (not-zero r)

@@ -4,7 +4,8 @@ use mathlib.Core.List.{List}
 use Prim.Native.Nat.{ℕ}
 use lib.IntN.{ℤ}
 use Rattle.definitions.specs.Operations.{Size, Compile, Decode, Judge, Image}
-use Rattle.basmuthar.specs.Interface.{sizesWritten, verdictWritten}
+use Rattle.definitions.specs.Closing.{Closing}
+use Rattle.basmuthar.specs.Interface.{sizesWritten, verdictWritten, hourWritten, hoursWritten}
 
 one : {A : Type 0} {x y z : A} → x ≡ z → y ≡ z → x ≡ y
 one h k = h ∙ sym k
@@ -31,3 +32,11 @@ module _ (s : List ℕ) (a a′ : List ℕ) where
     pub one-image : (model l l′ : List ℕ) → (a ≡ verdictWritten (Image s values booleans model .answer)) × (l ≡ Image s values booleans model .left)
         → (a′ ≡ verdictWritten (Image s values booleans model .answer)) × (l′ ≡ Image s values booleans model .left) → (a ≡ a′) × (l ≡ l′)
     one-image model l l′ h k = (one (h .0) (k .0), one (h .1) (k .1))
+
+-- Closing's answer and hours
+abbrev pub ClosingLeaves : List ℕ → ℕ → List ℕ → List ℤ → List ℕ → List ℤ → Type 0
+ClosingLeaves s x replies hours answer left = (answer ≡ hourWritten (Closing s x replies)) × (left ≡ hoursWritten (Closing s x replies) hours)
+
+pub one-closing : (s : List ℕ) (x : ℕ) (replies : List ℕ) (hours : List ℤ) (a a′ : List ℕ) (l l′ : List ℤ)
+    → ClosingLeaves s x replies hours a l → ClosingLeaves s x replies hours a′ l′ → (a ≡ a′) × (l ≡ l′)
+one-closing s x replies hours a a′ l l′ h k = (one (h .0) (k .0), one (h .1) (k .1))

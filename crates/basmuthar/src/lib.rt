@@ -2,8 +2,10 @@
 // and is given). A crate in Rattle depends on basmuthar and definitions, and calls the operations by their own names.
 pub use answers::detail_of;
 pub use answers::number_of;
+pub use closing::closing;
 pub use compile::compile;
 pub use decode::decode;
+pub use definitions::Hour;
 pub use definitions::Refusal;
 pub use definitions::Sizing;
 pub use definitions::Verdict;
@@ -11,9 +13,10 @@ pub use image::image;
 pub use judge::judge;
 pub use size::size;
 ghost use mathlib.Core.Path.{_≡_};
-ghost use Rattle.definitions.specs.Answers.{refusal, saidSizing, saidVerdict};
+ghost use Rattle.definitions.specs.Answers.{refusal, saidHour, saidSizing, saidVerdict};
 ghost use Rattle.definitions.specs.Operations.{Compile, Decode, Image, Judge, Size};
-ghost use Rattle.basmuthar.specs.Interface.{sizesWritten, verdictWritten};
+ghost use Rattle.basmuthar.specs.Interface.{hourWritten, hoursWritten, sizesWritten, verdictWritten};
+ghost use Rattle.basmuthar.specs.Outcome.{ClosingLeaves};
 
 fn refusal_written(r: Refusal) -> [u64; 4]
     ensures { λ a. ⌜ a ≡ verdictWritten (refusal r) ⌝ }
@@ -38,6 +41,37 @@ fn verdict_written(verdict: Verdict) -> [u64; 4]
     match verdict {
         Verdict::Accepted => [0, 0, 0, 0],
         Verdict::Refused(r) => refusal_written(r),
+    }
+}
+
+fn hour_written(hour: Hour) -> [u64; 4]
+    ensures { λ a. ⌜ a ≡ hourWritten (saidHour hour) ⌝ }
+{
+    match hour {
+        Hour::Found(_) => [0, 0, 0, 0],
+        Hour::None => [0, 1, 0, 0],
+        Hour::Unfinished {
+            low: _,
+            high: _,
+            question: _,
+        } => [0, 2, 0, 0],
+        Hour::Refused(r) => refusal_written(r),
+    }
+}
+
+// The hours of an answer; those that were there where it has none.
+fn hours_written(hour: Hour, hours: [i32; 3]) -> [i32; 3]
+    ensures { λ a. ⌜ a ≡ hoursWritten (saidHour hour) hours ⌝ }
+{
+    match hour {
+        Hour::Found(v) => [v, v, v],
+        Hour::Unfinished {
+            low,
+            high,
+            question,
+        } => [low, high, question],
+        Hour::None => hours,
+        Hour::Refused(_) => hours,
     }
 }
 
@@ -94,4 +128,19 @@ pub extern "C" fn basmuthar_image(
     ensures { λ _. ⌜ now (model .exit) ≡ Image (now (bytes .entry)) (now (values .entry)) (now (booleans .entry)) (now (model .entry)) .left ⌝ }
 {
     *answer = verdict_written(image(bytes, values, booleans, model));
+}
+
+#[no_mangle]
+pub extern "C" fn basmuthar_closing(
+    bytes: &[u8],
+    variable: usize,
+    replies: &[u8],
+    hours: &mut [i32; 3],
+    answer: &mut [u64; 4],
+)
+    ensures { λ _. ⌜ ClosingLeaves (now (bytes .entry)) variable (now (replies .entry)) (now (hours .entry)) (now (answer .exit)) (now (hours .exit)) ⌝ }
+{
+    let hour = closing(bytes, variable, replies);
+    *answer = hour_written(hour);
+    *hours = hours_written(hour, *hours);
 }

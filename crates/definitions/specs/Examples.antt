@@ -1,5 +1,5 @@
--- The starred examples of 01, in one table, and one statement: what the definitions answer is what 01 says, or what follows
--- from it.
+-- The starred examples of 01 and the figures of 02, in one table, and one statement: what the definitions answer is what the
+-- document says, or what follows from it.
 use Prim.Native.Nat.{ℕ, zero, suc, _+_, _*_, _-_}
 use mathlib.Core.Path.{_≡_, refl}
 use mathlib.Core.Bool.{Bool, true, false, not, _&&_}
@@ -15,6 +15,7 @@ use Rattle.definitions.specs.Encoding.{Atom, order, selector, SatLiteral
 use Rattle.definitions.specs.Meaning.{isSolution, isModel, isPlain}
 use Rattle.definitions.specs.Operations.{Outcome, _leaves_, Sizes, accepted, Size, Compile, Decode, Judge, Image}
 use Rattle.definitions.specs.Dimacs.{ascii, printed}
+use Rattle.definitions.specs.Closing.{Earliest, found, none, unfinished, Closing}
 use Rattle.definitions.specs.Open.{all-open}
 
 -- ---- bytes, written as the document writes them: two digits each, and spaces for the eye
@@ -76,6 +77,7 @@ pub data Question : Type 0 where
   howManySolutions : String → Question
   howMany : String → Question
   translation : Term → ℤ → Question
+  closing : String → ℕ → List ℕ → Question
 
 pub data Answer : Type 0 where
   long : ℕ → Answer
@@ -92,6 +94,7 @@ pub data Answer : Type 0 where
   solutions-are : ℕ → Answer
   models-solutions-plain : ℕ → ℕ → ℕ → Answer
   literal : SatLiteral → Answer
+  hour : Result Earliest → Answer
 
 abbrev onBoard : Result Board → (Board → Answer) → Answer
 onBoard (done B) f = f B
@@ -118,6 +121,7 @@ ask (howMany s) =
     onBoard (accepted (hex s))
     (λ B. models-solutions-plain (length (models B)) (solutions B) (length (keep (isPlain B) (models B))))
 ask (translation t b) = literal (sharp t b)
+ask (closing s x replies) = hour (Closing (hex s) x replies)
 
 -- ---- the records
 abbrev one : String
@@ -150,6 +154,19 @@ eight = "01 0000001D 0001 0000 0001 0000 0003 02 02 01 01 0000 00000001 02 01 01
 abbrev thirteen : String
 thirteen = "01 00000027 0002 0000 0001 0000 0002 0000 0002 02 02 02 01 0000 FF 0001 FFFFFFFF 02 02 FF 0000 01 0001 FFFFFFFF"
 
+-- one variable each, no clause: 003's makespan, hours around 0, and the widest range
+abbrev makespan : String
+makespan = "01 0000000A 0001 0000 0000 03E8 05E5"
+
+abbrev aroundZero : String
+aroundZero = "01 0000000A 0001 0000 0000 FFFC 0003"
+
+abbrev widest : String
+widest = "01 0000000A 0001 0000 0000 F000 0FFF"
+
+abbrev versionNine : String
+versionNine = "09 0000000A 0001 0000 0000 0005 0005"
+
 -- ---- x, y and z are the variables 0, 1 and 2
 abbrev x≤ : ℤ → SatLiteral
 x≤ c = plus (order 0 c)
@@ -169,17 +186,33 @@ NMK n m k = done (record { n = n; m = m; k = k })
 abbrev accept : Result (Unit {0})
 accept = done tt
 
--- a line of the table: 01's number of the case, what is asked of the definitions, what 01 says of it. Where 01 does not say it
--- in so many words it follows from 01's rules: in 4 decode, judge and three of the clauses, in 5 compile, print and the clauses
--- at 0, in 7 compile, in 13 judge and image
+-- the range so far and the question; the value
+abbrev asks : ℤ → ℤ → ℤ → Answer
+asks low high h = hour (done (unfinished (record { lo = low; hi = high }) h))
+
+abbrev finds : ℤ → Answer
+finds v = hour (done (found v))
+
+-- a line of the table: 01's case or 02's request, what is asked of the definitions, what the document says of it. Where 01 does
+-- not say it in so many words it follows from 01's rules: in 4 decode, judge and three of the clauses, in 5 compile, print and
+-- the clauses at 0, in 7 compile, in 13 judge and image. Of P9's rows those of `makespan` are 003's Table 1 after the first
+-- question, and the others follow from 02's sentences
+pub data Source : Type 0 where
+  caseOf01 : ℕ → Source
+  requestOf02 : ℕ → Source
+
 pub record Row : Type 0 where
-  pub number : ℕ
+  pub source : Source
   pub question : Question
   pub document : Answer
 
 infix 10 case_∶_⇒_
 abbrev pub case_∶_⇒_ : ℕ → Question → Answer → Row
-case n ∶ q ⇒ a = record { number = n; question = q; document = a }
+case n ∶ q ⇒ a = record { source = caseOf01 n; question = q; document = a }
+
+infix 10 P_∶_⇒_
+abbrev pub P_∶_⇒_ : ℕ → Question → Answer → Row
+P n ∶ q ⇒ a = record { source = requestOf02 n; question = q; document = a }
 
 abbrev pub table : List Row
 table =
@@ -233,6 +266,38 @@ table =
     (case 13 ∶ judge thirteen (pos 1 ∷ pos 1 ∷ []) [] ⇒ judged (refused 13 0)) ∷
     (case 13 ∶ image thirteen (pos 0 ∷ pos 1 ∷ []) [] (7 ∷ 7 ∷ 7 ∷ 7 ∷ 7 ∷ 7 ∷ 7 ∷ 7 ∷ 7 ∷ 7 ∷ []) ⇒
     imaged (accept leaves (0 ∷ 1 ∷ 1 ∷ 1 ∷ 0 ∷ 0 ∷ 1 ∷ 1 ∷ 1 ∷ 0 ∷ []))) ∷
+    (P 9 ∶ closing makespan 0 [] ⇒ asks (pos 1000) (pos 1509) (pos 1509)) ∷
+    (P 9 ∶ closing makespan 0 (1 ∷ []) ⇒ asks (pos 1000) (pos 1509) (pos 1254)) ∷
+    (P 9 ∶ closing makespan 0 (1 ∷ 1 ∷ []) ⇒ asks (pos 1000) (pos 1254) (pos 1127)) ∷
+    (P 9 ∶ closing makespan 0 (1 ∷ 1 ∷ 0 ∷ []) ⇒ asks (pos 1128) (pos 1254) (pos 1191)) ∷
+    (P 9 ∶ closing makespan 0 (1 ∷ 1 ∷ 0 ∷ 1 ∷ []) ⇒ asks (pos 1128) (pos 1191) (pos 1159)) ∷
+    (P 9 ∶ closing makespan 0 (1 ∷ 1 ∷ 0 ∷ 1 ∷ 0 ∷ []) ⇒ asks (pos 1160) (pos 1191) (pos 1175)) ∷
+    (P 9 ∶ closing makespan 0 (1 ∷ 1 ∷ 0 ∷ 1 ∷ 0 ∷ 1 ∷ []) ⇒ asks (pos 1160) (pos 1175) (pos 1167)) ∷
+    (P 9 ∶ closing makespan 0 (1 ∷ 1 ∷ 0 ∷ 1 ∷ 0 ∷ 1 ∷ 0 ∷ []) ⇒ asks (pos 1168) (pos 1175) (pos 1171)) ∷
+    (P 9 ∶ closing makespan 0 (1 ∷ 1 ∷ 0 ∷ 1 ∷ 0 ∷ 1 ∷ 0 ∷ 1 ∷ []) ⇒ asks (pos 1168) (pos 1171) (pos 1169)) ∷
+    (P 9 ∶ closing makespan 0 (1 ∷ 1 ∷ 0 ∷ 1 ∷ 0 ∷ 1 ∷ 0 ∷ 1 ∷ 1 ∷ []) ⇒ asks (pos 1168) (pos 1169) (pos 1168)) ∷
+    (P 9 ∶ closing makespan 0 (1 ∷ 1 ∷ 0 ∷ 1 ∷ 0 ∷ 1 ∷ 0 ∷ 1 ∷ 1 ∷ 1 ∷ []) ⇒ finds (pos 1168)) ∷
+    (P 9 ∶ closing makespan 0 (1 ∷ 1 ∷ 0 ∷ 1 ∷ 0 ∷ 1 ∷ 0 ∷ 1 ∷ 1 ∷ 1 ∷ 1 ∷ 0 ∷ []) ⇒ hour (refused 23 2)) ∷
+    (P 9 ∶ closing aroundZero 0 [] ⇒ asks (neg 4) (pos 3) (pos 3)) ∷
+    (P 9 ∶ closing aroundZero 0 (1 ∷ []) ⇒ asks (neg 4) (pos 3) (neg 1)) ∷
+    (P 9 ∶ closing aroundZero 0 (1 ∷ 1 ∷ []) ⇒ asks (neg 4) (neg 1) (neg 3)) ∷
+    (P 9 ∶ closing aroundZero 0 (1 ∷ 1 ∷ 0 ∷ []) ⇒ asks (neg 2) (neg 1) (neg 2)) ∷
+    (P 9 ∶ closing aroundZero 0 (1 ∷ 1 ∷ 0 ∷ 0 ∷ []) ⇒ finds (neg 1)) ∷
+    (P 9 ∶ closing aroundZero 0 (1 ∷ 0 ∷ []) ⇒ asks (pos 0) (pos 3) (pos 1)) ∷
+    (P 9 ∶ closing aroundZero 0 (0 ∷ []) ⇒ hour (done none)) ∷
+    (P 9 ∶ closing aroundZero 0 (0 ∷ 1 ∷ 1 ∷ []) ⇒ hour (refused 23 2)) ∷
+    (P 9 ∶ closing seven 0 [] ⇒ asks (pos 5) (pos 5) (pos 5)) ∷
+    (P 9 ∶ closing seven 0 (1 ∷ []) ⇒ finds (pos 5)) ∷
+    (P 9 ∶ closing seven 0 (0 ∷ []) ⇒ hour (done none)) ∷
+    (P 9 ∶ closing seven 0 (1 ∷ 0 ∷ []) ⇒ hour (refused 23 1)) ∷
+    (P 9 ∶ closing widest 0 (1 ∷ 1 ∷ 1 ∷ 1 ∷ 1 ∷ 1 ∷ 1 ∷ 1 ∷ 1 ∷ 1 ∷ 1 ∷ 1 ∷ 1 ∷ []) ⇒ asks (neg 4096) (neg 4095) (neg 4096)) ∷
+    (P 9 ∶ closing widest 0 (1 ∷ 1 ∷ 1 ∷ 1 ∷ 1 ∷ 1 ∷ 1 ∷ 1 ∷ 1 ∷ 1 ∷ 1 ∷ 1 ∷ 1 ∷ 1 ∷ []) ⇒ finds (neg 4096)) ∷
+    (P 9 ∶ closing widest 0 (1 ∷ 0 ∷ 0 ∷ 0 ∷ 0 ∷ 0 ∷ 0 ∷ 0 ∷ 0 ∷ 0 ∷ 0 ∷ 0 ∷ 0 ∷ []) ⇒ asks (pos 4094) (pos 4095) (pos 4094)) ∷
+    (P 9 ∶ closing widest 0 (1 ∷ 0 ∷ 0 ∷ 0 ∷ 0 ∷ 0 ∷ 0 ∷ 0 ∷ 0 ∷ 0 ∷ 0 ∷ 0 ∷ 0 ∷ 0 ∷ []) ⇒ finds (pos 4095)) ∷
+    (P 9 ∶ closing seven 1 (2 ∷ []) ⇒ hour (refused 22 1)) ∷
+    (P 9 ∶ closing one 0 [] ⇒ hour (refused 22 0)) ∷
+    (P 9 ∶ closing seven 0 (1 ∷ 0 ∷ 2 ∷ []) ⇒ hour (refused 12 2)) ∷
+    (P 9 ∶ closing versionNine 1 [] ⇒ hour (refused 3 0)) ∷
     []
 
 abbrev pub Holds : Row → Type 0
@@ -240,4 +305,4 @@ Holds r = ask (r .question) ≡ r .document
 
 pub the-examples-hold : All Holds table
 unfolding all-open
-the-examples-hold = (refl, (refl, (refl, (refl, (refl, (refl, (refl, (refl, (refl, (refl, (refl, (refl, (refl, (refl, (refl, (refl, (refl, (refl, (refl, (refl, (refl, (refl, (refl, (refl, (refl, (refl, (refl, (refl, (refl, (refl, (refl, (refl, tt))))))))))))))))))))))))))))))))
+the-examples-hold = (refl, (refl, (refl, (refl, (refl, (refl, (refl, (refl, (refl, (refl, (refl, (refl, (refl, (refl, (refl, (refl, (refl, (refl, (refl, (refl, (refl, (refl, (refl, (refl, (refl, (refl, (refl, (refl, (refl, (refl, (refl, (refl, (refl, (refl, (refl, (refl, (refl, (refl, (refl, (refl, (refl, (refl, (refl, (refl, (refl, (refl, (refl, (refl, (refl, (refl, (refl, (refl, (refl, (refl, (refl, (refl, (refl, (refl, (refl, (refl, (refl, (refl, (refl, (refl, tt))))))))))))))))))))))))))))))))))))))))))))))))))))))))))))))))

@@ -21,7 +21,7 @@ use Rattle.demands.specs.Passed.{needed, of-length, for-each, and-then, 
 room : (n : ℕ) (list : List ℤ) → (need 10 n (leb n (length list)) ≡ done tt) ↔ (n ≤ length list)
 room n list = needed 10 n (leb n (length list)) (at-most n (length list))
 
-bytes : (l : List ℕ) → (bits l ≡ done tt) ↔ All (λ b. b ≤ 1) l
+pub bytes : (l : List ℕ) → (bits l ≡ done tt) ↔ All (λ b. b ≤ 1) l
 bytes = for-each 12 (λ b. leb b 1) (λ b. at-most b 1)
 
 inside : (f : ℕ → Bool) (xs : List ℕ) → (each 14 0 (map f xs) ≡ done tt) ↔ All (λ x. T (f x)) xs

@@ -14,4 +14,9 @@ pub mod Flat
 pub mod Demand1
 pub mod Demand2
 pub mod Demand3
+pub mod Bisection
+pub mod Driving
+pub mod Earliest
+pub mod OneList
+pub mod Tried
 pub mod Demands

@@ -9,7 +9,8 @@ use native.Mathlib.Omega.{arith}
 use lib.Dec.{T, eqb}
 use lib.ListN.{length, getD, take, drop, length-map, take-append-drop}
 use lib.Seq.{length-take-le, getD-take}
-use lib.IntN.{ℤ, pos}
+use lib.IntN.{ℤ, pos, _-ℤ_}
+use lib.Signed.{_≤ℤ_}
 use Rattle.definitions.specs.Tools.{countUp}
 use Rattle.definitions.specs.Board.{Board, boundsOf, variables}
 use Rattle.definitions.specs.Encoding.{Atom, bool, order, selector, selections, number, N}
@@ -57,6 +58,11 @@ module _ (B : Board) (good : Admitted B) where
       ints = λ x h. rw (value-is x h) (proposition-2 (boundsOf B) (inModel B model) x (good-bounds B (good .bounds) x h .ordered) .0 (axioms-in B (inModel B model) (m .2) x h));
       bools = λ i l u. ap (λ n. eqb n 1) (sym (getD-take (B .bools) model (i - 1) 0 (omega arith)));
     }
+
+    pub model-says : (x : ℕ) → x < length (B .bounds) → (c : ℤ) → (boundsOf B x .lo -ℤ pos 1) ≤ℤ c → c ≤ℤ boundsOf B x .hi
+        → T (inModel B model (order x c)) ↔ (getD (valuesOf B model) x (pos 0) ≤ℤ c)
+    unfolding assigned
+    model-says x h c l u = model-tells .ints x h .says c l u
 
     pub decodes : Solution B (valuesOf B model) (take (B .bools) model)
     unfolding Solution Model valuesOf variables inBounds

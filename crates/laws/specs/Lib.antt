@@ -12,6 +12,7 @@ pub mod Ranges
 pub mod Layout
 pub mod Axioms
 pub mod Outcomes
+pub mod Halving
 pub mod Decide
 pub mod Tests
 pub mod Search

@@ -1,23 +1,26 @@
 -- Two answers of the code's own types that say the same (01's number and values) are one answer.
 use mathlib.Core.Path.{_≡_, refl, sym, ap, _∙_}
-use mathlib.Core.List.{[], _∷_}
+use mathlib.Core.List.{[], _∷_, _++_}
 use Prim.Native.Nat.{ℕ, _-_}
-use lib.ListN.{getD}
+use lib.ListN.{getD, replicate}
 use Rattle.definitions.specs.declared.Refusal.{Refusal}
 use Rattle.definitions.specs.declared.Sizing.{Sizing}
 use Rattle.definitions.specs.declared.Verdict.{Verdict}
+use Rattle.definitions.specs.declared.Hour.{Hour}
 use Rattle.definitions.specs.Result.{Result, done, refused}
 use Rattle.definitions.specs.Operations.{Sizes}
-use Rattle.definitions.specs.Answers.{said, saidVerdict, saidSizing}
+use Rattle.definitions.specs.Closing.{Earliest, found, none, unfinished}
+use Rattle.definitions.specs.Answers.{said, saidVerdict, saidSizing, saidHour}
 
--- a refusal's number and detail tell which it is
+-- a refusal's number and detail tell which it is; 15 to 21 are not given yet
 unsaid : ℕ × ℕ → Refusal
 unsaid p =
     let d = p .1 in
     getD
     (Refusal.RecordTooLong ∷ Refusal.LengthWrong ∷ Refusal.VersionUnknown ∷ Refusal.CountWrong d ∷ Refusal.BoundWrong d ∷
     Refusal.LiteralWrong d ∷ Refusal.TermWrong d ∷ Refusal.EndWrong d ∷ Refusal.ListTooLong ∷ Refusal.ListTooShort d ∷
-    Refusal.LentWrong d ∷ Refusal.ByteWrong d ∷ Refusal.ClauseFails d ∷ Refusal.ValueOutside d ∷ [])
+    Refusal.LentWrong d ∷ Refusal.ByteWrong d ∷ Refusal.ClauseFails d ∷ Refusal.ValueOutside d ∷
+    (replicate 7 Refusal.RecordTooLong ++ (Refusal.NoVariable d ∷ Refusal.RepliesLeft d ∷ [])))
     (p .0 - 1) Refusal.RecordTooLong
 
 unsaid-said : (r : Refusal) → unsaid (said r) ≡ r
@@ -36,6 +39,8 @@ unsaid-said (Refusal.LentWrong d) = refl
 unsaid-said (Refusal.ByteWrong d) = refl
 unsaid-said (Refusal.ClauseFails d) = refl
 unsaid-said (Refusal.ValueOutside d) = refl
+unsaid-said (Refusal.NoVariable d) = refl
+unsaid-said (Refusal.RepliesLeft d) = refl
 
 -- what can be read back from its saying is told by it
 told : {A S : Type 0} (say : A → S) (back : S → A) → ((a : A) → back (say a) ≡ a) → (a b : A) → say a ≡ say b → a ≡ b
@@ -62,3 +67,18 @@ one-sizing = told saidSizing back is
     is : (z : Sizing) → back (saidSizing z) ≡ z
     is (Sizing.Sizes n m k) = refl
     is (Sizing.Unsized r) = ap Sizing.Unsized (unsaid-said r)
+
+pub one-hour : (h h′ : Hour) → saidHour h ≡ saidHour h′ → h ≡ h′
+one-hour = told saidHour back is
+  where
+    back : Result Earliest → Hour
+    back (done (found v)) = Hour.Found v
+    back (done none) = Hour.None
+    back (done (unfinished r question)) = Hour.Unfinished (r .lo) (r .hi) question
+    back (refused n d) = Hour.Refused (unsaid (n, d))
+
+    is : (h : Hour) → back (saidHour h) ≡ h
+    is (Hour.Found v) = refl
+    is Hour.None = refl
+    is (Hour.Unfinished low high question) = refl
+    is (Hour.Refused r) = ap Hour.Refused (unsaid-said r)

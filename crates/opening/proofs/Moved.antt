@@ -31,7 +31,7 @@ Placed n = (4 ≤ n) × (n ≤ 8)
 
 -- no other refusal has one; `others` are their positions in the enum
 abbrev others : List ℕ
-others = 0 ∷ 1 ∷ 2 ∷ 8 ∷ 9 ∷ 10 ∷ 11 ∷ 12 ∷ 13 ∷ []
+others = 0 ∷ 1 ∷ 2 ∷ 8 ∷ 9 ∷ 10 ∷ 11 ∷ 12 ∷ 13 ∷ 14 ∷ 15 ∷ []
 
 pub no-other : (r : Refusal) → Placed (said r .0) → OneOf others (tagOf the-type r) → ⊥
 no-other Refusal.RecordTooLong p h = omega arith
@@ -48,6 +48,8 @@ no-other (Refusal.LentWrong wanted) p h = omega arith
 no-other (Refusal.ByteWrong index) p h = omega arith
 no-other (Refusal.ClauseFails number) p h = omega arith
 no-other (Refusal.ValueOutside index) p h = omega arith
+no-other (Refusal.NoVariable number) p h = omega arith
+no-other (Refusal.RepliesLeft count) p h = omega arith
 
 -- ---- the readers of clauses give no other
 abbrev Sited : {A : Type 0} → Result A → Type 0
