@@ -36,8 +36,8 @@ module _ (b : Bounds) (h : ℤ) (a : Asked (boundsRead b) h) where
   pub asked-small : Small b
   asked-small = record { least = a .least; near = omega (whole, a .from, a .to, add-law (b .upper) (pos 1)); most = a .most }
 
-  pub next-fits : SFits w32 (h +ℤ pos 1)
-  next-fits = sfits (omega (whole, a .least, a .from, a .to, a .most, add-law h (pos 1)))
+  pub near-fits : (n : ℕ) → n ≤ 1 → SFits w32 (h +ℤ pos n)
+  near-fits n l = sfits (omega (whole, a .least, a .from, a .to, a .most, add-law h (pos n)))
 
   module _ (reply : ℕ) where
     pub left-yes : reply ≡ 1 → Left b h reply (record { lower = b .lower; upper = h })

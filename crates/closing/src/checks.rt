@@ -11,7 +11,7 @@ ghost use Rattle.lent.specs.Said.{saidFound};
 ghost use Rattle.closing.specs.Checks.{lentAllowed};
 
 // The variable's number, where the record has no such variable (refusal 22).
-fn unknown(ints: usize, variable: usize) -> Found
+fn unknown_variable(ints: usize, variable: usize) -> Found
     ensures { λ r. ⌜ saidFound 22 r ≡ need 22 variable (ltb variable ints) ⌝ }
 {
     if ints <= variable {
@@ -23,9 +23,11 @@ fn unknown(ints: usize, variable: usize) -> Found
 pub fn checked(ints: usize, variable: usize, replies: &[u8]) -> Verdict
     ensures { λ r. ⌜ saidVerdict r ≡ lentAllowed ints variable (now (replies .entry)) ⌝ }
 {
-    match unknown(ints, variable) {
+    let first = unknown_variable(ints, variable);
+    let second = first_bad_byte(replies);
+    match first {
         Found::At(number) => Verdict::Refused(Refusal::NoVariable { number: number }),
-        Found::Nothing => match first_bad_byte(replies) {
+        Found::Nothing => match second {
             Found::At(index) => Verdict::Refused(Refusal::ByteWrong { index: index }),
             Found::Nothing => Verdict::Accepted,
         },

@@ -50,6 +50,33 @@ pub after-one : (r : Bounds) (h : ℤ) (b : ℕ) (bs : List ℕ) → after (unfi
 unfolding after
 after-one r h b bs = refl
 
+-- ---- which replies are wanted: those to a question that the replies before them leave
+pub record Asks (answer : Result Earliest) : Type 0 where
+  pub range : Bounds
+  pub question : ℤ
+  pub is : answer ≡ done (unfinished range question)
+
+abbrev pub Wanted : (List ℕ → Result Earliest) → List ℕ → Type 0
+Wanted answer replies = (i : ℕ) → i < length replies → Asks (answer (take i replies))
+
+pub answered-wanted : (e : Earliest) (replies : List ℕ) {a : Earliest} → after e replies ≡ done a → Wanted (after e) replies
+unfolding after
+answered-wanted e [] d = λ i l. absurd (omega arith)
+answered-wanted (found v) (b ∷ bs) d = never d
+answered-wanted none (b ∷ bs) d = never d
+answered-wanted (unfinished r h) (b ∷ bs) d = go (answered-wanted (tells (narrowed r h b)) bs d)
+  where
+    go : Wanted (after (tells (narrowed r h b))) bs → Wanted (after (unfinished r h)) (b ∷ bs)
+    go w zero l = record { range = r; question = h; is = refl }
+    go w (suc i) l = w i (omega arith)
+
+pub wanted-answered : (e : Earliest) (replies : List ℕ) → Wanted (after e) replies → (a : Earliest) × (after e replies ≡ done a)
+unfolding after
+wanted-answered e [] w = (e, refl)
+wanted-answered (found v) (b ∷ bs) w = absurd (let q = w 0 (omega arith) .is in let z : _≡_ {A = ℕ} 0 1 = cc in omega arith)
+wanted-answered none (b ∷ bs) w = absurd (let q = w 0 (omega arith) .is in let z : _≡_ {A = ℕ} 0 1 = cc in omega arith)
+wanted-answered (unfinished r h) (b ∷ bs) w = wanted-answered (tells (narrowed r h b)) bs (λ i l. w (suc i) (omega arith))
+
 -- ---- how many replies end a search
 abbrev pub Finished : Earliest → Type 0
 Finished (found v) = Unit {0}

@@ -1,4 +1,4 @@
--- The user's three demands, sentence by sentence, each by its theorems. docs/DEMANDS.md leads through them and says what they leave out.
+-- The user's three demands and 02's requests, sentence by sentence, each by its theorems. docs/DEMANDS.md leads through them and says what they leave out.
 
 -- 1. "It accepts exactly what document 01 admits;"
 pub use Rattle.demands.specs.Demand1.{accepts-exactly-what-01-admits, size-accepts-exactly, compile-accepts-exactly, decode-accepts-exactly, judge-accepts-exactly, image-accepts-exactly}
@@ -20,6 +20,19 @@ pub use Rattle.demands.specs.Demand3.{plain-means}
 pub use Rattle.demands.specs.Demand3.{each-plain-model-is-paired, each-solution-is-paired, one-solution-each, one-plain-model-each}
 -- so do the operations
 pub use Rattle.demands.specs.Demand3.{judge-accepts-what-decode-leaves, decode-gives-the-solution, judge-accepts-it, image-gives-the-model-back}
+-- ---- the earliest closing hour (02, P9). It answers where 02 admits record, variable and replies, and passes a refusal of the record on
+pub use Rattle.demands.specs.Earliest.{closing-accepts-exactly, closing-passes-it-on}
+-- "If every reply is true of the record with that clause added, the value found is the least, within 14 questions."
+pub use Rattle.demands.specs.Earliest.{the-value-found-is-the-least, no-question-is-left-after-14}
+-- what is asked: that clause added, or solutions with the variable at most h
+pub use Rattle.demands.specs.Questions.{added-means, a-question-means}
+-- "a no there ends with 'none'", "the range so far"
+pub use Rattle.demands.specs.Earliest.{a-first-no-ends-with-none, none-comes-of-a-first-no, none-exactly-where-there-is-no-solution, the-least-is-in-the-range, every-question-lies-within-the-bounds}
+-- one list serves all questions
+pub use Rattle.demands.specs.OneList.{one-list-serves, the-list-answers-the-question}
+-- what a driver does, with every function that replies truly; and there is one
+pub use Rattle.demands.specs.Earliest.{a-driver-asks-14-questions-at-most, a-driver-finds-the-least}
+pub use Rattle.demands.specs.Tried.{isSolved-decides, trying-all-finds-the-least}
 -- ---- the paper's own statements
 pub use Rattle.demands.specs.Rule.{proposition-1}
 pub use Rattle.demands.specs.Order.{proposition-2}

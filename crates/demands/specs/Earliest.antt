@@ -1,86 +1,36 @@
 -- P9, the earliest closing hour: where the replies are true, Closing finds the least value of the variable over all solutions,
 -- within 14 questions. Assumes nothing.
 use mathlib.Core.Path.{_≡_, refl, sym, ap, _∙_}
-use mathlib.Core.Logic.{_↔_, _⊎_, _≢_, inl, inr}
+use mathlib.Core.Logic.{_↔_, _≢_, inl, inr}
 use mathlib.Core.Bool.{Bool, true, false}
 use mathlib.Core.List.{List, [], _∷_, _++_}
 use Prim.Native.Nat.{ℕ, zero, suc, _≤_, _<_}
 use native.Mathlib.Omega.{arith}
-use lib.Dec.{leb, ltb, T}
+use lib.Dec.{ltb, T}
 use borrow.Author.Tests.{ltb-true, lt-ltb}
 use lib.ListN.{length, getD, take, drop, take-append-drop}
-use lib.IntN.{ℤ, pos, _+ℤ_, _*ℤ_}
-use lib.Signed.{_≤ℤ_, leZ}
-use Rattle.definitions.specs.Tools.{All, Any}
-use Rattle.definitions.specs.Board.{Bounds, Clause, Board, atMost, boundsOf, variables}
+use lib.IntN.{ℤ, pos}
+use lib.Signed.{_≤ℤ_}
+use Rattle.definitions.specs.Tools.{All}
+use Rattle.definitions.specs.Board.{Bounds, Board, boundsOf, variables}
 use Rattle.definitions.specs.Result.{Result, done, refused, need}
-use Rattle.definitions.specs.Meaning.{assigned, inBounds, compares, holds, Solution}
+use Rattle.definitions.specs.Meaning.{assigned, inBounds, Solution}
 use Rattle.definitions.specs.Operations.{accepted, bits}
 use Rattle.definitions.specs.Closing.{Earliest, found, none, unfinished, after, Closing}
-use Rattle.laws.specs.Whole.{whole, add-law, mul-law}
-use Rattle.laws.specs.Lists.{all-append, append-all, countUp-all}
+use Rattle.laws.specs.Whole.{whole}
+use Rattle.laws.specs.Lists.{append-all, countUp-all}
 use Rattle.laws.specs.Decide.{is-within}
 use Rattle.laws.specs.Readings.{never}
-use Rattle.laws.specs.Admitted.{Admitted, GoodBounds}
+use Rattle.laws.specs.Admitted.{GoodBounds}
 use Rattle.laws.specs.Terms.{good-bounds}
 use Rattle.laws.specs.Reread.{accepted-admitted}
+use Rattle.demands.specs.Records.{Admits, accepted-exactly}
 use Rattle.demands.specs.Passed.{and-then}
 use Rattle.demands.specs.Accepts.{bytes}
+use Rattle.demands.specs.Questions.{adding, Solved, Least, a-question-means}
 use Rattle.demands.specs.Bisection as bisection
 use Rattle.demands.specs.Driving.{driven}
 use Rattle.demands.specs.Driving as driving
-
--- ---- a question: the board with the clause 'x is at most h' added
-abbrev pub saysAtMost : ℕ → ℤ → Clause
-saysAtMost x h = atMost (record { terms = record { coef = pos 1; var = x } ∷ []; constant = h }) ∷ []
-
-abbrev pub adding : Board → ℕ → ℤ → Board
-adding B x h = record { bounds = B .bounds; bools = B .bools; clauses = B .clauses ++ (saysAtMost x h ∷ []) }
-
-pub record Solved (B : Board) : Type 0 where
-  pub values : List ℤ
-  pub bools : List ℕ
-  pub solution : Solution B values bools
-
--- a solution with x at most h
-pub record SolvedBy (B : Board) (x : ℕ) (h : ℤ) : Type 0 where
-  pub values : List ℤ
-  pub bools : List ℕ
-  pub solution : Solution B values bools
-  pub early : getD values x (pos 0) ≤ℤ h
-
--- v is the least value of x over all solutions
-pub record Least (B : Board) (x : ℕ) (v : ℤ) : Type 0 where
-  pub values : List ℤ
-  pub bools : List ℕ
-  pub solution : Solution B values bools
-  pub here : getD values x (pos 0) ≡ v
-  pub least : (values : List ℤ) (bools : List ℕ) → Solution B values bools → v ≤ℤ getD values x (pos 0)
-
-once : (v : ℤ) → (pos 1 *ℤ v) +ℤ pos 0 ≡ v
-once v = omega (whole, mul-law (pos 1) v, add-law (pos 1 *ℤ v) (pos 0))
-
-module _ (B : Board) (x : ℕ) (h : ℤ) where
-  -- its solutions are the board's with x at most h
-  pub added-means : (values : List ℤ) (bools : List ℕ) → Solution (adding B x h) values bools ↔ (Solution B values bools × (getD values x (pos 0) ≤ℤ h))
-  unfolding Solution assigned inBounds boundsOf variables holds compares
-  added-means values bools =
-      let P : Clause → Type 0 = Any (λ l. T (holds (assigned values bools) l)) in
-      let e = once (getD values x (pos 0)) in (
-        λ s. (let c = append-all P (B .clauses) (saysAtMost x h ∷ []) (s .4) in
-            ((s .0, s .1, s .2, s .3, c .0), rw e at (said {t = (pos 1 *ℤ getD values x (pos 0)) +ℤ pos 0} (c .1 .0)))),
-        λ s. (s .0 .0, s .0 .1, s .0 .2, s .0 .3, all-append P (B .clauses) (saysAtMost x h ∷ []) (s .0 .4) (inl (rw e (s .1 .le)), tt)),
-      )
-    where
-      said : {t : ℤ} → T (leZ t h) ⊎ ⊥ → t ≤ℤ h
-      said (inl k) = record { le = k }
-      said (inr k) = absurd k
-
-  pub a-question-means : Solved (adding B x h) ↔ SolvedBy B x h
-  a-question-means = (
-    λ s. (let k = added-means (s .values) (s .bools) .0 (s .solution) in record { values = s .values; bools = s .bools; solution = k .0; early = k .1 }),
-    λ s. record { values = s .values; bools = s .bools; solution = added-means (s .values) (s .bools) .1 (s .solution, s .early) },
-  )
 
 -- ---- which values x has in solutions
 record Met (B : Board) (x : ℕ) (v : ℤ) : Type 0 where
@@ -116,6 +66,11 @@ met-within B x h v m =
 some-of : (i : ℕ) (l : List ℕ) → bits l ≡ done tt → bits (take i l) ≡ done tt
 some-of i l k = bytes (take i l) .1 (append-all (λ b. b ≤ 1) (take i l) (drop i l) (rw take-append-drop (bytes l .0 k)) .0)
 
+-- a refusal of the record is passed on
+pub closing-passes-it-on : (s : List ℕ) (n d : ℕ) → accepted s ≡ refused n d → (x : ℕ) (replies : List ℕ) → Closing s x replies ≡ refused n d
+unfolding Closing
+closing-passes-it-on s n d e x replies = rw e
+
 module _ (s : List ℕ) (B : Board) (e : accepted s ≡ done B) (x : ℕ) where
   -- ---- Closing from its first question on
   abbrev start : Earliest
@@ -135,6 +90,20 @@ module _ (s : List ℕ) (B : Board) (e : accepted s ≡ done B) (x : ℕ) where
       below : (t : Bool) → ltb x (length (B .bounds)) ≡ t → need 22 x t ≡ done tt → x < length (B .bounds)
       below true q c = ltb-true x (length (B .bounds)) q
       below false q c = never c
+
+  -- it answers exactly where the variable is known, the replies are bytes 0 or 1, and each is to a question
+  answers-exactly : (replies : List ℕ) → ((a : Earliest) × (Closing s x replies ≡ done a))
+      ↔ ((x < length (B .bounds)) × All (λ b. b ≤ 1) replies × bisection.Wanted (Closing s x) replies)
+  answers-exactly replies = (
+    λ d.
+        let k = passed replies (d .1) in
+        let w = bisection.answered-wanted start replies (k .2) in
+        (k .0, bytes replies .0 (k .1), λ i l. (let q = w i l in record { range = q .range; question = q .question; is = closing-is (take i replies) (k .0) (some-of i replies (k .1)) ∙ q .is })),
+    λ k.
+        let b = bytes replies .1 (k .1) in
+        let a = bisection.wanted-answered start replies (λ i l. let q = k .2 i l in record { range = q .range; question = q .question; is = sym (closing-is (take i replies) (k .0) (some-of i replies b)) ∙ q .is }) in
+        (a .0, closing-is replies (k .0) b ∙ a .1),
+  )
 
   bounds : x < length (B .bounds) → GoodBounds (boundsOf B x)
   bounds h = good-bounds B (accepted-admitted s B e .bounds) x h
@@ -257,3 +226,16 @@ module _ (s : List ℕ) (B : Board) (e : accepted s ≡ done B) (x : ℕ) where
         rw (alike 14)
         (ending (k .last) replies (closing-is replies known b ∙ k .is) (k .finished)
         (bisection.after-tells (Met B x) (boundsOf B x) start replies (k .last) (begins-inside known) (begins-true known) t (k .is)))
+
+-- ---- the first demand: what Closing accepts
+pub closing-accepts-exactly : (s : List ℕ) → All (λ b. b < 256) s → (x : ℕ) (replies : List ℕ) → ((a : Earliest) × (Closing s x replies ≡ done a))
+    ↔ ((B : Board) × Admits s B × ((x < length (B .bounds)) × All (λ b. b ≤ 1) replies × bisection.Wanted (Closing s x) replies))
+closing-accepts-exactly s small x replies = (
+  λ h. go (accepted s) refl h,
+  λ h. answers-exactly s (h .0) (accepted-exactly s (h .0) small .1 (h .1)) x replies .1 (h .2),
+)
+  where
+    go : (m : Result Board) → accepted s ≡ m → ((a : Earliest) × (Closing s x replies ≡ done a))
+        → (B : Board) × Admits s B × ((x < length (B .bounds)) × All (λ b. b ≤ 1) replies × bisection.Wanted (Closing s x) replies)
+    go (done B) e h = (B, accepted-exactly s B small .0 e, answers-exactly s B e x replies .0 h)
+    go (refused n d) e h = never (sym (closing-passes-it-on s n d e x replies) ∙ h .1)

@@ -16,6 +16,7 @@ pub mod Demand2
 pub mod Demand3
 pub mod Bisection
 pub mod Driving
+pub mod Questions
 pub mod Earliest
 pub mod OneList
 pub mod Tried

@@ -21,7 +21,7 @@ use Rattle.laws.specs.Layout.{number-range}
 use Rattle.laws.specs.Reread.{accepted-admitted}
 use Rattle.demands.specs.Flat.{cut, TrueIn, Satisfies, list-cut-more, model-of-list}
 use Rattle.demands.specs.Pairing.{model-says, decodes, image-model, image-values, image-bools}
-use Rattle.demands.specs.Earliest.{adding, added-means}
+use Rattle.demands.specs.Questions.{adding, added-means}
 
 -- what a solver is given for question h: the board's list, and one clause of one literal
 abbrev pub asking : Board → ℕ → ℤ → List ℤ

@@ -20,7 +20,8 @@ use Rattle.laws.specs.Tests.{isSolution-decides}
 use Rattle.laws.specs.Ranges.{any-range}
 use Rattle.demands.specs.Driving.{driven}
 use Rattle.demands.specs.Demand3.{a-solution-means}
-use Rattle.demands.specs.Earliest.{Solved, adding, Found, a-driver-finds-the-least}
+use Rattle.demands.specs.Questions.{adding, Solved}
+use Rattle.demands.specs.Earliest.{Found, a-driver-finds-the-least}
 
 -- ---- a test of some choice: of a value in each range, of n bytes
 abbrev pub tries : List Bounds → (List ℤ → Bool) → Bool
