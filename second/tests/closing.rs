@@ -63,6 +63,20 @@ fn questions(record: &[u8], replies: &[u8]) -> Vec<i32> {
     ranges.map(|[_, _, next]| next).collect()
 }
 
+/// What true replies lead to where this value is the least, and how many they are.
+fn asked_truly(record: &[u8], least: i32) -> (Closing, usize) {
+    let mut replies = Vec::new();
+    loop {
+        match closing(record, 0, &replies).unwrap() {
+            Closing::Unfinished { low, high, next } => {
+                assert!(low <= least && least <= high);
+                replies.push(u8::from(least <= next));
+            }
+            outcome => return (outcome, replies.len()),
+        }
+    }
+}
+
 #[test]
 fn table_1_of_document_003() {
     let record = one_variable(1_000, 1_509);
@@ -233,4 +247,29 @@ fn true_replies_lead_to_the_least_value() {
     // x + y at least 13: no solution.
     let record = two_variables(-1, -13);
     assert_eq!(closing(&record, 0, &[0]), Ok(Closing::None));
+}
+
+#[test]
+fn true_replies_find_every_value_of_small_ranges() {
+    for lower in -10..=10_i64 {
+        for values in 1..=17 {
+            let upper = lower + values - 1;
+            let record = one_variable(lower, upper);
+            // One question at the upper bound, and one for each halving.
+            let most = 1 + (0..).find(|halvings| 1 << halvings >= values).unwrap();
+            for least in lower as i32..=upper as i32 {
+                let (outcome, questions) = asked_truly(&record, least);
+                assert_eq!(outcome, Closing::Found(least));
+                assert!(questions <= most);
+            }
+        }
+    }
+}
+
+#[test]
+fn true_replies_find_every_value_of_the_greatest_range() {
+    let record = one_variable(-4_096, 4_095);
+    for least in -4_096..=4_095 {
+        assert_eq!(asked_truly(&record, least), (Closing::Found(least), 14));
+    }
 }
