@@ -19,8 +19,8 @@ const OPERATIONS: usize = 6;
 /// The numbers of the refusals.
 const REFUSALS: [usize; 16] = [1, 2, 3, 4, 5, 6, 7, 8, 9, 10, 11, 12, 13, 14, 22, 23];
 
-/// The refusals that Closing has to meet with its own input, not the record.
-const OF_CLOSING: [usize; 3] = [12, 22, 23];
+/// The refusal that other operations share and Closing has to meet by itself.
+const BAD_BYTE: usize = 12;
 
 #[derive(Default)]
 pub struct Tally {
@@ -51,12 +51,8 @@ impl Tally {
     pub fn never_met(&self) -> Vec<String> {
         let missing = REFUSALS.iter().filter(|&&number| self.total(number) == 0);
         let mut names: Vec<String> = missing.map(|number| format!("refusal {number}")).collect();
-        let closing = self.answers[Operation::Closing as usize];
-        for number in OF_CLOSING
-            .into_iter()
-            .filter(|&number| closing[number] == 0)
-        {
-            names.push(format!("closing refusal {number}"));
+        if self.answers[Operation::Closing as usize][BAD_BYTE] == 0 {
+            names.push(format!("closing refusal {BAD_BYTE}"));
         }
         names.extend(self.outcomes.never_met());
         names
