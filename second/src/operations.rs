@@ -1,4 +1,4 @@
-//! The five operations: Size, Compile, Decode, Judge and Image.
+//! The five operations of the base: Size, Compile, Decode, Judge and Image.
 
 use crate::board::Board;
 use crate::clauses::clause_list;
@@ -8,7 +8,7 @@ use crate::reading::read;
 use crate::refusal::{refuse_if, Refusal};
 
 /// The board and its three numbers: what all operations do first.
-fn opened(record: &[u8]) -> Result<(Board, Sizes), Refusal> {
+pub(crate) fn opened(record: &[u8]) -> Result<(Board, Sizes), Refusal> {
     let board = read(record)?;
     let sizes = count(&board)?;
     Ok((board, sizes))
@@ -85,7 +85,7 @@ fn has_length(length: usize, wanted: usize) -> Result<(), Refusal> {
     refuse_if(length != wanted, 11, wanted)
 }
 
-fn are_bits(bytes: &[u8]) -> Result<(), Refusal> {
+pub(crate) fn are_bits(bytes: &[u8]) -> Result<(), Refusal> {
     for (index, &byte) in bytes.iter().enumerate() {
         refuse_if(byte > 1, 12, index)?;
     }

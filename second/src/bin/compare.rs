@@ -1,11 +1,21 @@
 //! The comparison run: many random boards through both programs, with every answer compared.
 
+#[path = "compare/assignments.rs"]
+mod assignments;
 #[path = "compare/both.rs"]
 mod both;
+#[path = "compare/closing_tries.rs"]
+mod closing_tries;
 #[path = "compare/demand.rs"]
 mod demand;
 #[path = "compare/first.rs"]
 mod first;
+#[path = "compare/least.rs"]
+mod least;
+#[path = "compare/one_list.rs"]
+mod one_list;
+#[path = "compare/outcomes.rs"]
+mod outcomes;
 #[path = "compare/second_side.rs"]
 mod second_side;
 #[path = "compare/tally.rs"]
@@ -19,7 +29,7 @@ use second::boards::drawn;
 use std::process::ExitCode;
 use tally::Tally;
 
-/// From this many boards on, every refusal has to be met.
+/// From this many boards on, every refusal and every outcome of Closing has to be met.
 const ENOUGH: u64 = 20_000;
 
 fn main() -> ExitCode {
@@ -47,7 +57,7 @@ fn main() -> ExitCode {
     print!("{}", tally.table());
     let missing = tally.never_met();
     if count >= ENOUGH && !missing.is_empty() {
-        println!("refusals never met: {missing:?}");
+        println!("never met: {}", missing.join(", "));
         return ExitCode::FAILURE;
     }
     println!("no difference in {count} boards of seed {seed}");

@@ -11,13 +11,14 @@ use crate::tuples::count_tuples;
 type Way = (&'static str, fn(&mut Dice) -> Board);
 
 /// The ways that are drawn seldom, for their size.
-const SELDOM: [Way; 8] = [
+const SELDOM: [Way; 9] = [
     ("empty board", |_| empty()),
     ("most variables", most_variables),
     ("most Booleans", most_booleans),
     ("most clauses", most_clauses),
     ("longest clauses", longest_clauses),
     ("widest bounds", widest_bounds),
+    ("range of any size", range_of_any_size),
     ("longest record", longest_record),
     ("large comparison", large_comparison),
 ];
@@ -262,6 +263,23 @@ fn widest_bounds(dice: &mut Dice) -> Board {
     for _ in 0..dice.between(1, 3) {
         let literals = dice.pick(&[1, 2]);
         add_clause(dice, &mut board, literals, 100);
+    }
+    board
+}
+
+/// One variable with around a power of two values, and rules on it alone.
+fn range_of_any_size(dice: &mut Dice) -> Board {
+    let mut board = empty();
+    let widest = GREATEST_BOUND - LEAST_BOUND + 1;
+    let values = (1 << dice.between(3, 13)) + dice.between(-1, 1);
+    let last = values.min(widest) - 1;
+    let lower = dice.between(LEAST_BOUND, GREATEST_BOUND - last);
+    let upper = lower + last;
+    board.variables.push(Bounds { lower, upper });
+    board.booleans = dice.pick(&[0, 1]);
+    for _ in 0..dice.between(1, 3) {
+        let literals = dice.pick(&[1, 1, 2]);
+        add_clause(dice, &mut board, literals, 40);
     }
     board
 }

@@ -3,6 +3,7 @@
 use crate::first::{self, Answer};
 use crate::second_side;
 use crate::tally::{Operation, Tally};
+use second::closing::MOST_QUESTIONS;
 use std::fmt;
 
 /// What lent lists hold before a call.
@@ -125,6 +126,22 @@ impl Both<'_> {
         ours.answer = second_side::image(self.record, values, booleans, &mut ours.bytes);
         let given = || format!("values {values:?}, Booleans {booleans:?}, model of {model}");
         self.same(Operation::Image, given, theirs, ours)
+    }
+
+    /// Closing into three hours; no list longer than the most questions is accepted.
+    pub fn closing(&mut self, variable: usize, replies: &[u8]) -> Compared<After> {
+        let mut ours = After::before(3, 0);
+        let mut theirs = ours.clone();
+        theirs.answer = first::closing(self.record, variable, replies, &mut theirs.numbers);
+        ours.answer = second_side::closing(self.record, variable, replies, &mut ours.numbers);
+        let given = || format!("variable {variable}, replies {replies:?}");
+        let after = self.same(Operation::Closing, given, theirs, ours)?;
+        if after.accepted() && replies.len() > MOST_QUESTIONS {
+            let what = format!("{}\nmore replies than questions: {after:?}", given());
+            return Err(self.differs(Operation::Closing, what));
+        }
+        self.tally.outcomes.met(after.answer, replies.len());
+        Ok(after)
     }
 
     /// Both programs' outcome, where it is the same and a refusal changed nothing.

@@ -1,8 +1,9 @@
 //! Demand 3 on small boards, by trying every model and every assignment.
 
+use crate::assignments::{assignments, holds, Assignment};
 use crate::both::{Both, Compared};
+use crate::one_list::{self, Decoded};
 use crate::tally::Operation;
-use crate::tries::Assignment;
 use second::board::Board;
 use second::boards::dice::Dice;
 use std::collections::BTreeMap;
@@ -24,7 +25,9 @@ pub fn is_due(dice: &mut Dice, variables: usize, numbers: usize) -> bool {
 /// Decode pairs the plain models with the solutions, and Image turns that round.
 pub fn check(both: &mut Both, board: &Board, variables: usize, numbers: usize) -> Compared<()> {
     let list = both.compile(numbers)?.numbers;
-    let mut plain = plain_models(both, board, variables, &list)?;
+    let models = decoded_models(both, board, variables, &list)?;
+    let mut plain = plain_models(both, board, &models)?;
+    let mut solutions = Vec::new();
     both.tally.demand[0] += 1;
     both.tally.demand[2] += plain.len() as u64;
     for (values, booleans) in assignments(board) {
@@ -38,31 +41,45 @@ pub fn check(both: &mut Both, board: &Board, variables: usize, numbers: usize) -
             continue;
         }
         both.tally.demand[3] += 1;
-        let model = plain.remove(&(values, booleans));
+        solutions.push((values, booleans));
+        let model = plain.remove(&solutions[solutions.len() - 1]);
         if model.as_ref() != Some(&image.bytes) {
             let what = format!("Image {image:?}, plain model {model:?}");
             return Err(both.differs(Operation::Image, what));
         }
     }
-    if plain.is_empty() {
-        return Ok(());
+    if !plain.is_empty() {
+        return Err(both.differs(Operation::Decode, format!("left over: {plain:?}")));
     }
-    Err(both.differs(Operation::Decode, format!("left over: {plain:?}")))
+    one_list::check(both, board, &models, &solutions)
 }
 
-/// Decodes every model and keeps the plain ones, no two of which decode alike.
-fn plain_models(both: &mut Both, board: &Board, variables: usize, list: &[i32]) -> Compared<Plain> {
+/// Every model of the list and what it decodes to.
+fn decoded_models(
+    both: &mut Both,
+    board: &Board,
+    variables: usize,
+    list: &[i32],
+) -> Compared<Vec<Decoded>> {
     let masks = clause_masks(list);
-    let mut plain = Plain::new();
+    let mut models = Vec::new();
     for bits in 0..1_u32 << variables {
         let model: Vec<u8> = (0..variables).map(|at| (bits >> at) as u8 & 1).collect();
-        let Some((values, booleans)) = decoded(both, board, &model, first_failing(&masks, bits))?
-        else {
-            continue;
-        };
-        both.tally.demand[1] += 1;
-        if is_plain(board, &model, &values) {
-            if let Some(other) = plain.insert((values, booleans), model.clone()) {
+        let failing = first_failing(&masks, bits);
+        if let Some(assignment) = decoded(both, board, &model, failing)? {
+            models.push((model, assignment));
+        }
+    }
+    both.tally.demand[1] += models.len() as u64;
+    Ok(models)
+}
+
+/// The plain models, no two of which decode alike.
+fn plain_models(both: &Both, board: &Board, models: &[Decoded]) -> Compared<Plain> {
+    let mut plain = Plain::new();
+    for (model, assignment) in models {
+        if is_plain(board, model, &assignment.0) {
+            if let Some(other) = plain.insert(assignment.clone(), model.clone()) {
                 let what = format!("{model:?} and {other:?} are plain and decode alike");
                 return Err(both.differs(Operation::Decode, what));
             }
@@ -125,34 +142,4 @@ fn is_plain(board: &Board, model: &[u8], values: &[i32]) -> bool {
     let selectors = &model[model.len() - comparisons.len()..];
     let mut pairs = selectors.iter().zip(comparisons);
     pairs.all(|(&byte, comparison)| (byte == 1) == comparison.holds(values))
-}
-
-/// Whether values and Booleans are a solution, by the board alone.
-fn holds(board: &Board, values: &[i32], booleans: &[u8]) -> bool {
-    let mut pairs = board.variables.iter().zip(values);
-    let inside = pairs.all(|(bounds, &value)| {
-        let value = i64::from(value);
-        bounds.lower <= value && value <= bounds.upper
-    });
-    let mut clauses = board.clauses.iter();
-    inside && clauses.all(|clause| clause.holds(values, booleans))
-}
-
-/// Every assignment within bounds.
-fn assignments(board: &Board) -> Vec<Assignment> {
-    let mut found: Vec<Assignment> = vec![(Vec::new(), Vec::new())];
-    for bounds in &board.variables {
-        let longer = found.iter().flat_map(|(values, _)| {
-            let longer = |value| [values.as_slice(), &[value as i32]].concat();
-            (bounds.lower..=bounds.upper).map(move |value| (longer(value), Vec::new()))
-        });
-        found = longer.collect();
-    }
-    for _ in 0..board.booleans {
-        let longer = found.iter().flat_map(|(values, booleans)| {
-            [0, 1].map(|byte| (values.clone(), [booleans.as_slice(), &[byte]].concat()))
-        });
-        found = longer.collect();
-    }
-    found
 }

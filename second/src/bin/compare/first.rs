@@ -2,6 +2,11 @@
 
 pub type Answer = [u64; 4];
 
+/// What Closing answers where it does not refuse.
+pub const FOUND: Answer = [0, 0, 0, 0];
+pub const NONE: Answer = [0, 1, 0, 0];
+pub const UNFINISHED: Answer = [0, 2, 0, 0];
+
 extern "C" {
     fn basmuthar_size(record: *const u8, record_len: usize, answer: *mut u64);
     fn basmuthar_compile(
@@ -40,6 +45,15 @@ extern "C" {
         booleans_len: usize,
         model: *mut u8,
         model_len: usize,
+        answer: *mut u64,
+    );
+    fn basmuthar_closing(
+        record: *const u8,
+        record_len: usize,
+        variable: usize,
+        replies: *const u8,
+        replies_len: usize,
+        hours: *mut i32,
         answer: *mut u64,
     );
 }
@@ -153,6 +167,24 @@ pub fn image(record: &[u8], values: &[i32], booleans: &[u8], model: &mut [u8]) -
         );
     }
     unless_broken(answer, lent.give_back(model))
+}
+
+/// The hours are three: a value three times, or low, high and the next question.
+pub fn closing(record: &[u8], variable: usize, replies: &[u8], hours: &mut [i32]) -> Answer {
+    let mut answer = UNANSWERED;
+    let mut lent = Lent::new(hours, -77);
+    unsafe {
+        basmuthar_closing(
+            record.as_ptr(),
+            record.len(),
+            variable,
+            replies.as_ptr(),
+            replies.len(),
+            lent.start(),
+            answer.as_mut_ptr(),
+        );
+    }
+    unless_broken(answer, lent.give_back(hours))
 }
 
 fn unless_broken(answer: Answer, whole: bool) -> Answer {

@@ -1,7 +1,7 @@
 //! The second program's results in the form of the C interface's answers.
 
-use crate::first::Answer;
-use second::{Refusal, Sizes};
+use crate::first::{Answer, FOUND, NONE, UNFINISHED};
+use second::{Closing, Refusal, Sizes};
 
 pub fn size(record: &[u8]) -> Answer {
     with_sizes(second::size(record))
@@ -21,6 +21,21 @@ pub fn judge(record: &[u8], values: &[i32], booleans: &[u8]) -> Answer {
 
 pub fn image(record: &[u8], values: &[i32], booleans: &[u8], model: &mut [u8]) -> Answer {
     with_zeros(second::image(record, values, booleans, model))
+}
+
+pub fn closing(record: &[u8], variable: usize, replies: &[u8], hours: &mut [i32]) -> Answer {
+    match second::closing(record, variable, replies) {
+        Ok(Closing::Found(value)) => {
+            hours.fill(value);
+            FOUND
+        }
+        Ok(Closing::None) => NONE,
+        Ok(Closing::Unfinished { low, high, next }) => {
+            hours.copy_from_slice(&[low, high, next]);
+            UNFINISHED
+        }
+        Err(refusal) => refused(refusal),
+    }
 }
 
 fn with_sizes(result: Result<Sizes, Refusal>) -> Answer {

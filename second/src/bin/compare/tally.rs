@@ -1,5 +1,6 @@
 //! Counts of what was met: answers by operation and refusal, ways of drawing, demand 3.
 
+use crate::outcomes::Outcomes;
 use std::collections::BTreeMap;
 
 #[derive(Debug, Clone, Copy)]
@@ -9,18 +10,26 @@ pub enum Operation {
     Decode,
     Judge,
     Image,
+    Closing,
 }
 
-/// Refusals are numbered from 1 to this.
-const REFUSALS: usize = 14;
+/// How many operations there are.
+const OPERATIONS: usize = 6;
+
+/// The numbers of the refusals.
+const REFUSALS: [usize; 16] = [1, 2, 3, 4, 5, 6, 7, 8, 9, 10, 11, 12, 13, 14, 22, 23];
+
+/// The refusal that other operations share and Closing has to meet by itself.
+const BAD_BYTE: usize = 12;
 
 #[derive(Default)]
 pub struct Tally {
     /// For each operation, how often each number was answered; 0 is accepted.
-    answers: [[u64; REFUSALS + 1]; 5],
+    answers: [[u64; 24]; OPERATIONS],
     ways: BTreeMap<String, u64>,
     /// Boards, models, plain models and solutions of demand 3.
     pub demand: [u64; 4],
+    pub outcomes: Outcomes,
 }
 
 impl Tally {
@@ -38,23 +47,25 @@ impl Tally {
         self.answers.iter().map(|counts| counts[number]).sum()
     }
 
-    /// The refusals that no operation answered.
-    pub fn never_met(&self) -> Vec<usize> {
-        let refusals = 1..=REFUSALS;
-        refusals.filter(|&number| self.total(number) == 0).collect()
+    /// The refusals that no operation answered, and what Closing never answered.
+    pub fn never_met(&self) -> Vec<String> {
+        let missing = REFUSALS.iter().filter(|&&number| self.total(number) == 0);
+        let mut names: Vec<String> = missing.map(|number| format!("refusal {number}")).collect();
+        if self.answers[Operation::Closing as usize][BAD_BYTE] == 0 {
+            names.push(format!("closing refusal {BAD_BYTE}"));
+        }
+        names.extend(self.outcomes.never_met());
+        names
     }
 
     pub fn table(&self) -> String {
-        let mut text = row("", ["size", "compile", "decode", "judge", "image", "all"]);
-        for number in 0..=REFUSALS {
-            let name = match number {
-                0 => String::from("accepted"),
-                _ => format!("refusal {number}"),
-            };
-            let [size, compile, decode, judge, image] = self.answers.map(|counts| counts[number]);
-            let all = self.total(number);
-            text += &row(&name, [size, compile, decode, judge, image, all]);
+        let operations = ["size", "compile", "decode", "judge", "image", "closing"];
+        let mut text = row("", operations, "all");
+        text += &self.answer_row("accepted", 0);
+        for number in REFUSALS {
+            text += &self.answer_row(&format!("refusal {number}"), number);
         }
+        text += &self.outcomes.table();
         for (way, count) in &self.ways {
             text += &format!("{count:>9} records: {way}\n");
         }
@@ -63,11 +74,16 @@ impl Tally {
         text += &format!("{plain} plain models, {solutions} solutions\n");
         text
     }
+
+    fn answer_row(&self, name: &str, number: usize) -> String {
+        let cells = self.answers.map(|counts| counts[number]);
+        row(name, cells, self.total(number))
+    }
 }
 
-fn row<T: std::fmt::Display>(name: &str, cells: [T; 6]) -> String {
+fn row<T: std::fmt::Display>(name: &str, cells: [T; OPERATIONS], last: T) -> String {
     let mut text = format!("{name:<10}");
-    for cell in cells {
+    for cell in cells.into_iter().chain([last]) {
         text += &format!(" {cell:>10}");
     }
     text + "\n"

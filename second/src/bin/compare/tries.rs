@@ -1,8 +1,11 @@
 //! The calls that are tried on one record: lengths, models, values and Booleans.
 
+use crate::assignments::Assignment;
 use crate::both::{Both, Compared};
+use crate::closing_tries::{self, any_replies, unknown};
 use crate::demand;
 use crate::first::Answer;
+use crate::least;
 use crate::tally::Operation;
 use second::board::Board;
 use second::boards::dice::Dice;
@@ -11,9 +14,6 @@ use second::reading::read;
 
 /// Lists longer than this are not compiled, only refused.
 const LONG_LIST: u64 = 1_000_000;
-
-/// A value for each integer variable and a byte for each Boolean.
-pub type Assignment = (Vec<i32>, Vec<u8>);
 
 /// All tries on one record.
 pub fn all(both: &mut Both, dice: &mut Dice) -> Compared<()> {
@@ -35,7 +35,10 @@ pub fn all(both: &mut Both, dice: &mut Dice) -> Compared<()> {
     if demand::is_due(dice, variables, numbers) {
         demand::check(both, &board, variables, numbers)?;
     }
-    Ok(())
+    if least::is_due(&board) {
+        least::check(both, &board)?;
+    }
+    closing_tries::all(both, dice, &board)
 }
 
 /// All operations refuse a record alike, whatever is lent.
@@ -48,6 +51,8 @@ fn on_refused_record(both: &mut Both, dice: &mut Dice, size: Answer) -> Compared
         both.decode(&model, values.len(), booleans.len())?.answer,
         both.judge(&values, &booleans)?.answer,
         both.image(&values, &booleans, model.len())?.answer,
+        both.closing(dice.below(4), &any_replies(dice))?.answer,
+        both.closing(unknown(dice, 1), &any_replies(dice))?.answer,
     ];
     if answers.iter().any(|answer| *answer != size) {
         let what = format!("size answers {size:?}, the others {answers:?}");
@@ -63,7 +68,7 @@ fn on_long_list(both: &mut Both, dice: &mut Dice, board: &Board) -> Compared<()>
     both.decode(&[], values.len(), booleans.len())?;
     both.judge(&values, &booleans)?;
     both.image(&values, &booleans, dice.below(100))?;
-    Ok(())
+    closing_tries::all(both, dice, board)
 }
 
 fn compile_tries(both: &mut Both, dice: &mut Dice, numbers: usize) -> Compared<()> {
@@ -116,7 +121,7 @@ fn flipped(dice: &mut Dice, bytes: &[u8]) -> Vec<u8> {
 }
 
 /// The bytes with one or two of them from 2 to 255.
-fn spoiled(dice: &mut Dice, bytes: &[u8]) -> Vec<u8> {
+pub fn spoiled(dice: &mut Dice, bytes: &[u8]) -> Vec<u8> {
     let mut bytes = bytes.to_vec();
     if !bytes.is_empty() {
         for _ in 0..dice.between(1, 2) {
@@ -211,7 +216,7 @@ fn at_bounds(dice: &mut Dice, board: &Board) -> Assignment {
     (values, random_bits(dice, board.booleans))
 }
 
-fn random_bits(dice: &mut Dice, count: usize) -> Vec<u8> {
+pub fn random_bits(dice: &mut Dice, count: usize) -> Vec<u8> {
     (0..count).map(|_| dice.byte() & 1).collect()
 }
 
