@@ -137,11 +137,10 @@ impl Search<'_> {
 
     /// Prints what was found, and the solution that shows it.
     fn tell(&self, file: &str, found: Option<i32>) -> Result<bool, Trouble> {
-        let (name, questions) = (self.name(), self.questions);
+        let (name, questions) = (self.name(), counted(self.questions));
         match (found, &self.shown) {
             (Some(value), Some(setting)) if self.least_shown() == found => {
-                let words =
-                    format!("# the earliest: {name} = {value}, after {questions} questions\n");
+                let words = format!("# the earliest: {name} = {value}, after {questions}\n");
                 put((words + &setting_words(&self.opened.sheet.board, setting)).as_bytes())
             }
             (Some(value), _) => {
@@ -158,4 +157,9 @@ impl Search<'_> {
             }
         }
     }
+}
+
+fn counted(questions: usize) -> String {
+    let ending = if questions == 1 { "" } else { "s" };
+    format!("{questions} question{ending}")
 }
