@@ -99,3 +99,9 @@ fn a_yes_that_its_model_does_not_bear_out_is_6() {
     ends(&says("99 0"), "x at most 7", 6, "expected a number from -10 to 10, found `99`");
     ends(&yes(4), "x at most 3", 6, "says yes, and its model has x = 4");
 }
+
+#[test]
+fn an_interrupt_ends_the_questions_and_leaves_no_files() {
+    ends("kill -INT $PPID; kill -INT $$", "x at most 7", 5, "was interrupted");
+    ends(&format!("kill -INT $PPID; {}", yes(0)), "x at most 7", 5, "was interrupted");
+}

@@ -4,6 +4,7 @@
 
 mod call;
 mod folder;
+mod interrupt;
 
 use crate::clauses::Clauses;
 use crate::reply::{read_reply, Fault, Reply};
@@ -44,16 +45,27 @@ pub enum Said {
 impl Solver<'_> {
     /// Puts a question to the solver, or says why there is no reply to go on with.
     pub fn ask(&self, question: &Question) -> Result<Said, Trouble> {
+        interrupt::listen();
         let folder = Folder::new().map_err(|error| no_file(question, "temporary folder", error))?;
         let (cnf, reply) = (folder.file("clauses.cnf"), folder.file("reply"));
         write_clauses(question, &cnf).map_err(|error| no_file(question, &cnf, error))?;
         let call = Call::new(self.program, self.words, &cnf, &reply);
         let output = folder.file("output");
+        self.uninterrupted(question)?;
         let ended = self.run(&call, &output).map_err(|error| self.not_started(question, error))?;
+        self.uninterrupted(question)?;
         let read = |file: &str| read_lossy(file).map_err(|error| no_file(question, file, error));
         let status = self.status(question, ended, &read(&output)?)?;
         let text = read(if call.has_reply_file { &reply } else { &output })?;
         self.said(question, status, &text)
+    }
+
+    fn uninterrupted(&self, question: &Question) -> Result<(), Trouble> {
+        if !interrupt::is_heard() {
+            return Ok(());
+        }
+        let help = "Replies that were printed before still hold.";
+        Err(self.trouble(question, Status::SolverFailed, "was interrupted.", help))
     }
 
     fn run(&self, call: &Call, output: &str) -> io::Result<ExitStatus> {
