@@ -84,7 +84,7 @@ fn try_all(record: &[u8], places: &Places, variables: usize) -> Found {
             there_and_back(record, values, &booleans, variables);
             found.solutions += 1;
             for (least, value) in found.least.iter_mut().zip(values) {
-                *least = *value.min(least);
+                *least = (*least).min(*value);
             }
         }
         if !places.next(&mut setting) {

@@ -1,7 +1,6 @@
 //! `board earliest` where the solver is not in order: each way has its status, and words that name the question.
 
 use crate::fake::{model, yes, Fake, NO};
-use std::fs;
 
 /// Runs a script, which has to end `board` with this status and a complaint that has these words, at this question.
 fn ends(script: &str, question: &str, status: i32, words: &str) {
@@ -50,14 +49,34 @@ fn a_reply_file_that_is_not_written_or_says_that_it_gave_up_is_4() {
 #[test]
 fn a_solver_that_cannot_be_started_is_5() {
     let fake = Fake::new(NO);
+    let ends = |solver: &str, words: &str| {
+        let run = fake.ended(fake.command(&[solver]));
+        assert!(
+            run.complaint.contains(&format!("cannot be started: {words}")),
+            "{}",
+            run.complaint
+        );
+        assert!(run.complaint.contains("Install it"), "{}", run.complaint);
+        assert_eq!((run.printed.as_str(), run.status), ("# x at most 7? no answer\n", Some(5)));
+    };
     fake.allow("solver", 0o644);
-    let run = fake.run(&[]);
-    assert!(run.complaint.contains("cannot be started: Permission denied"), "{}", run.complaint);
-    assert_eq!((run.printed.as_str(), run.status), ("# x at most 7? no answer\n", Some(5)));
-    fs::remove_file(fake.path("solver")).unwrap();
-    let run = fake.run(&[]);
-    assert!(run.complaint.contains("cannot be started: No such file"), "{}", run.complaint);
-    assert!(run.complaint.contains("Install it"), "{}", run.complaint);
+    ends(&fake.path("solver"), "Permission denied");
+    ends(&fake.path("no-such-file"), "No such file");
+    ends("no-such-solver", "No such file");
+    ends("", "No such file");
+}
+
+#[test]
+fn a_place_where_no_files_can_be_written_is_5() {
+    let fake = Fake::new(NO);
+    let mut command = fake.command(&["sh", &fake.path("solver")]);
+    command.env("TMPDIR", fake.path("no-such-folder"));
+    let run = fake.ended(command);
+    assert!(
+        run.complaint.starts_with("x at most 7? temporary folder: No such"),
+        "{}",
+        run.complaint
+    );
     assert_eq!(run.status, Some(5));
 }
 
@@ -75,6 +94,7 @@ fn a_solver_that_contradicts_its_own_status_is_5() {
     ends("echo s UNSATISFIABLE; exit 10", "x at most 7", 5, "says no and ends with status 10");
     let says_yes = format!("echo s SATISFIABLE; echo v {}; exit 20", model(0));
     ends(&says_yes, "x at most 7", 5, "says yes and ends with status 20");
+    ends("echo s SATISFIABLE; exit 20", "x at most 7", 5, "says yes and ends with status 20");
     let both = format!("echo s SATISFIABLE; echo v {}; {NO}", model(0));
     ends(&both, "x at most 7", 5, "gives two verdicts");
 }

@@ -25,7 +25,7 @@ pub struct Run {
 }
 
 impl Fake {
-    /// `solver` in the folder is this script for `sh`; `$1` is its first word.
+    /// `solver` in the folder is this script; `$1` is its first word. It is read by `sh`, and may be run by itself too.
     pub fn new(script: &str) -> Fake {
         static COUNT: AtomicUsize = AtomicUsize::new(0);
         let name =
@@ -46,16 +46,17 @@ impl Fake {
         fs::set_permissions(self.path(name), Permissions::from_mode(mode)).unwrap();
     }
 
-    /// The command `board earliest x.board x -- solver` and these words.
-    pub fn command(&self, words: &[&str]) -> Command {
+    /// The command `board earliest x.board x --` with a solver and its words.
+    pub fn command(&self, solver: &[&str]) -> Command {
         let mut command = in_project("board");
-        command.args(["earliest", &self.path("x.board"), "x", "--", &self.path("solver")]);
-        command.args(words).env("TMPDIR", self.path("temporary"));
+        command.args(["earliest", &self.path("x.board"), "x", "--"]).args(solver);
+        command.env("TMPDIR", self.path("temporary"));
         command
     }
 
+    /// Runs `board` with the script and these words for it.
     pub fn run(&self, words: &[&str]) -> Run {
-        self.ended(self.command(words))
+        self.ended(self.command(&[&["sh", &self.path("solver")], words].concat()))
     }
 
     /// Runs a command, which has to leave no temporary file behind, however it ends.

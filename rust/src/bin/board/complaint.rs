@@ -7,7 +7,7 @@ pub struct Spot {
     pub column: usize,
 }
 
-/// A line that is longer is shown only about the place that the complaint is for.
+/// Of a line that is longer only a part is shown.
 const WIDEST: usize = 200;
 
 #[derive(Debug, Clone, PartialEq, Eq)]
@@ -30,6 +30,11 @@ impl Complaint {
         let words = &self.words;
         format!("{name}, line {line}, column {column}: {words}\n  {about}\n  {indent}^")
     }
+}
+
+/// A line, or the beginning of a long one.
+pub fn shortened(line: &str) -> String {
+    part_about(line, 0).0
 }
 
 /// A line, or the part of a long one about a place, and where in it the place is.

@@ -5,10 +5,11 @@
 mod call;
 mod folder;
 mod interrupt;
+mod troubles;
 
 use crate::clauses::Clauses;
-use crate::reply::{read_reply, Fault, Reply};
-use crate::trouble::{Status, Trouble};
+use crate::reply::{read_reply, Fault, Reply, Unread};
+use crate::trouble::Trouble;
 use call::Call;
 use folder::Folder;
 use std::fs::{self, File};
@@ -46,26 +47,30 @@ impl Solver<'_> {
     /// Puts a question to the solver, or says why there is no reply to go on with.
     pub fn ask(&self, question: &Question) -> Result<Said, Trouble> {
         interrupt::listen();
-        let folder = Folder::new().map_err(|error| no_file(question, "temporary folder", error))?;
-        let (cnf, reply) = (folder.file("clauses.cnf"), folder.file("reply"));
-        write_clauses(question, &cnf).map_err(|error| no_file(question, &cnf, error))?;
+        let no_file = |file: &str, error| troubles::no_file(question, file, error);
+        let folder = Folder::new().map_err(|error| no_file("temporary folder", error))?;
+        let [cnf, reply, output] = ["clauses.cnf", "reply", "output"].map(|name| folder.file(name));
+        write_clauses(question, &cnf).map_err(|error| no_file(&cnf, error))?;
         let call = Call::new(self.program, self.words, &cnf, &reply);
-        let output = folder.file("output");
         self.uninterrupted(question)?;
         let ended = self.run(&call, &output).map_err(|error| self.not_started(question, error))?;
         self.uninterrupted(question)?;
-        let read = |file: &str| read_lossy(file).map_err(|error| no_file(question, file, error));
-        let status = self.status(question, ended, &read(&output)?)?;
-        let text = read(if call.has_reply_file { &reply } else { &output })?;
-        self.said(question, status, &text)
+        let written = read_lossy(&output).map_err(|error| no_file(&output, error))?;
+        let status = self.status(question, ended, &written)?;
+        if call.has_reply_file {
+            let reply = read_lossy(&reply).map_err(|error| no_file(&reply, error))?;
+            self.said(question, status, &reply)
+        } else {
+            self.said(question, status, &written)
+        }
     }
 
     fn uninterrupted(&self, question: &Question) -> Result<(), Trouble> {
-        if !interrupt::is_heard() {
-            return Ok(());
+        if interrupt::is_heard() {
+            Err(self.interrupted(question))
+        } else {
+            Ok(())
         }
-        let help = "Replies that were printed before still hold.";
-        Err(self.trouble(question, Status::SolverFailed, "was interrupted.", help))
     }
 
     fn run(&self, call: &Call, output: &str) -> io::Result<ExitStatus> {
@@ -78,22 +83,18 @@ impl Solver<'_> {
     fn status(&self, question: &Question, ended: ExitStatus, output: &str) -> Result<i32, Trouble> {
         let how = match (ended.code(), ended.signal()) {
             (Some(status @ (ANY | YES | NO)), _) => return Ok(status),
-            (Some(status), _) => format!("ended with the error status {status}"),
-            (None, Some(signal)) => format!("was killed by signal {signal}"),
-            (None, None) => "did not end by itself".to_string(),
+            (Some(status), _) => format!("ended with the error status {status}."),
+            (None, Some(signal)) => format!("was killed by signal {signal}."),
+            (None, None) => "did not end by itself.".to_string(),
         };
-        let last = output.lines().rev().find(|line| !line.trim().is_empty());
-        let last = last.map(|line| format!("\nIts last line: {}", shortened(line)));
-        let words = format!("{how}.{}", last.unwrap_or_default());
-        let help = "Look at what it says, at its options, and at its limits of time and memory.";
-        Err(self.trouble(question, Status::SolverFailed, &words, help))
+        Err(self.failed(question, &how, output))
     }
 
     /// What a reply says, if it says something and the status does not say the opposite.
     fn said(&self, question: &Question, status: i32, text: &str) -> Result<Said, Trouble> {
         let reply = read_reply(text, question.clauses.sizes.variables);
         match (reply, status) {
-            (Ok(Reply::Model(_)), NO) => {
+            (Ok(Reply::Model(_)) | Err(Unread { fault: Fault::NoModel, .. }), NO) => {
                 Err(self.contradiction(question, "says yes and ends with status 20, which is no."))
             }
             (Ok(Reply::NoSolution), YES) => {
@@ -102,54 +103,8 @@ impl Solver<'_> {
             (Ok(Reply::Model(model)), _) => Ok(Said::Yes(model)),
             (Ok(Reply::NoSolution), _) => Ok(Said::No),
             (Ok(Reply::Unknown), _) => Err(self.no_verdict(question, "says that it gave up.")),
-            (Err(_), _) if text.trim().is_empty() => {
-                Err(self.no_verdict(question, "says nothing: its reply is empty."))
-            }
-            (Err(unread), _) => {
-                let shown = unread.complaint.shown("its reply", text);
-                Err(self.unread(question, unread.fault, &shown))
-            }
+            (Err(unread), _) => Err(self.unread(question, &unread, text)),
         }
-    }
-
-    fn unread(&self, question: &Question, fault: Fault, shown: &str) -> Trouble {
-        match fault {
-            Fault::NoVerdict => {
-                self.no_verdict(question, &format!("has a reply that is none:\n{shown}"))
-            }
-            Fault::TwoVerdicts => {
-                self.contradiction(question, &format!("gives two verdicts:\n{shown}"))
-            }
-            Fault::NoModel => {
-                let words = format!("says yes, and its model cannot be read:\n{shown}");
-                let help = "Let it print its whole model; a yes without one is no answer.";
-                self.trouble(question, Status::WrongYes, &words, help)
-            }
-        }
-    }
-
-    fn no_verdict(&self, question: &Question, words: &str) -> Trouble {
-        let help =
-            "Give it more time or other options, `{reply}` for the file that its reply goes to, \
-            or ask another solver.";
-        self.trouble(question, Status::NoVerdict, words, help)
-    }
-
-    pub fn contradiction(&self, question: &Question, words: &str) -> Trouble {
-        let help = "Do not go by this solver; ask another one.";
-        self.trouble(question, Status::SolverFailed, words, help)
-    }
-
-    fn not_started(&self, question: &Question, error: io::Error) -> Trouble {
-        let help = "Install it, or write the path of a program that may be run after `--`.";
-        let words = format!("cannot be started: {error}.");
-        self.trouble(question, Status::SolverFailed, &words, help)
-    }
-
-    /// `closing at most 83? The solver cadical was killed by signal 9.`, and a line that says what to do.
-    pub fn trouble(&self, question: &Question, status: Status, words: &str, help: &str) -> Trouble {
-        let (asked, program) = (&question.words, self.program);
-        Trouble::new(status, format!("{asked}? The solver {program} {words}\n{help}"))
     }
 }
 
@@ -164,22 +119,5 @@ fn read_lossy(file: &str) -> io::Result<String> {
         Ok(bytes) => Ok(String::from_utf8_lossy(&bytes).into_owned()),
         Err(error) if error.kind() == ErrorKind::NotFound => Ok(String::new()),
         Err(error) => Err(error),
-    }
-}
-
-fn no_file(question: &Question, file: &str, error: io::Error) -> Trouble {
-    let help = "Make room for it, or name another folder in TMPDIR.";
-    let words = format!("{}? {file}: {error}.\n{help}", question.words);
-    Trouble::new(Status::SolverFailed, words)
-}
-
-/// A line, or the beginning of a long one.
-fn shortened(line: &str) -> String {
-    const WIDEST: usize = 200;
-    let start: String = line.chars().take(WIDEST).collect();
-    if start.len() < line.len() {
-        format!("{start} ..")
-    } else {
-        start
     }
 }

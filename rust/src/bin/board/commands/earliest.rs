@@ -149,9 +149,10 @@ impl Search<'_> {
             }
             (None, _) => {
                 put(b"# none: there is no solution\n")?;
+                let upper = self.opened.sheet.board.numbers[self.number].upper;
                 let words = format!(
-                    "{file}: the solver says that there is no solution, with any {name}.\n\
-                     `board show` tells of a plan of your own which rules do not hold."
+                    "{file}: there is no solution: the solver says no to {name} at most {upper}, its upper \
+                     bound.\n`board show` tells which rules a plan of your own breaks."
                 );
                 Err(Trouble::new(Status::NoSolution, words))
             }
