@@ -101,11 +101,17 @@ fn a_solver_that_contradicts_its_own_status_is_5() {
 
 #[test]
 fn replies_that_contradict_one_another_are_5() {
-    let words = "it says no to x at most 3, and shows a solution with x = 2";
+    let both = |no: i32, shown: i32| {
+        format!("it says no to x at most {no}, and shows a solution with x = {shown}")
+    };
     let low_then_no = at(6, NO) + &yes(2);
-    ends(&low_then_no, "x at most 3", 5, words);
+    ends(&low_then_no, "x at most 3", 5, &both(3, 2));
+    let same_then_no = at(6, NO) + &yes(3);
+    ends(&same_then_no, "x at most 3", 5, &both(3, 3));
     let no_then_low = at(10, &yes(7)) + &at(6, NO) + &yes(2);
-    ends(&no_then_low, "x at most 5", 5, words);
+    ends(&no_then_low, "x at most 5", 5, &both(3, 2));
+    let low_then_higher_then_no = at(10, &yes(2)) + &at(6, &yes(3)) + NO;
+    ends(&low_then_higher_then_no, "x at most 2", 5, &both(2, 2));
 }
 
 #[test]
