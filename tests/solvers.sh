@@ -1,10 +1,12 @@
 #!/usr/bin/env bash
-# Boards through real solvers and back: board cnf, then cadical and minisat, then board model and board show.
+# Boards through real solvers and back: board cnf, then cadical and minisat, then board model and board show; and board
+# earliest for every number.
 #
 #     tests/solvers.sh [HOW MANY BOARDS TO DRAW, 100 IF NOT SAID]
 #
 # Both solvers have to say the same of every board, every model has to decode to values that Judge accepts, and where a
-# board is small, trying all values has to say the same as the solvers. BASMUTHAR_LIB_DIR is as for the crate.
+# board is small, trying all values has to say the same as the solvers: whether there is a solution, and which value of each
+# number is the least. BASMUTHAR_LIB_DIR is as for the crate.
 set -euo pipefail
 cd "$(dirname "$0")/.."
 
@@ -24,15 +26,12 @@ find_solver() {
     command -v "$1" >"$work/where"
 }
 
-# A solver's reply in lines of s and v.
+# A solver's reply, in its own form.
 ask() {
     local solver=$1 cnf=$2 status=0
     case $solver in
     cadical) cadical -q "$cnf" >"$work/reply" || status=$? ;;
-    minisat)
-        minisat -verb=0 "$cnf" "$work/out" >"$work/log" 2>&1 || status=$?
-        sed -e 's/^SAT$/s SATISFIABLE/' -e 's/^UNSAT$/s UNSATISFIABLE/' -e 's/^ *[-0-9]/v &/' "$work/out" >"$work/reply"
-        ;;
+    minisat) minisat -verb=0 "$cnf" "$work/reply" >"$work/log" 2>&1 || status=$? ;;
     esac
     [ "$status" = 10 ] || [ "$status" = 20 ] || fail "$solver ended with status $status on $cnf"
 }
@@ -42,12 +41,47 @@ verdict() {
     local solver=$1 file=$2
     ask "$solver" "$work/cnf"
     "$board" model "$file" <"$work/reply" >"$work/values" || fail "$solver's reply is refused: $file"
-    if grep -q '^s UNSATISFIABLE$' "$work/reply"; then
+    if grep -q '^# the solver says that there is no solution$' "$work/values"; then
         echo UNSATISFIABLE
     else
         "$board" show "$file" "$work/values" >"$work/shown" || fail "$solver's values do not hold: $file"
         echo SATISFIABLE
     fi
+}
+
+# The least value of a number by a solver, or `none`; what is printed has to read as a solution with that value.
+earliest() {
+    local solver=$1 file=$2 name=$3 status=0 value
+    "$board" earliest "$file" "$name" -- "$solver" >"$work/found" 2>"$work/trouble" || status=$?
+    case $status in
+    0) value=$(sed -n "s/^# the earliest: $name = \(.*\), after .*/\1/p" "$work/found") ;;
+    3) echo none && return ;;
+    *) fail "board earliest with $solver ended with status $status: $file: $(cat "$work/trouble")" ;;
+    esac
+    grep -qx -- "$name = $value" "$work/found" || fail "$solver: no solution with $name = $value: $file"
+    "$board" show "$file" "$work/found" >"$work/shown" || fail "$solver: what is printed does not hold: $file"
+    echo "$value"
+}
+
+# The least value of each number of a board: the same by every solver and, where all values were tried, by them.
+least() {
+    local file=$1 tried=$2 place=4 name first said solver
+    for name in $(sed -n 's/^number \(.*\):.*/\1/p' "$file" | tr ',' ' '); do
+        first=""
+        for solver in "${solvers[@]}"; do
+            said=$(earliest "$solver" "$file" "$name")
+            [ "$said" = "${first:-$said}" ] || fail "the least $name: $said by $solver, $first by ${solvers[0]}: $file"
+            first=$said
+        done
+        case $tried in
+        LARGE) said=$first ;;
+        UNSATISFIABLE) said=none ;;
+        *) said=$(cut -d ' ' -f "$place" <<<"$tried") ;;
+        esac
+        [ "$first" = "$said" ] || fail "the least $name: $first by ${solvers[0]}, $said by trying all values: $file"
+        if [ "$first" = none ]; then none=$((none + 1)); else found=$((found + 1)); fi
+        place=$((place + 1))
+    done
 }
 
 # One board through every solver and, where it is small, by trying all values.
@@ -69,6 +103,7 @@ through() {
     SATISFIABLE) satisfiable=$((satisfiable + 1)) ;;
     *) unsatisfiable=$((unsatisfiable + 1)) ;;
     esac
+    least "$file" "$tried"
 }
 
 solvers=()
@@ -86,11 +121,13 @@ built=${CARGO_TARGET_DIR:-rust/target}/release
 board=$built/board
 try_all=$built/examples/try_all
 
-small=0 satisfiable=0 unsatisfiable=0
+small=0 satisfiable=0 unsatisfiable=0 found=0 none=0
 for file in boards/*.board; do through "$file"; done
 for ((seed = 1; seed <= drawn; seed++)); do
     awk -v seed="$seed" -f tests/draw_board.awk >"$work/drawn_$seed.board"
     through "$work/drawn_$seed.board"
 done
 [ "$satisfiable" -gt 0 ] && [ "$unsatisfiable" -gt 0 ] || fail "only one kind of verdict was met"
+[ "$found" -gt 0 ] && [ "$none" -gt 0 ] || fail "least values were met always or never"
 echo "${solvers[*]}: $satisfiable boards satisfiable, $unsatisfiable not; all values tried on $small of them; all agree."
+echo "Least values by board earliest: $found found, $none times none; all agree."

@@ -1,4 +1,5 @@
-//! Tries all values of a small record: `try_all FILE.record` prints whether there is a solution, and how many.
+//! Tries all values of a small record: `try_all FILE.record` prints whether there is a solution, how many there are, and the
+//! least value of each integer variable over all of them: `SATISFIABLE 12 least -3 0 4`.
 //!
 //! Every setting within the bounds goes to Judge; every solution goes to Image and from there through Decode back.
 
@@ -12,6 +13,12 @@ const MOST_SETTINGS: u64 = 200_000;
 struct Places {
     bounds: Vec<(i32, i32)>,
     integers: usize,
+}
+
+/// How many solutions there are, and the least value of each integer variable in them.
+struct Found {
+    solutions: u64,
+    least: Vec<i32>,
 }
 
 fn main() -> ExitCode {
@@ -29,9 +36,11 @@ fn main() -> ExitCode {
         println!("LARGE");
         return ExitCode::SUCCESS;
     }
-    match count_solutions(&record, &places, variables) {
+    let found = try_all(&record, &places, variables);
+    let least: Vec<String> = found.least.iter().map(i32::to_string).collect();
+    match found.solutions {
         0 => println!("UNSATISFIABLE"),
-        count => println!("SATISFIABLE {count}"),
+        count => println!("SATISFIABLE {count} least {}", least.join(" ")),
     }
     ExitCode::SUCCESS
 }
@@ -65,18 +74,21 @@ impl Places {
     }
 }
 
-fn count_solutions(record: &[u8], places: &Places, variables: usize) -> u64 {
+fn try_all(record: &[u8], places: &Places, variables: usize) -> Found {
     let mut setting: Vec<i32> = places.bounds.iter().map(|bounds| bounds.0).collect();
-    let mut count = 0;
+    let mut found = Found { solutions: 0, least: vec![i32::MAX; places.integers] };
     loop {
         let (values, bits) = setting.split_at(places.integers);
         let booleans: Vec<u8> = bits.iter().map(|bit| *bit as u8).collect();
         if basmuthar::judge(record, values, &booleans).is_ok() {
-            count += 1;
             there_and_back(record, values, &booleans, variables);
+            found.solutions += 1;
+            for (least, value) in found.least.iter_mut().zip(values) {
+                *least = (*least).min(*value);
+            }
         }
         if !places.next(&mut setting) {
-            return count;
+            return found;
         }
     }
 }

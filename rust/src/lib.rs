@@ -1,6 +1,6 @@
 //! Board records to CNF by the order encoding, and models back: a safe wrapper of the proved library.
 //!
-//! A record has bounded integer variables, Boolean variables and clauses. Five operations stand over it:
+//! A record has bounded integer variables, Boolean variables and clauses. Six operations stand over it:
 //!
 //! | operation | from | gives |
 //! |---|---|---|
@@ -9,6 +9,9 @@
 //! | [`decode`] | a record and a model | the values and Boolean bytes of the solution that the model stands for |
 //! | [`judge`] | a record, values and Boolean bytes | whether they are a solution |
 //! | [`image`] | a record, values and Boolean bytes | the plain model of that solution |
+//! | [`closing`] | a record, a variable and a solver's replies | its least value over all solutions, or the next question ([`Hour`]) |
+//!
+//! [`earliest`] puts the questions of [`closing`] one after another.
 //!
 //! Every operation takes every input: what is wrong is answered with a [`Refusal`], and then nothing that was lent
 //! has changed.
@@ -49,12 +52,27 @@
 //! // Equal starts are no solution.
 //! let refusal = basmuthar::judge(&record, &[1, 1], &booleans).unwrap_err();
 //! assert_eq!(refusal.to_string(), "refusal 13: a clause does not hold, clause 0 counted from 0");
+//!
+//! // The least y over all solutions. A solver may be asked; here all values are tried.
+//! let least = basmuthar::earliest(&record, 1, |hour| {
+//!     let is_solution = |x, y| basmuthar::judge(&record, &[x, y], &[]).is_ok();
+//!     Ok::<bool, std::io::Error>((0..=2).any(|x| (0..=hour).any(|y| is_solution(x, y))))
+//! });
+//! assert_eq!(least.unwrap(), Some(0));
+//!
+//! // The same by hand: the next question after one yes, and what three of them lead to.
+//! use basmuthar::Hour;
+//! let hour = basmuthar::closing(&record, 1, &[1])?;
+//! assert_eq!(hour, Hour::Unfinished { low: 0, high: 2, question: 1 });
+//! assert_eq!(basmuthar::closing(&record, 1, &[1, 1, 1])?, Hour::Found(0));
 //! # Ok::<(), basmuthar::Refusal>(())
 //! ```
 
+mod closing;
 mod library;
 mod operations;
 mod refusal;
 
+pub use closing::{closing, earliest, Hour, Stopped};
 pub use operations::{compile, decode, image, judge, size, Sizes};
 pub use refusal::Refusal;

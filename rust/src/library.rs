@@ -1,7 +1,10 @@
 //! The C functions of libbasmuthar.a, as include/basmuthar.h has them.
 
-/// {0, N, M, K} (zeros for Decode, Judge and Image), or {refusal number, detail, 0, 0}.
+/// {0, N, M, K} (zeros for Decode, Judge and Image; {0, kind, 0, 0} for Closing), or {refusal number, detail, 0, 0}.
 pub type Answer = [u64; 4];
+
+/// Closing's value three times, or its low, its high and its next question.
+pub type Hours = [i32; 3];
 
 extern "C" {
     pub fn basmuthar_size(record: *const u8, record_len: usize, answer: *mut Answer);
@@ -45,6 +48,16 @@ extern "C" {
         booleans_len: usize,
         model: *mut u8,
         model_len: usize,
+        answer: *mut Answer,
+    );
+
+    pub fn basmuthar_closing(
+        record: *const u8,
+        record_len: usize,
+        variable: usize,
+        replies: *const u8,
+        replies_len: usize,
+        hours: *mut Hours,
         answer: *mut Answer,
     );
 }

@@ -1,4 +1,4 @@
-//! The five operations on slices: Size, Compile, Decode, Judge and Image.
+//! Five operations on slices: Size, Compile, Decode, Judge and Image. The sixth stands in closing.rs.
 //!
 //! In every call below, each pointer comes from a slice and goes with that slice's own length; the borrow rules keep a
 //! list that is written apart from all others. That is all the library asks for.
@@ -122,7 +122,8 @@ fn sizes(answer: Answer) -> Result<Sizes, Refusal> {
     Ok(Sizes { variables, clauses, numbers })
 }
 
-fn accepted(answer: Answer) -> Result<(), Refusal> {
+/// Nothing, or the refusal that an answer stands for.
+pub fn accepted(answer: Answer) -> Result<(), Refusal> {
     match answer {
         [0, ..] => Ok(()),
         [number, detail, ..] => Err(Refusal { number, detail }),

@@ -18,16 +18,18 @@ use std::fmt;
 /// | 9 | the clause list would have more than 2,000,000,000 numbers | 0 |
 /// | 10 | the lent clause list is too short | how many numbers there are |
 /// | 11 | another lent list has the wrong length | the length wanted |
-/// | 12 | a model byte or Boolean byte is not 0 or 1 | index |
+/// | 12 | a model byte, Boolean byte or reply byte is not 0 or 1 | index |
 /// | 13 | a clause does not hold | its number from 0 |
 /// | 14 | a value is outside its bounds | index |
+/// | 22 | the record does not have that integer variable | its number from 0 |
+/// | 23 | replies are left over after the last question | how many |
 ///
 /// A place is an offset in the record.
 #[derive(Clone, Copy, PartialEq, Eq)]
 pub struct Refusal {
     /// The number of the refusal, from 1.
     pub number: u64,
-    /// The place, length, index or clause number that goes with it; 0 where nothing does.
+    /// The place, length, index, number or count that goes with it; 0 where nothing does.
     pub detail: u64,
 }
 
@@ -39,6 +41,8 @@ enum Detail {
     Length,
     Index,
     Clause,
+    Variable,
+    Count,
 }
 
 struct Row {
@@ -51,7 +55,7 @@ const fn row(number: u64, words: &'static str, detail: Detail) -> Row {
     Row { number, words, detail }
 }
 
-const ROWS: [Row; 14] = [
+const ROWS: [Row; 16] = [
     row(1, "a record above 65,536 bytes", Detail::Nothing),
     row(
         2,
@@ -87,9 +91,11 @@ const ROWS: [Row; 14] = [
     ),
     row(10, "a lent clause list that is too short", Detail::Length),
     row(11, "a lent list of the wrong length", Detail::Length),
-    row(12, "a model or Boolean byte that is not 0 or 1", Detail::Index),
+    row(12, "a model, Boolean or reply byte that is not 0 or 1", Detail::Index),
     row(13, "a clause does not hold", Detail::Clause),
     row(14, "a value outside its bounds", Detail::Index),
+    row(22, "an integer variable that the record does not have", Detail::Variable),
+    row(23, "replies left over after the last question", Detail::Count),
 ];
 
 impl Refusal {
@@ -123,6 +129,8 @@ impl fmt::Display for Refusal {
             Detail::Length => write!(out, ", length {detail} is wanted"),
             Detail::Index => write!(out, ", at index {detail} counted from 0"),
             Detail::Clause => write!(out, ", clause {detail} counted from 0"),
+            Detail::Variable => write!(out, ", variable {detail} counted from 0"),
+            Detail::Count => write!(out, ", {detail} of them"),
         }
     }
 }
@@ -135,8 +143,11 @@ mod tests {
 
     #[test]
     fn every_number_has_its_sentence() {
-        for (index, row) in ROWS.iter().enumerate() {
-            assert_eq!(row.number, index as u64 + 1);
+        let rows: Vec<u64> = ROWS.iter().map(|row| row.number).collect();
+        assert!(rows.is_sorted_by(|one, next| one < next), "numbers rise: {rows:?}");
+        for number in (1..=14).chain([22, 23]) {
+            let sentence = Refusal { number, detail: 5 }.to_string();
+            assert!(sentence.starts_with(&format!("refusal {number}: ")), "{sentence}");
         }
     }
 
@@ -147,6 +158,16 @@ mod tests {
             refusal.to_string(),
             "refusal 5: a bound outside its range, or an upper below its lower, at byte 13 of the record"
         );
+    }
+
+    #[test]
+    fn a_sentence_names_the_variable_or_how_many_replies() {
+        let sentence = |number| Refusal { number, detail: 3 }.to_string();
+        let unknown =
+            "an integer variable that the record does not have, variable 3 counted from 0";
+        assert_eq!(sentence(22), format!("refusal 22: {unknown}"));
+        let left_over = "replies left over after the last question, 3 of them";
+        assert_eq!(sentence(23), format!("refusal 23: {left_over}"));
     }
 
     #[test]

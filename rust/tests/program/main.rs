@@ -1,5 +1,8 @@
 //! Tests of the program `board`, run as a user runs it.
 
 mod documents;
+mod earliest;
+mod failing;
+mod fake;
 mod run;
 mod solver;

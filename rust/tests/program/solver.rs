@@ -48,6 +48,24 @@ fn a_model_is_read_back() {
 }
 
 #[test]
+fn a_model_in_the_form_of_minisat_is_read_back() {
+    let (words, status) = replied(r"SAT\n-1 2 3 4 -5 -6 7 8 9 -10 0\n");
+    assert_eq!(words, "# a solution, decoded and judged\nx = 0\ny = 1\n");
+    assert_eq!(status, Some(0));
+    let (words, status) = replied(r"UNSAT\n");
+    assert_eq!(words, "# the solver says that there is no solution\n");
+    assert_eq!(status, Some(0));
+}
+
+#[test]
+fn a_solver_that_gave_up_is_refused() {
+    for reply in [r"s UNKNOWN\n", r"INDET\n"] {
+        let expected = "the reply: the solver says neither yes nor no\n";
+        assert_eq!(replied(reply), (expected.to_string(), Some(1)));
+    }
+}
+
+#[test]
 fn no_solution_is_said() {
     let (words, status) = replied(r"s UNSATISFIABLE\n");
     assert_eq!(words, "# the solver says that there is no solution\n");

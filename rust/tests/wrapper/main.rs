@@ -1,6 +1,7 @@
-//! Tests of the wrapper: the five operations, called as a user of the crate calls them.
+//! Tests of the wrapper: the six operations, called as a user of the crate calls them.
 
 mod cases;
+mod closing;
 mod lent;
 mod pairing;
 mod refusals;

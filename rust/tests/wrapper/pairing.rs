@@ -3,7 +3,8 @@
 use crate::trial::{one_comparison, Board, Literal, Setting};
 use basmuthar::{decode, image, judge, size};
 
-fn boards() -> Vec<Board> {
+/// Small boards of several kinds, one without a solution among them.
+pub fn boards() -> Vec<Board> {
     let at_most = |terms: &[(i8, u16)], constant| Literal::AtMost(terms.to_vec(), constant);
     let with_selectors = Board {
         bounds: vec![(-1, 1), (0, 2)],

@@ -1,9 +1,10 @@
 //! The records of boards/refused, each with a note beside it that says the call and the refusal it gets.
 //!
 //! A note's lines, after those of `#`: the call, the refusal and, where a text stands beside it, the spot in the text.
-//! A call is `size`, `compile` and the length of the list, `decode` and the model, or `judge` and values | Booleans.
+//! A call is `size`, `compile` and the length of the list, `decode` and the model, `judge` and values | Booleans, or `closing`
+//! and variable | replies.
 
-use basmuthar::{compile, decode, judge, size, Refusal};
+use basmuthar::{closing, compile, decode, judge, size, Refusal};
 use std::collections::BTreeSet;
 use std::fs;
 use std::path::{Path, PathBuf};
@@ -54,6 +55,10 @@ fn called(record: &[u8], call: &str) -> Result<(), Refusal> {
             let (values, booleans) = inputs.split_once('|').unwrap();
             judge(record, &numbers(values), &numbers(booleans))
         }
+        "closing" => {
+            let (variable, replies) = inputs.split_once('|').unwrap();
+            closing(record, numbers(variable)[0], &numbers(replies)).map(|_| ())
+        }
         _ => panic!("no such call: {call}"),
     }
 }
@@ -75,5 +80,5 @@ fn there_is_a_record_for_every_refusal() {
     let notes = note_files().into_iter().map(|file| read_note(&file));
     let met: BTreeSet<u64> =
         notes.map(|note| numbers(&note.refusal["refused ".len()..])[0]).collect();
-    assert_eq!(met, (1..=14).collect());
+    assert_eq!(met, (1..=14).chain([22, 23]).collect());
 }

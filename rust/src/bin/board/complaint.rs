@@ -7,6 +7,9 @@ pub struct Spot {
     pub column: usize,
 }
 
+/// Of a line that is longer only a part is shown.
+const WIDEST: usize = 200;
+
 #[derive(Debug, Clone, PartialEq, Eq)]
 pub struct Complaint {
     pub spot: Spot,
@@ -22,11 +25,29 @@ impl Complaint {
     /// The complaint with the name of its text, and the line that it is about with a mark below the column.
     pub fn shown(&self, name: &str, text: &str) -> String {
         let Spot { line, column } = self.spot;
-        let about = text.lines().nth(line - 1).unwrap_or("");
-        let indent: String = about.chars().take(column - 1).map(blank).collect();
+        let (about, mark) = part_about(text.lines().nth(line - 1).unwrap_or(""), column - 1);
+        let indent: String = about.chars().take(mark).map(blank).collect();
         let words = &self.words;
         format!("{name}, line {line}, column {column}: {words}\n  {about}\n  {indent}^")
     }
+}
+
+/// A line, or the beginning of a long one.
+pub fn shortened(line: &str) -> String {
+    part_about(line, 0).0
+}
+
+/// A line, or the part of a long one about a place, and where in it the place is.
+fn part_about(line: &str, place: usize) -> (String, usize) {
+    let length = line.chars().count();
+    if length <= WIDEST {
+        return (line.to_string(), place);
+    }
+    let start = place.saturating_sub(WIDEST / 2);
+    let part: String = line.chars().skip(start).take(WIDEST).collect();
+    let before = if start > 0 { ".. " } else { "" };
+    let after = if start + WIDEST < length { " .." } else { "" };
+    (format!("{before}{part}{after}"), place - start + before.len())
 }
 
 /// The value in the size of its field, or the complaint that it has no room there.
@@ -41,5 +62,23 @@ fn blank(character: char) -> char {
         '\t'
     } else {
         ' '
+    }
+}
+
+#[cfg(test)]
+mod tests {
+    use super::*;
+
+    #[test]
+    fn of_a_long_line_the_part_about_the_place_is_shown() {
+        let text = format!("{}X{}", "a".repeat(5_000), "b".repeat(5_000));
+        let shown = Complaint::new(Spot { line: 1, column: 5_001 }, "no X").shown("reply", &text);
+        let [words, about, mark] = shown.lines().collect::<Vec<_>>()[..] else {
+            panic!("{shown}");
+        };
+        assert_eq!(words, "reply, line 1, column 5001: no X");
+        assert!(about.starts_with("  .. aaa") && about.ends_with("bbb .."), "{about}");
+        assert_eq!(about.find('X'), mark.find('^'));
+        assert!(about.len() < 250);
     }
 }

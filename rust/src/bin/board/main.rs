@@ -2,6 +2,7 @@
 
 mod blame;
 mod board;
+mod clauses;
 mod commands;
 mod complaint;
 mod declarations;
@@ -11,15 +12,21 @@ mod reply;
 mod rules;
 mod sheet;
 mod signs;
+mod solution;
+mod solver;
 mod sums;
 #[cfg(test)]
 mod tests;
+mod trouble;
 mod values;
 mod wording;
 mod words;
 mod writing;
 
+use solver::Solver;
+use std::ffi::OsString;
 use std::process::ExitCode;
+use trouble::{Status, Trouble};
 
 const USAGE: &str = "\
 board record FILE.board        writes the record of a board to standard output
@@ -28,30 +35,47 @@ board show FILE.board VALUES   writes every rule with the values put in, and whe
                                VALUES are words such as kiln=12 shared=yes, or files of such words
 board cnf FILE.board           writes the clause list of a board as DIMACS CNF
 board model FILE.board         reads a solver's reply from standard input and writes the values it stands for
+board earliest FILE.board NAME -- SOLVER ARGUMENTS
+                               finds the least value of a number over all solutions by questions to a solver;
+                               {cnf} in ARGUMENTS stands for the clause file, which otherwise goes last, and
+                               {reply} for a file that the reply is written to, otherwise to standard output
+                               (minisat is given one)
 
-The status is 0, or 1 where something was refused or does not hold, or 2 where the words after `board` are wrong.
+The status is 0, or 1 where something was refused or does not hold, or 2 where the words after `board` are wrong;
+with a solver also 3 where there is no solution, 4 where the solver says neither yes nor no, 5 where it cannot be
+started, is killed, ends with an error or contradicts itself, and 6 where it says yes and its model does not bear it out.
 ";
 
 fn main() -> ExitCode {
-    let words: Vec<String> = std::env::args().skip(1).collect();
-    let words: Vec<&str> = words.iter().map(String::as_str).collect();
-    let outcome = match words.as_slice() {
+    let words = std::env::args_os().skip(1).map(OsString::into_string);
+    let outcome = match words.collect::<Result<Vec<String>, OsString>>() {
+        Ok(words) => run(&words.iter().map(String::as_str).collect::<Vec<_>>()),
+        Err(_) => Err(wrong_words()),
+    };
+    match outcome {
+        Ok(true) => ExitCode::SUCCESS,
+        Ok(false) => ExitCode::from(Status::Refused as u8),
+        Err(trouble) => {
+            eprintln!("{}", trouble.words);
+            ExitCode::from(trouble.status as u8)
+        }
+    }
+}
+
+fn run(words: &[&str]) -> Result<bool, Trouble> {
+    match words {
         ["record", file] => commands::record::run(file),
         ["text", file] => commands::text::run(file),
         ["show", file, values @ ..] => commands::show::run(file, values),
         ["cnf", file] => commands::cnf::run(file),
         ["model", file] => commands::model::run(file),
-        _ => {
-            eprint!("{USAGE}");
-            return ExitCode::from(2);
+        ["earliest", file, name, "--", program, words @ ..] => {
+            commands::earliest::run(file, name, &Solver { program, words })
         }
-    };
-    match outcome {
-        Ok(true) => ExitCode::SUCCESS,
-        Ok(false) => ExitCode::FAILURE,
-        Err(trouble) => {
-            eprintln!("{trouble}");
-            ExitCode::FAILURE
-        }
+        _ => Err(wrong_words()),
     }
+}
+
+fn wrong_words() -> Trouble {
+    Trouble::new(Status::WrongWords, USAGE.trim_end())
 }

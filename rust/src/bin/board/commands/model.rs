@@ -1,49 +1,24 @@
 //! `board model`: a solver's reply as values in words, decoded and judged by the library.
 
 use super::put;
-use crate::blame;
-use crate::board::{Board, Setting};
 use crate::opened::Opened;
 use crate::reply::{read_reply, Reply};
-use crate::wording::yes_or_no;
+use crate::solution::{decoded, setting_words};
+use crate::trouble::Trouble;
 use std::io::{self, Read};
 
-pub fn run(file: &str) -> Result<bool, String> {
+pub fn run(file: &str) -> Result<bool, Trouble> {
     let opened = Opened::open(file)?;
     let mut text = String::new();
     io::stdin().read_to_string(&mut text).map_err(|error| format!("standard input: {error}"))?;
     let reply = read_reply(&text, opened.sizes.variables)
-        .map_err(|complaint| complaint.shown("the reply", &text))?;
+        .map_err(|unread| unread.complaint.shown("the reply", &text))?;
     match reply {
         Reply::NoSolution => put(b"# the solver says that there is no solution\n"),
+        Reply::Unknown => Err("the reply: the solver says neither yes nor no".to_string().into()),
         Reply::Model(model) => {
             let setting = decoded(&opened, &model)?;
             put(setting_words(&opened.sheet.board, &setting).as_bytes())
         }
     }
-}
-
-/// What a model sets the numbers and choices to, after Judge has accepted it.
-fn decoded(opened: &Opened, model: &[u8]) -> Result<Setting, String> {
-    let board = &opened.sheet.board;
-    let mut setting =
-        Setting { numbers: vec![0; board.numbers.len()], choices: vec![0; board.choices.len()] };
-    let Setting { numbers, choices } = &mut setting;
-    basmuthar::decode(&opened.record, model, numbers, choices)
-        .map_err(|refusal| opened.refused(refusal, blame::of_model(&opened.sheet, refusal)))?;
-    basmuthar::judge(&opened.record, numbers, choices)
-        .map_err(|refusal| opened.refused(refusal, blame::of_setting(&opened.sheet, refusal)))?;
-    Ok(setting)
-}
-
-/// Values in the form that `board show` reads.
-fn setting_words(board: &Board, setting: &Setting) -> String {
-    let mut text = "# a solution, decoded and judged\n".to_string();
-    for (number, value) in board.numbers.iter().zip(&setting.numbers) {
-        text += &format!("{} = {value}\n", number.name);
-    }
-    for (choice, byte) in board.choices.iter().zip(&setting.choices) {
-        text += &format!("{choice} = {}\n", yes_or_no(*byte));
-    }
-    text
 }

@@ -2,7 +2,8 @@
 
 use super::put;
 use crate::opened::Opened;
+use crate::trouble::Trouble;
 
-pub fn run(file: &str) -> Result<bool, String> {
+pub fn run(file: &str) -> Result<bool, Trouble> {
     put(&Opened::open(file)?.record)
 }

@@ -5,13 +5,14 @@ use crate::blame;
 use crate::board::{clause_holds, Board, Clause, Literal, Number, Setting};
 use crate::opened::Opened;
 use crate::sheet::{Rule, Sheet};
+use crate::trouble::Trouble;
 use crate::values::read_setting;
 use crate::wording::{
     bounds_words, choice_name, literal_words, sum_of_values, sum_words, yes_or_no,
 };
 use basmuthar::Refusal;
 
-pub fn run(file: &str, arguments: &[&str]) -> Result<bool, String> {
+pub fn run(file: &str, arguments: &[&str]) -> Result<bool, Trouble> {
     let opened = Opened::open(file)?;
     let setting = read_setting(arguments, &opened.sheet)?;
     let verdict = basmuthar::judge(&opened.record, &setting.numbers, &setting.choices);

@@ -2,10 +2,11 @@
 
 use super::put;
 use crate::reading::board_of;
+use crate::trouble::Trouble;
 use crate::wording::board_words;
 use std::fs;
 
-pub fn run(file: &str) -> Result<bool, String> {
+pub fn run(file: &str) -> Result<bool, Trouble> {
     let record = fs::read(file).map_err(|error| format!("{file}: {error}"))?;
     basmuthar::size(&record).map_err(|refusal| format!("{file}: {refusal}"))?;
     put(board_words(&board_of(&record)).as_bytes())
