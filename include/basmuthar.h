@@ -1,4 +1,4 @@
-/* basmuthar.h: five operations on board records, for programs in C and C++.
+/* basmuthar.h: six operations on board records, for programs in C and C++.
  *
  * A board record has bounded integer variables, Boolean variables and clauses. Basmuthar writes it as CNF by the
  * order encoding and reads models back. The library is linked as libbasmuthar.a. It keeps nothing between calls:
@@ -21,17 +21,20 @@
  *   1 to m are the Boolean variables. Then come, one integer variable x after another, p(x,c) for c from its lower bound
  *   less 1 to its upper bound: "x is at most c". Then the selectors, in the order of clauses and literals: each comparison
  *   in a clause of two or more literals has one.
+ *   So p(x,c) has the number m + w + (c - lower + 2), where lower is x's own lower bound and w adds up, over the integer
+ *   variables before x, upper - lower + 2.
  *
  * WHAT A CALLER OWES
- *   Every pointer points to as many places as the length beside it says, and `answer` to four. No pointer is NULL,
- *   also where its length is 0. `answer` overlaps nothing, and a list that is written no other list of the call.
+ *   Every pointer points to as many places as the length beside it says, `answer` to four, and `hours` to three. No
+ *   pointer is NULL, also where its length is 0. `answer` overlaps nothing, and a list that is written no other list of
+ *   the call; `hours` is such a list.
  *   What the lists hold is free: every content has an answer.
  *
  * THE ANSWER
  *   answer[0] is 0 where the call was accepted, and otherwise the number of the refusal.
  *     accepted, Size and Compile:          { 0, N, M, K }
  *     accepted, Decode, Judge and Image:   { 0, 0, 0, 0 }
- *     accepted, Closing:                   { 0, 0 or 1 or 2, 0, 0 }
+ *     accepted, Closing:                   { 0, found 0 or none 1 or unfinished 2, 0, 0 }
  *     refused:                             { number, detail, 0, 0 }
  *   N is how many SAT variables there are, M how many clauses, K how many numbers the clause list has.
  *   All four places are written by every call; what they held before does not matter.
@@ -81,6 +84,14 @@ extern "C" {
 
 /* The greatest K that is not refused with 9. */
 #define BASMUTHAR_LONGEST_LIST 2000000000
+
+/* What Closing answers: answer[1]. */
+#define BASMUTHAR_FOUND 0
+#define BASMUTHAR_NONE 1
+#define BASMUTHAR_UNFINISHED 2
+
+/* The greatest number of replies that Closing asks for. */
+#define BASMUTHAR_MOST_REPLIES 14
 
 /* Size: the three numbers of a record.
  *
@@ -146,18 +157,20 @@ void basmuthar_image(const uint8_t *record, size_t record_len, const int32_t *va
 
 /* Closing: the least value of an integer variable over all solutions, by a solver's replies to questions 'at most h?'.
  *
- *   Reads    record, and replies: a byte for each question so far, 1 yes, 0 no.
- *   Writes   hours. The answer is
- *              { 0, 0, 0, 0 }   found: hours is the value, three times
- *              { 0, 1, 0, 0 }   there is no solution: hours keeps its numbers
- *              { 0, 2, 0, 0 }   unfinished: hours is low, high, and h, the question to put next
- *   Refuses  with 1 to 9; then with 22 where the record has no such variable, counted from 0; then with 12 at the first
- *            reply that is neither 0 nor 1; then with 23 where replies are left over.
+ *   Reads    record; variable, counted from 0; and replies: a byte for each question so far, 1 yes, 0 no.
+ *   Writes   hours, where a value is found or the replies are too few. The answer is
+ *              { 0, BASMUTHAR_FOUND, 0, 0 }        hours is the value, three times
+ *              { 0, BASMUTHAR_NONE, 0, 0 }         there is no solution; hours keeps its numbers
+ *              { 0, BASMUTHAR_UNFINISHED, 0, 0 }   hours is low, high, and h, the question to put next
+ *   Refuses  with 1 to 9; then with 22 where the record has no such variable; then with 12 at the first reply, used or
+ *            left over, that is neither 0 nor 1; then with 23 where replies are left over after the last question.
  *
  *   Begin with no reply. As long as the answer is unfinished, ask the solver whether the board has a solution with the
- *   variable at most hours[2], put its reply at the end of replies, and call again: at most 14 replies are asked for.
- *   Do not compute h by division: it is rounded down also where low + high is negative. The question needs no new list:
- *   it is asked by the one more clause p(x,h) of Compile's list, or by assuming p(x,h).
+ *   variable at most hours[2], put its reply at the end of replies, and call again. If every reply is true, the value
+ *   found is the least of all solutions, and 'none' is told exactly where there is no solution.
+ *   The first question is at the upper bound, and each later one halves the range: h is half of low + high, rounded down
+ *   also where that is negative. Do not work it out by C's division, which rounds toward 0.
+ *   No question needs a new list: it is Compile's list with the clause p(x,h) added, or with p(x,h) assumed.
  */
 void basmuthar_closing(const uint8_t *record, size_t record_len, size_t variable, const uint8_t *replies,
                        size_t replies_len, int32_t hours[3], uint64_t answer[4]);

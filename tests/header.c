@@ -1,4 +1,4 @@
-/* Calls the five functions as a C or C++ program does: cases 12, 13 and 14 of 01, and some refusals. */
+/* Calls the six functions as a C or C++ program does: cases 12, 13 and 14 of 01, a driver of Closing, and some refusals. */
 
 #include "basmuthar.h"
 
@@ -62,8 +62,58 @@ static void decode_judge_and_image(void) {
     expect("equal starts are refused with 13, 0", answers(answer, 13, 0, 0, 0));
 }
 
+/* x in -4..3, x at least -2: -x at most 2. */
+static const uint8_t LATE[25] = {
+    1, 0, 0, 0, 0x14, 0, 1, 0, 0, 0, 1, 0xFF, 0xFC, 0, 3, 1, 2, 1, 0xFF, 0, 0, 0, 0, 0, 2};
+
+/* Whether a value of LATE that is at most h is a solution. */
+static uint8_t is_solved_by(int32_t h) {
+    uint64_t answer[4];
+    const uint8_t none[1] = {0};
+    int32_t x;
+    for (x = -4; x <= h; x++) {
+        basmuthar_judge(LATE, sizeof LATE, &x, 1, none, 0, answer);
+        if (answer[0] == 0) return 1;
+    }
+    return 0;
+}
+
+/* Begins with no reply, and asks as long as the answer is unfinished. */
+static void closing_driven(void) {
+    uint64_t answer[4] = {7, 7, 7, 7};
+    int32_t hours[3] = {77, 77, 77};
+    uint8_t replies[BASMUTHAR_MOST_REPLIES] = {0};
+    size_t n = 0;
+    basmuthar_closing(LATE, sizeof LATE, 0, replies, 0, hours, answer);
+    expect("the first question is at the upper bound", hours[0] == -4 && hours[1] == 3 && hours[2] == 3);
+    while (answer[0] == 0 && answer[1] == BASMUTHAR_UNFINISHED && n < BASMUTHAR_MOST_REPLIES) {
+        replies[n++] = is_solved_by(hours[2]);
+        basmuthar_closing(LATE, sizeof LATE, 0, replies, n, hours, answer);
+    }
+    expect("a value is found", answers(answer, 0, BASMUTHAR_FOUND, 0, 0));
+    expect("by four questions", n == 4);
+    expect("and it is -2", hours[0] == -2 && hours[1] == -2 && hours[2] == -2);
+}
+
+static void closing_ends(void) {
+    uint64_t answer[4] = {7, 7, 7, 7};
+    int32_t hours[3] = {77, 78, 79};
+    const uint8_t no[2] = {0, 0}, wrong[2] = {0, 2};
+    basmuthar_closing(LATE, sizeof LATE, 0, no, 1, hours, answer);
+    expect("a first no is none", answers(answer, 0, BASMUTHAR_NONE, 0, 0));
+    basmuthar_closing(LATE, sizeof LATE, 0, no, 2, hours, answer);
+    expect("a reply after it is refused with 23, 1", answers(answer, 23, 1, 0, 0));
+    basmuthar_closing(LATE, sizeof LATE, 0, wrong, 2, hours, answer);
+    expect("a byte 2 is refused with 12 before that", answers(answer, 12, 1, 0, 0));
+    basmuthar_closing(LATE, sizeof LATE, 1, wrong, 2, hours, answer);
+    expect("an unknown variable with 22 before that", answers(answer, 22, 1, 0, 0));
+    expect("and all of them leave the hours", hours[0] == 77 && hours[1] == 78 && hours[2] == 79);
+}
+
 int main(void) {
     size_and_compile();
     decode_judge_and_image();
+    closing_driven();
+    closing_ends();
     return failures != 0;
 }

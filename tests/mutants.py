@@ -54,6 +54,26 @@ MUTANTS = [
          "                put_model(bytes, header, values, booleans, model);\n"
          "            }\n"
          "            let verdict = checked(")]),
+    ("hours halved and rounded up", [
+        ("closing/src/search.rt",
+         "floor_div(range.lower + range.upper, 2)",
+         "floor_div(range.lower + range.upper + 1, 2)")]),
+    ("hours halved toward zero", [
+        ("closing/src/search.rt",
+         "floor_div(range.lower + range.upper, 2)",
+         "(range.lower + range.upper) / 2")]),
+    ("the question at the upper bound left out", [
+        ("closing/src/search.rt",
+         "        question: range.upper,",
+         "        question: half(range),")]),
+    ("a reply told to be wrong only where it answers a question", [
+        ("closing/src/search.rt",
+         "        hour = told(narrowed(range, question, replies[i]));",
+         "        if 1 < replies[i] {\n"
+         "            return Hour::Refused(Refusal::ByteWrong { index: i });\n"
+         "        }\n"
+         "        hour = told(narrowed(range, question, replies[i]));"),
+        ("closing/src/checks.rt", "let second = first_bad_byte(replies);", "let second = Found::Nothing;")]),
 ]
 
 

@@ -1,4 +1,5 @@
 // Cases of 01 and others, run: what the operations answer, and each lent list as it is left. Lists hold 99 in every place before.
+use crate::closings::closings;
 use crate::printing::put_list;
 use crate::printing::put_model;
 use crate::printing::put_sizing;
@@ -17,6 +18,7 @@ use image::image;
 use judge::judge;
 use size::size;
 
+pub mod closings; // closings.rt: Closing
 pub mod printing; // printing.rt: answers and lists as lines
 pub mod records; // records.rt: the records, and a model
 
@@ -141,4 +143,5 @@ fn main() {
     lengths_in_order();
     judgements();
     plain_models();
+    closings();
 }

@@ -1,6 +1,7 @@
 // What the operations answer, and lists, as lines.
 use answers::detail_of;
 use answers::number_of;
+use definitions::Hour;
 use definitions::Refusal;
 use definitions::Sizing;
 use definitions::Verdict;
@@ -65,6 +66,37 @@ fn put_number(number: i32) {
         put(b" ");
     }
     io::print_decimal(STDOUT_FILENO, without_sign(number));
+}
+
+// What Closing answers: the value, none, or the range so far and the next question.
+pub fn put_hour(name: &[u8], hour: Hour) {
+    put(name);
+    match hour {
+        Hour::Found(v) => {
+            put(b": found");
+            put_number(v);
+        }
+        Hour::None => {
+            put(b": none");
+        }
+        Hour::Unfinished {
+            low,
+            high,
+            question,
+        } => {
+            put(b": from");
+            put_number(low);
+            put(b" to");
+            put_number(high);
+            put(b", at most");
+            put_number(question);
+            put(b"?");
+        }
+        Hour::Refused(r) => {
+            put_refusal(r);
+        }
+    }
+    put(b"\n");
 }
 
 // A list as it was left: all its numbers in one line.
