@@ -68,11 +68,11 @@ MUTANTS = [
          "        question: half(range),")]),
     ("a reply told to be wrong only where it answers a question", [
         ("closing/src/search.rt",
-         "        hour = told(narrowed(range, question, replies[i]));",
+         "        hour = told(narrowed(left, question, replies[i]));",
          "        if 1 < replies[i] {\n"
          "            return Hour::Refused(Refusal::ByteWrong { index: i });\n"
          "        }\n"
-         "        hour = told(narrowed(range, question, replies[i]));"),
+         "        hour = told(narrowed(left, question, replies[i]));"),
         ("closing/src/checks.rt", "let second = first_bad_byte(replies);", "let second = Found::Nothing;")]),
 ]
 

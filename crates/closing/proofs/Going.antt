@@ -1,6 +1,5 @@
 -- A turn of the search: the next reply, the last one, and replies that are left over. Assumes nothing.
 use mathlib.Core.Path.{_≡_, refl, sym, ap, _∙_}
-use mathlib.Core.Logic.{inl, inr}
 use mathlib.Core.List.{List, [], _∷_}
 use Prim.Native.Nat.{ℕ, suc, _+_, _-_, _≤_, _<_}
 use native.Mathlib.Omega.{arith}
@@ -16,23 +15,15 @@ use Rattle.definitions.specs.Closing.{Earliest, unfinished, narrowed, tells, af
 use Rattle.definitions.specs.Answers.{saidHour}
 use Rattle.definitions.specs.declared.Hour.{Hour}
 use Rattle.definitions.proofs.Hour.{the-type}
-use Rattle.laws.specs.Whole.{whole, le-or-lt}
-use Rattle.laws.specs.Halving.{half-law, tells-open, tells-none, tells-found}
+use Rattle.laws.specs.Whole.{whole}
+use Rattle.laws.specs.Halving.{half-law, isOpen, isEmpty, isOne, stands, tells-open, tells-none, tells-found, after-end, after-one}
 use Rattle.laws.specs.Admitted.{GoodBounds}
 use Rattle.laws.specs.Readings.{same, never}
 use Rattle.slots.specs.declared.Bounds.{Bounds}
 use Rattle.slots.specs.Variables.{boundsRead}
 use Rattle.closing.specs.Ranges.{Small, Asked, Left, standing, Sound, Going}
 
--- ---- the definition, one reply at a time
-after-end : (e : Earliest) → after e [] ≡ done e
-unfolding after
-after-end e = refl
-
-after-one : (r : board.Bounds) (h : ℤ) (b : ℕ) (bs : List ℕ) → after (unfinished r h) (b ∷ bs) ≡ after (tells (narrowed r h b)) bs
-unfolding after
-after-one r h b bs = refl
-
+-- ---- replies left over
 -- the positions in the enum of the answers that end a search
 abbrev others : List ℕ
 others = 0 ∷ 1 ∷ 3 ∷ []
@@ -46,21 +37,19 @@ over (Hour.Refused r) k e b bs = never e
 
 -- what a range tells is sound
 tells-sound : (b : Bounds) → Small b → Sound (tells (boundsRead b))
-tells-sound b s = elim (le-or-lt (b .upper) (b .lower)) [
-  | inl k ↦ elim (le-or-lt (b .lower) (b .upper)) [
-    | inl l ↦ (let e : b .lower ≡ b .upper = omega whole in rw (tells-found (boundsRead b) e) tt)
-    | inr l ↦ rw (tells-none (boundsRead b) l) tt
-  ]
-  | inr k ↦ rw (tells-open (boundsRead b) k)
+tells-sound b s = elim (stands (boundsRead b)) [
+  | isOpen k ↦ rw (tells-open (boundsRead b) k)
       (record { least = s .least; from = omega (whole, half-law (boundsRead b)); to = omega (whole, half-law (boundsRead b)); most = s .most })
+  | isEmpty k ↦ rw (tells-none (boundsRead b) k) tt
+  | isOne k ↦ rw (tells-found (boundsRead b) k) tt
 ]
 
 -- what is said is what stands
-stands : (hour : Hour) (e : Earliest) → saidHour hour ≡ done e → standing hour ≡ e
-stands (Hour.Found v) e k = same k
-stands Hour.None e k = same k
-stands (Hour.Unfinished low high question) e k = same k
-stands (Hour.Refused r) e k = never k
+is-standing : (hour : Hour) (e : Earliest) → saidHour hour ≡ done e → standing hour ≡ e
+is-standing (Hour.Found v) e k = same k
+is-standing Hour.None e k = same k
+is-standing (Hour.Unfinished low high question) e k = same k
+is-standing (Hour.Refused r) e k = never k
 
 -- before the first reply
 pub begins : (replies : List ℕ) (b : Bounds) → GoodBounds (boundsRead b)
@@ -84,7 +73,7 @@ module _ {replies : List ℕ} {start hour : Hour} {i : ℕ} (g : Going replies s
   pub goes-on : {b : Bounds} {h : ℤ} {r : Bounds} {next : Hour} → hour ≡ Hour.Unfinished (b .lower) (b .upper) h → i < length replies
       → Left b h (getD replies i 0) r → saidHour next ≡ done (tells (boundsRead r)) → Going replies start next (i + 1)
   goes-on {b} {h} {r} {next} e k l d =
-      let q : standing next ≡ tells (boundsRead r) = stands next (tells (boundsRead r)) d in
+      let q : standing next ≡ tells (boundsRead r) = is-standing next (tells (boundsRead r)) d in
       record {
         is = d ∙ ap done (sym q);
         sound = rw q (tells-sound r (l .small));

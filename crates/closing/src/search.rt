@@ -54,7 +54,7 @@ fn told(range: Bounds) -> Hour
     Hour::Found(range.lower)
 }
 
-// The first question is at the upper bound.
+// The answer to all replies; the first question is at the upper bound.
 pub fn searched(range: Bounds, replies: &[u8]) -> Hour
     requires { ⌜ GoodBounds (boundsRead range) ⌝ }
     ensures { λ r. ⌜ saidHour r ≡ after (unfinished (boundsRead range) (range .upper)) (now (replies .entry)) ⌝ }
@@ -76,11 +76,11 @@ pub fn searched(range: Bounds, replies: &[u8]) -> Hour
                 count: replies.len() - i,
             });
         };
-        let range = Bounds {
+        let left = Bounds {
             lower: low,
             upper: high,
         };
-        hour = told(narrowed(range, question, replies[i]));
+        hour = told(narrowed(left, question, replies[i]));
         i += 1;
     }
     hour

@@ -2,53 +2,29 @@
 use mathlib.Core.Path.{_≡_, refl, sym, ap, _∙_}
 use mathlib.Core.Logic.{_↔_, _⊎_, _≢_, inl, inr}
 use mathlib.Core.Bool.{Bool, true, false}
-use mathlib.Core.List.{List, [], _∷_, _++_}
+use mathlib.Core.List.{List, [], _∷_}
 use Prim.Native.Nat.{ℕ, zero, suc, _+_, _≤_, _<_, _^_}
 use native.Mathlib.Nat.{pow-suc}
 use native.Mathlib.Omega.{arith}
-use lib.Dec.{T, eqb}
+use lib.Dec.{eqb}
 use borrow.Author.Tests.{eqb-true, eqb-false}
 use lib.ListN.{length, getD, take}
 use lib.IntN.{ℤ, pos, _+ℤ_}
 use lib.Signed.{_≤ℤ_, _<ℤ_}
-use Rattle.definitions.specs.Tools.{if_then_else_}
 use Rattle.definitions.specs.Board.{Bounds}
-use Rattle.definitions.specs.Result.{Result, done, refused}
+use Rattle.definitions.specs.Result.{Result, done}
 use Rattle.definitions.specs.Closing.{Earliest, found, none, unfinished, halfway, narrowed, tells, after}
 use Rattle.laws.specs.Whole.{pp, nn, whole, add-law, le-or-lt}
 use Rattle.laws.specs.Readings.{same, never}
-use Rattle.laws.specs.Halving.{half-law, tells-open, tells-none, tells-found, narrowed-yes, narrowed-no}
+use Rattle.laws.specs.Halving.{half-law, isOpen, isEmpty, isOne, stands, tells-open, tells-none, tells-found, narrowed-yes, narrowed-no, after-end, after-one}
 
--- ---- a range is open, empty or one value; a reply is a yes or a no
-pub data Stands (r : Bounds) : Type 0 where
-  isOpen : r .lo <ℤ r .hi → Stands r
-  isEmpty : r .hi <ℤ r .lo → Stands r
-  isOne : r .lo ≡ r .hi → Stands r
-
-pub stands : (r : Bounds) → Stands r
-stands r = elim (le-or-lt (r .hi) (r .lo)) [
-  | inl k ↦ elim (le-or-lt (r .lo) (r .hi)) [
-    | inl l ↦ isOne (omega whole)
-    | inr l ↦ isEmpty l
-  ]
-  | inr k ↦ isOpen k
-]
-
+-- a reply is a yes or a no
 pub yes-or-no : (b : ℕ) → (b ≡ 1) ⊎ (b ≢ 1)
 yes-or-no b = go (eqb b 1) refl
   where
     go : (t : Bool) → eqb b 1 ≡ t → (b ≡ 1) ⊎ (b ≢ 1)
     go true e = inl (eqb-true b 1 e)
     go false e = inr (eqb-false b 1 e)
-
--- ---- one reply after another
-pub after-end : (e : Earliest) → after e [] ≡ done e
-unfolding after
-after-end e = refl
-
-pub after-one : (r : Bounds) (h : ℤ) (b : ℕ) (bs : List ℕ) → after (unfinished r h) (b ∷ bs) ≡ after (tells (narrowed r h b)) bs
-unfolding after
-after-one r h b bs = refl
 
 -- ---- which replies are wanted: those to a question that the replies before them leave
 pub record Asks (answer : Result Earliest) : Type 0 where

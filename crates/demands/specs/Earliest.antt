@@ -21,6 +21,7 @@ use Rattle.laws.specs.Whole.{whole}
 use Rattle.laws.specs.Lists.{append-all, countUp-all}
 use Rattle.laws.specs.Decide.{is-within}
 use Rattle.laws.specs.Readings.{never}
+use Rattle.laws.specs.Halving.{after-end}
 use Rattle.laws.specs.Admitted.{GoodBounds}
 use Rattle.laws.specs.Terms.{good-bounds}
 use Rattle.laws.specs.Reread.{accepted-admitted}
@@ -142,7 +143,7 @@ module _ (s : List ℕ) (B : Board) (e : accepted s ≡ done B) (x : ℕ) where
 
   -- "a no there ends with 'none'", and nothing else does
   pub a-first-no-ends-with-none : x < length (B .bounds) → Closing s x (0 ∷ []) ≡ done none
-  a-first-no-ends-with-none h = closing-is (0 ∷ []) h refl ∙ bisection.first-no (boundsOf B x) 0 [] (λ z. omega arith) ∙ bisection.after-end none
+  a-first-no-ends-with-none h = closing-is (0 ∷ []) h refl ∙ bisection.first-no (boundsOf B x) 0 [] (λ z. omega arith) ∙ after-end none
 
   pub none-comes-of-a-first-no : (replies : List ℕ) → Closing s x replies ≡ done none → replies ≡ 0 ∷ []
   none-comes-of-a-first-no replies d =
@@ -163,7 +164,7 @@ module _ (s : List ℕ) (B : Board) (e : accepted s ≡ done B) (x : ℕ) where
       begun [] t l d n = absurd (omega arith)
       begun (b ∷ bs) t l d n =
           let k = passed (b ∷ bs) d in
-          let first = t .each 0 (omega arith) (boundsOf B x) (boundsOf B x .hi) (closing-is [] (k .0) refl ∙ bisection.after-end start) in
+          let first = t .each 0 (omega arith) (boundsOf B x) (boundsOf B x .hi) (closing-is [] (k .0) refl ∙ after-end start) in
           let no : b ≢ 1 = λ y. (let q = a-question-means B x (boundsOf B x .hi) .0 (first .0 y) in n (record { values = q .values; bools = q .bools; solution = q .solution })) in
           bisection.after-none bs a (sym (bisection.first-no (boundsOf B x) b bs no) ∙ k .2) .1
 

@@ -12,7 +12,7 @@ use lib.Signed.{_≤ℤ_}
 use Rattle.definitions.specs.Tools.{any, Any, All, range}
 use Rattle.definitions.specs.Board.{Bounds, Board, boundsOf}
 use Rattle.definitions.specs.Result.{done}
-use Rattle.definitions.specs.Meaning.{Solution, isSolution}
+use Rattle.definitions.specs.Meaning.{isSolution}
 use Rattle.definitions.specs.Operations.{accepted}
 use Rattle.definitions.specs.Closing.{Closing}
 use Rattle.laws.specs.Decide.{Decides, some, itself}

@@ -1,13 +1,15 @@
--- A range halved (003, section 6): where its middle lies, what it tells, and what a reply leaves of it. Assumes nothing.
-use mathlib.Core.Path.{_≡_}
+-- A range halved (003, section 6): where its middle lies, what it tells, and what each reply leaves of it. Assumes nothing.
+use mathlib.Core.Path.{_≡_, refl}
 use mathlib.Core.Logic.{_≢_, inl, inr}
+use mathlib.Core.List.{List, [], _∷_}
 use Prim.Native.Nat.{ℕ, _+_, _*_, _≤_, _<_}
 use borrow.Author.Tests.{eq-eqb, ne-eqb}
 use lib.IntN.{ℤ, pos, _+ℤ_, _*ℤ_}
 use lib.Signed.{_≤ℤ_, _<ℤ_}
 use Rattle.definitions.specs.Tools.{floor}
 use Rattle.definitions.specs.Board.{Bounds}
-use Rattle.definitions.specs.Closing.{found, none, unfinished, halfway, narrowed, tells}
+use Rattle.definitions.specs.Result.{done}
+use Rattle.definitions.specs.Closing.{Earliest, found, none, unfinished, halfway, narrowed, tells, after}
 use Rattle.laws.specs.Whole.{pp, nn, whole, add-law, mul-law, le-or-lt, lt-test, ge-test}
 use Rattle.laws.specs.Division.{below-floor}
 
@@ -26,6 +28,21 @@ half-law r =
     (omega (whole, low, mul-law (pos 2) h, add-law (r .lo) (r .hi)), omega (whole, high, mul-law (pos 2) (h +ℤ pos 1), add-law h (pos 1), add-law (r .lo) (r .hi)))
 
 -- ---- what a range tells
+-- low is below high, above it, or is it
+pub data Stands (r : Bounds) : Type 0 where
+  isOpen : r .lo <ℤ r .hi → Stands r
+  isEmpty : r .hi <ℤ r .lo → Stands r
+  isOne : r .lo ≡ r .hi → Stands r
+
+pub stands : (r : Bounds) → Stands r
+stands r = elim (le-or-lt (r .hi) (r .lo)) [
+  | inl k ↦ elim (le-or-lt (r .lo) (r .hi)) [
+    | inl l ↦ isOne (omega whole)
+    | inr l ↦ isEmpty l
+  ]
+  | inr k ↦ isOpen k
+]
+
 module _ (r : Bounds) where
   pub tells-open : r .lo <ℤ r .hi → tells r ≡ unfinished r (halfway r)
   unfolding tells
@@ -53,3 +70,12 @@ module _ (r : Bounds) (h : ℤ) (reply : ℕ) where
   pub narrowed-no : reply ≢ 1 → narrowed r h reply ≡ record { lo = h +ℤ pos 1; hi = r .hi }
   unfolding narrowed
   narrowed-no n = rw (ne-eqb reply 1 n)
+
+-- ---- one reply after another
+pub after-end : (e : Earliest) → after e [] ≡ done e
+unfolding after
+after-end e = refl
+
+pub after-one : (r : Bounds) (h : ℤ) (b : ℕ) (bs : List ℕ) → after (unfinished r h) (b ∷ bs) ≡ after (tells (narrowed r h b)) bs
+unfolding after
+after-one r h b bs = refl

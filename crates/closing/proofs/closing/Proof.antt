@@ -1,5 +1,5 @@
 -- `closing::closing` meets its contract: the record, the checks, then the search.
-use mathlib.Core.Path.{_≡_, sym, ap, _∙_}
+use mathlib.Core.Path.{sym, ap, _∙_}
 use borrow.Author.Needs.{needs}
 use Rattle.definitions.specs.Answers.{saidVerdict}
 use Rattle.definitions.specs.Closing.{unfinished, after}

@@ -1,7 +1,7 @@
 -- `cases::closings::reply_after_reply` meets its contract.
-use Prim.Native.Nat.{suc, _-_, _≤_}
-use lib.ListN.{length}
 use mathlib.Core.Path.{sym}
+use Prim.Native.Nat.{suc, _-_}
+use lib.ListN.{length}
 use lib.Seq.{length-take-le}
 use borrow.Author.Needs.{needs}
 use Rattle.cases.proofs.closings.reply_after_reply.Statement.{statement}

@@ -1,7 +1,5 @@
 -- `closing::search::searched` meets its contract: between two replies the others lead to the answer of all.
-use mathlib.Core.Path.{_≡_, refl, sym}
 use Prim.Native.Nat.{_-_}
-use native.Mathlib.Omega.{arith}
 use lib.ListN.{length}
 use mir.Syntax.{w32}
 use mir.Val.{SFits}
