@@ -20,29 +20,36 @@ fn reply_after_reply(name: &[u8], bytes: &[u8], replies: &[u8])
     }
 }
 
-fn halved() {
+fn makespan() {
     reply_after_reply(
         b"makespan",
         &MAKESPAN,
         b"\x01\x01\0\x01\0\x01\0\x01\x01\x01",
     );
+}
+
+fn around_zero() {
     reply_after_reply(b"-4..3, yes and no", &AROUND_ZERO, b"\x01\x01\0\0");
     reply_after_reply(b"-4..3, no", &AROUND_ZERO, b"\x01\0\0");
     reply_after_reply(b"-4..3, yes", &AROUND_ZERO, b"\x01\x01\x01\x01");
+}
+
+fn one_value() {
     reply_after_reply(b"5..5", &ONE_VALUE, b"\x01");
-    reply_after_reply(
+}
+
+fn widest(name: &[u8], replies: &[u8; 14]) {
+    reply_after_reply(name, &WIDEST, replies);
+}
+
+fn all_values() {
+    widest(
         b"8192 values, yes",
-        &WIDEST,
         b"\x01\x01\x01\x01\x01\x01\x01\x01\x01\x01\x01\x01\x01\x01",
     );
-    reply_after_reply(
-        b"8192 values, no",
-        &WIDEST,
-        b"\x01\0\0\0\0\0\0\0\0\0\0\0\0\0",
-    );
-    reply_after_reply(
+    widest(b"8192 values, no", b"\x01\0\0\0\0\0\0\0\0\0\0\0\0\0");
+    widest(
         b"8192 values, yes and no",
-        &WIDEST,
         b"\x01\x01\0\x01\0\x01\0\x01\0\x01\0\x01\0\x01",
     );
 }
@@ -74,7 +81,10 @@ fn refused() {
 }
 
 pub fn closings() {
-    halved();
+    makespan();
+    around_zero();
+    one_value();
+    all_values();
     none();
     refused();
 }
