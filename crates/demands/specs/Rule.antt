@@ -1,21 +1,56 @@
--- A comparison's clauses say the comparison (000, Proposition 1; one empty clause where it says nothing). Assumes nothing.
+-- A comparison's clauses say the comparison (000, Lemma 1 and Proposition 1; one empty clause where it says nothing). Assumes nothing.
 use mathlib.Core.Path.{_≡_, refl, sym}
-use mathlib.Core.Logic.{_↔_, _≢_, inl, inr}
+use mathlib.Core.Logic.{_↔_, _⊎_, _≢_, inl, inr}
 use mathlib.Core.Bool.{Bool, true, false}
 use mathlib.Core.List.{List, [], _∷_, map, zipWith, map-map}
 use Prim.Native.Nat.{ℕ}
 use lib.Dec.{T, T-not, not-T}
-use lib.IntN.{ℤ, pos, _-ℤ_, _*ℤ_}
+use lib.IntN.{ℤ, pos, _+ℤ_, _-ℤ_, _*ℤ_}
 use lib.Signed.{leZ, ltZ, _≤ℤ_, _<ℤ_}
 use Rattle.definitions.specs.Tools.{All, Any, floor, ceil, sumZ}
 use Rattle.definitions.specs.Board.{Bounds, Term, Comparison}
 use Rattle.definitions.specs.Encoding.{Atom, SatLiteral, SatClause, order, minus, termBounds, least, tuplesOf, sharp, clausesUnder}
 use Rattle.definitions.specs.Meaning.{Assignment, satisfies, compares}
-use Rattle.laws.specs.Whole.{whole, mul-rises, mul-falls, ne-in, part-law}
+use Rattle.laws.specs.Whole.{whole, add-law, mul-rises, mul-falls, ne-in, part-law}
 use Rattle.laws.specs.Division.{below-floor, not-below-ceil, floor-within, ceil-within}
 use Rattle.laws.specs.Lists.{all-every, all-impl, all-map, map-all}
 use Rattle.demands.specs.Truth.{Holds, Satisfied, Tells}
-use Rattle.demands.specs.TupleRule.{Bounded, tuple-rule, low-sum}
+use Rattle.demands.specs.TupleRule.{Bounded, two-numbers, tuple-rule, low-sum}
+
+-- ---- linear expressions under an assignment within bounds
+module _ (of : ℕ → Bounds) (assignment : Assignment) where
+  abbrev pub InBounds : Term → Type 0
+  InBounds t = (of (t .var) .lo ≤ℤ assignment .α (t .var)) × (assignment .α (t .var) ≤ℤ of (t .var) .hi)
+
+  -- α(e) and u(e); ℓ(e) is `least of e`
+  abbrev pub valueAt : List Term → ℤ
+  valueAt e = sumZ (map (λ t. t .coef *ℤ assignment .α (t .var)) e)
+
+  abbrev pub greatest : List Term → ℤ
+  greatest e = sumZ (map (λ t. termBounds of t .hi) e)
+
+  term-within : (t : Term) → InBounds t → (termBounds of t .lo ≤ℤ (t .coef *ℤ assignment .α (t .var))) × ((t .coef *ℤ assignment .α (t .var)) ≤ℤ termBounds of t .hi)
+  unfolding termBounds
+  term-within t h = go (ltZ (pos 0) (t .coef)) refl
+    where
+      go : (s : Bool) → ltZ (pos 0) (t .coef) ≡ s → (termBounds of t .lo ≤ℤ (t .coef *ℤ assignment .α (t .var))) × ((t .coef *ℤ assignment .α (t .var)) ≤ℤ termBounds of t .hi)
+      go true e = let p : pos 0 <ℤ t .coef = omega whole in rw e (mul-rises (t .coef) _ _ p (h .0), mul-rises (t .coef) _ _ p (h .1))
+      go false e = let p : t .coef ≤ℤ pos 0 = omega whole in rw e (mul-falls (t .coef) _ _ p (h .1), mul-falls (t .coef) _ _ p (h .0))
+
+  within : (e : List Term) → All InBounds e → (least of e ≤ℤ valueAt e) × (valueAt e ≤ℤ greatest e)
+  unfolding least
+  within [] h = (omega whole, omega whole)
+  within (t ∷ e) h =
+      let w = term-within t (h .0) in
+      let r = within e (h .1) in
+      let value = add-law (t .coef *ℤ assignment .α (t .var)) (valueAt e) in
+      (omega (whole, w .0, r .0, value, add-law (termBounds of t .lo) (least of e)), omega (whole, w .1, r .1, value, add-law (termBounds of t .hi) (greatest e)))
+
+  -- e + f ≤ c exactly if e ≤ a or f ≤ b for all a and b with a + b = c - 1 in their ranges
+  pub lemma-1 : (e f : List Term) (c : ℤ) → All InBounds e → All InBounds f → (least of e +ℤ least of f) ≤ℤ c →
+      ((valueAt e +ℤ valueAt f) ≤ℤ c) ↔
+      ((a b : ℤ) → a +ℤ b ≡ c -ℤ pos 1 → (least of e -ℤ pos 1) ≤ℤ a → a ≤ℤ greatest e → (least of f -ℤ pos 1) ≤ℤ b → b ≤ℤ greatest f → (valueAt e ≤ℤ a) ⊎ (valueAt f ≤ℤ b))
+  lemma-1 e f c h k = let w = within e h in let z = within f k in two-numbers _ _ _ _ _ _ c (w .0) (w .1) (z .0) (z .1)
 
 -- ---- (ax ≤ b)^#: the term lies within its bounds, and its literal says ax ≤ b
 module _ (of : ℕ → Bounds) (v : Atom → Bool) (a : Assignment) where
