@@ -17,40 +17,46 @@ use Rattle.laws.specs.Lists.{all-every, all-impl, all-map, map-all}
 use Rattle.demands.specs.Truth.{Holds, Satisfied, Tells}
 use Rattle.demands.specs.TupleRule.{Bounded, two-numbers, tuple-rule, low-sum}
 
--- ---- linear expressions under an assignment within bounds
-module _ (of : ℕ → Bounds) (assignment : Assignment) where
-  abbrev pub InBounds : Term → Type 0
-  InBounds t = (of (t .var) .lo ≤ℤ assignment .α (t .var)) × (assignment .α (t .var) ≤ℤ of (t .var) .hi)
+-- ---- linear expressions: α(e) under an assignment, and u(e); ℓ(e) is `least of e`
+abbrev pub valueAt : Assignment → List Term → ℤ
+valueAt αβ e = sumZ (map (λ t. t .coef *ℤ αβ .α (t .var)) e)
 
-  -- α(e) and u(e); ℓ(e) is `least of e`
-  abbrev pub valueAt : List Term → ℤ
-  valueAt e = sumZ (map (λ t. t .coef *ℤ assignment .α (t .var)) e)
+abbrev pub greatest : (ℕ → Bounds) → List Term → ℤ
+greatest of e = sumZ (map (λ t. termBounds of t .hi) e)
 
-  abbrev pub greatest : List Term → ℤ
-  greatest e = sumZ (map (λ t. termBounds of t .hi) e)
+-- the variable of a term has a value within its bounds
+abbrev pub InBounds : (ℕ → Bounds) → Assignment → Term → Type 0
+InBounds of αβ t = (of (t .var) .lo ≤ℤ αβ .α (t .var)) × (αβ .α (t .var) ≤ℤ of (t .var) .hi)
 
-  term-within : (t : Term) → InBounds t → (termBounds of t .lo ≤ℤ (t .coef *ℤ assignment .α (t .var))) × ((t .coef *ℤ assignment .α (t .var)) ≤ℤ termBounds of t .hi)
+module _ (of : ℕ → Bounds) (αβ : Assignment) where
+  abbrev Within : Term → Type 0
+  Within t = let v = t .coef *ℤ αβ .α (t .var) in (termBounds of t .lo ≤ℤ v) × (v ≤ℤ termBounds of t .hi)
+
+  term-within : (t : Term) → InBounds of αβ t → Within t
   unfolding termBounds
   term-within t h = go (ltZ (pos 0) (t .coef)) refl
     where
-      go : (s : Bool) → ltZ (pos 0) (t .coef) ≡ s → (termBounds of t .lo ≤ℤ (t .coef *ℤ assignment .α (t .var))) × ((t .coef *ℤ assignment .α (t .var)) ≤ℤ termBounds of t .hi)
+      go : (s : Bool) → ltZ (pos 0) (t .coef) ≡ s → Within t
       go true e = let p : pos 0 <ℤ t .coef = omega whole in rw e (mul-rises (t .coef) _ _ p (h .0), mul-rises (t .coef) _ _ p (h .1))
       go false e = let p : t .coef ≤ℤ pos 0 = omega whole in rw e (mul-falls (t .coef) _ _ p (h .1), mul-falls (t .coef) _ _ p (h .0))
 
-  within : (e : List Term) → All InBounds e → (least of e ≤ℤ valueAt e) × (valueAt e ≤ℤ greatest e)
+  sum-within : (e : List Term) → All (InBounds of αβ) e → (least of e ≤ℤ valueAt αβ e) × (valueAt αβ e ≤ℤ greatest of e)
   unfolding least
-  within [] h = (omega whole, omega whole)
-  within (t ∷ e) h =
+  sum-within [] h = (omega whole, omega whole)
+  sum-within (t ∷ e) h =
       let w = term-within t (h .0) in
-      let r = within e (h .1) in
-      let value = add-law (t .coef *ℤ assignment .α (t .var)) (valueAt e) in
-      (omega (whole, w .0, r .0, value, add-law (termBounds of t .lo) (least of e)), omega (whole, w .1, r .1, value, add-law (termBounds of t .hi) (greatest e)))
+      let r = sum-within e (h .1) in
+      let value = add-law (t .coef *ℤ αβ .α (t .var)) (valueAt αβ e) in
+      (omega (whole, w .0, r .0, value, add-law (termBounds of t .lo) (least of e)), omega (whole, w .1, r .1, value, add-law (termBounds of t .hi) (greatest of e)))
 
-  -- e + f ≤ c exactly if e ≤ a or f ≤ b for all a and b with a + b = c - 1 in their ranges
-  pub lemma-1 : (e f : List Term) (c : ℤ) → All InBounds e → All InBounds f → (least of e +ℤ least of f) ≤ℤ c →
-      ((valueAt e +ℤ valueAt f) ≤ℤ c) ↔
-      ((a b : ℤ) → a +ℤ b ≡ c -ℤ pos 1 → (least of e -ℤ pos 1) ≤ℤ a → a ≤ℤ greatest e → (least of f -ℤ pos 1) ≤ℤ b → b ≤ℤ greatest f → (valueAt e ≤ℤ a) ⊎ (valueAt f ≤ℤ b))
-  lemma-1 e f c h k = let w = within e h in let z = within f k in two-numbers _ _ _ _ _ _ c (w .0) (w .1) (z .0) (z .1)
+  -- e + f ≤ c exactly if, for all a and b in their ranges with a + b = c - 1, e ≤ a or f ≤ b
+  pub lemma-1 : (e f : List Term) (c : ℤ) → All (InBounds of αβ) e → All (InBounds of αβ) f → (least of e +ℤ least of f) ≤ℤ c →
+      ((valueAt αβ e +ℤ valueAt αβ f) ≤ℤ c) ↔
+      ((a b : ℤ) → a +ℤ b ≡ c -ℤ pos 1 → (least of e -ℤ pos 1) ≤ℤ a → a ≤ℤ greatest of e → (least of f -ℤ pos 1) ≤ℤ b → b ≤ℤ greatest of f → (valueAt αβ e ≤ℤ a) ⊎ (valueAt αβ f ≤ℤ b))
+  lemma-1 e f c h k =
+      let w = sum-within e h in
+      let z = sum-within f k in
+      two-numbers _ _ _ _ _ _ c (w .0) (w .1) (z .0) (z .1)
 
 -- ---- (ax ≤ b)^#: the term lies within its bounds, and its literal says ax ≤ b
 module _ (of : ℕ → Bounds) (v : Atom → Bool) (a : Assignment) where
@@ -80,12 +86,15 @@ module _ (of : ℕ → Bounds) (v : Atom → Bool) (a : Assignment) where
       told : Tells of v (t .var) (a .α (t .var))
       told = h .1
 
+      inside : Within of a t
+      inside = term-within of a t (told .least, told .most)
+
       go : (s : Bool) → ltZ (pos 0) (t .coef) ≡ s → Says t
       go true e =
           let p : pos 0 <ℤ n = omega whole in
           record {
-            least = rw e (mul-rises n _ _ p (told .least));
-            most = rw e (mul-rises n _ _ p (told .most));
+            least = inside .0;
+            most = inside .1;
             says = λ b l u.
                 let c = floor-within n (x .lo) (x .hi) b p (rw e at l) (rw e at u) in
                 let s = told .says (floor b n) (c .0) (c .1) in
@@ -95,8 +104,8 @@ module _ (of : ℕ → Bounds) (v : Atom → Bool) (a : Assignment) where
       go false e =
           let p : n <ℤ pos 0 = omega (whole, ne-in n (pos 0) (h .0), part-law n) in
           record {
-            least = rw e (mul-falls n _ _ (omega whole) (told .most));
-            most = rw e (mul-falls n _ _ (omega whole) (told .least));
+            least = inside .0;
+            most = inside .1;
             says = λ b l u.
                 let c = ceil-within n (x .lo) (x .hi) b p (rw e at l) (rw e at u) in
                 let s = told .says (ceil b n -ℤ pos 1) (c .0) (c .1) in

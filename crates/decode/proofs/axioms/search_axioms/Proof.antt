@@ -7,7 +7,6 @@ use mathlib.Core.List.{List, _++_, flatten}
 use Prim.Native.Nat.{ℕ, _+_, _-_, _≤_, _<_}
 use native.Mathlib.Omega.{arith}
 use lib.ListN.{length}
-use Rattle.definitions.specs.Board.{Board}
 use Rattle.definitions.specs.Encoding.{width, axioms}
 use Rattle.definitions.specs.Encoding as Encoding
 use Rattle.laws.specs.Boards.{boardOf}
@@ -44,11 +43,14 @@ abbrev μ-search : tie.MeasureT-search
 
 -- the width of variable x was found
 module _ (c : tie.After-width-of Inv-loop μ-loop Inv-search μ-search) where
+  abbrev start : tie.Start Inv-loop μ-loop Inv-search μ-search
+  start = c .before .before .before .before .before .before .before .before
+
   abbrev bytes : List ℕ
-  bytes = c .before .before .before .before .before .before .before .before .args .bytes .now
+  bytes = start .args .bytes .now
 
   abbrev model : List ℕ
-  model = c .before .before .before .before .before .before .before .before .args .model .now
+  model = start .args .model .now
 
   abbrev x : ℕ
   x = c .before .before .before .before .search .x
@@ -60,23 +62,21 @@ module _ (c : tie.After-width-of Inv-loop μ-loop Inv-search μ-search) where
   wide = c .width-of .result
 
   known : x < length (boardOf bytes .bounds)
-  known = inside (c .before .before .before .before .before .before .before .before .pre) x (omega arith) (c .before .bounds-of .ensures)
+  known = inside (start .pre) x (omega arith) (c .before .bounds-of .ensures)
 
   room : (1 ≤ first) × (2 ≤ wide) × (first + wide ≤ length model + 1) × (length model < 2147483648)
-  room =
-      let w = within (c .before .before .before .before .before .before .before .before .pre) x (omega arith) (c .before .bounds-of .ensures) in
-      omega (arith, w, c .before .before .before .before .search .inv .1, c .width-of .ensures, short (c .before .before .before .before .before .before .before .before .pre))
+  room = omega (arith, within (start .pre) x (omega arith) (c .before .bounds-of .ensures), c .before .before .before .before .search .inv .1, c .width-of .ensures, short (start .pre))
 
   here : from bytes model x ≡ axiomTests model first wide 0 ++ from bytes model (x + 1)
   here =
-      axioms-first (boardOf bytes) model x known (ordered (c .before .before .before .before .before .before .before .before .pre) x (omega arith) (c .before .bounds-of .ensures))
+      axioms-first (boardOf bytes) model x known (ordered (start .pre) x (omega arith) (c .before .bounds-of .ensures))
       ∙ ap₂ (λ f w. axiomTests model f w 0 ++ from bytes model (x + 1)) (sym (c .before .before .before .before .search .inv .1)) (sym (c .width-of .ensures ∙ ap width (bounds-same (boardOf bytes) x _ (c .before .bounds-of .ensures))))
 
   onward : first + wide ≡ Encoding.first (boardOf bytes) (x + 1)
   onward = omega (arith, first-more (boardOf bytes) x _ known (c .before .bounds-of .ensures), c .width-of .ensures, c .before .before .before .before .search .inv .1)
 
   fit : length (all bytes model) < 9223372036854775808
-  fit = axioms-fit (boardOf bytes) model (admitted (c .before .before .before .before .before .before .before .before .pre .opened))
+  fit = axioms-fit (boardOf bytes) model (admitted (start .pre .opened))
 
 add-first : tie.Need-add-first Inv-loop μ-loop Inv-search μ-search
 add-first c = omega (arith, counts-small (c .before .before .before .pre .opened))
