@@ -26,7 +26,7 @@ fn holds_from(model: &[u8], v: usize) -> bool
     true
 }
 
-// The axiom k of a variable, from 0 on, which has so many order variables from first on.
+// The axiom k, counted from 0, of a variable that has `width` order variables, the first of them `first`.
 fn axiom_holds(model: &[u8], first: usize, width: usize, k: usize) -> bool
     requires { ⌜ (1 ≤ first) × (2 ≤ width) × (first + width ≤ length (now model) + 1) × (length (now model) < 2147483648) × (k ≤ width) ⌝ }
     ensures { λ r. ⌜ r ≡ axiomTest (now (model .entry)) first width k ⌝ }
@@ -40,7 +40,7 @@ fn axiom_holds(model: &[u8], first: usize, width: usize, k: usize) -> bool
     holds_from(model, first + k - 2)
 }
 
-// The axioms of each variable in turn: variable by variable, and for each variable axiom by axiom.
+// Variable by variable, and for each variable axiom by axiom; it stops at the first that does not hold.
 pub fn search_axioms(bytes: &[u8], model: &[u8], header: Header) -> Checked
     requires { ⌜ Given (now bytes) (now model) header ⌝ }
     ensures { λ r. ⌜ Sought 0 (tests (boardOf (now (bytes .entry))) (now (model .entry)) (flatten (axioms (boardOf (now (bytes .entry)))))) r ⌝ }
