@@ -10,33 +10,44 @@ use Rattle.basmuthar.specs.Interface.{sizesWritten, verdictWritten, hour
 one : {A : Type 0} {x y z : A} → x ≡ z → y ≡ z → x ≡ y
 one h k = h ∙ sym k
 
-module _ (s : List ℕ) (a a′ : List ℕ) where
-  pub one-size : a ≡ sizesWritten (Size s) → a′ ≡ sizesWritten (Size s) → a ≡ a′
-  one-size = one
+-- what a call allows of the four numbers `answer` and of the lists as they are left
+module _ (s : List ℕ) where
+  abbrev pub SizeLeaves : List ℕ → Type 0
+  SizeLeaves answer = answer ≡ sizesWritten (Size s)
 
-  pub one-compile : (list l l′ : List ℤ) → (a ≡ sizesWritten (Compile s list .answer)) × (l ≡ Compile s list .left)
-      → (a′ ≡ sizesWritten (Compile s list .answer)) × (l′ ≡ Compile s list .left) → (a ≡ a′) × (l ≡ l′)
-  one-compile list l l′ h k = (one (h .0) (k .0), one (h .1) (k .1))
+  abbrev pub CompileLeaves : List ℤ → List ℕ → List ℤ → Type 0
+  CompileLeaves list answer left = (answer ≡ sizesWritten (Compile s list .answer)) × (left ≡ Compile s list .left)
 
-  module _ (model : List ℕ) (values : List ℤ) (booleans : List ℕ) where
-    pub one-decode : (l l′ : List ℤ × List ℕ)
-        → (a ≡ verdictWritten (Decode s model values booleans .answer)) × (l ≡ Decode s model values booleans .left)
-        → (a′ ≡ verdictWritten (Decode s model values booleans .answer)) × (l′ ≡ Decode s model values booleans .left)
-        → (a ≡ a′) × (l ≡ l′)
-    one-decode l l′ h k = (one (h .0) (k .0), one (h .1) (k .1))
+  abbrev pub DecodeLeaves : List ℕ → List ℤ → List ℕ → List ℕ → List ℤ → List ℕ → Type 0
+  DecodeLeaves model values booleans answer ints bools =
+      let o = Decode s model values booleans in (answer ≡ verdictWritten (o .answer)) × (ints ≡ o .left .0) × (bools ≡ o .left .1)
 
-  module _ (values : List ℤ) (booleans : List ℕ) where
-    pub one-judge : a ≡ verdictWritten (Judge s values booleans) → a′ ≡ verdictWritten (Judge s values booleans) → a ≡ a′
-    one-judge = one
+  abbrev pub JudgeLeaves : List ℤ → List ℕ → List ℕ → Type 0
+  JudgeLeaves values booleans answer = answer ≡ verdictWritten (Judge s values booleans)
 
-    pub one-image : (model l l′ : List ℕ) → (a ≡ verdictWritten (Image s values booleans model .answer)) × (l ≡ Image s values booleans model .left)
-        → (a′ ≡ verdictWritten (Image s values booleans model .answer)) × (l′ ≡ Image s values booleans model .left) → (a ≡ a′) × (l ≡ l′)
-    one-image model l l′ h k = (one (h .0) (k .0), one (h .1) (k .1))
+  abbrev pub ImageLeaves : List ℤ → List ℕ → List ℕ → List ℕ → List ℕ → Type 0
+  ImageLeaves values booleans model answer left =
+      (answer ≡ verdictWritten (Image s values booleans model .answer)) × (left ≡ Image s values booleans model .left)
 
--- Closing's answer and hours
-abbrev pub ClosingLeaves : List ℕ → ℕ → List ℕ → List ℤ → List ℕ → List ℤ → Type 0
-ClosingLeaves s x replies hours answer left = (answer ≡ hourWritten (Closing s x replies)) × (left ≡ hoursWritten (Closing s x replies) hours)
+  abbrev pub ClosingLeaves : ℕ → List ℕ → List ℤ → List ℕ → List ℤ → Type 0
+  ClosingLeaves x replies hours answer left = (answer ≡ hourWritten (Closing s x replies)) × (left ≡ hoursWritten (Closing s x replies) hours)
 
-pub one-closing : (s : List ℕ) (x : ℕ) (replies : List ℕ) (hours : List ℤ) (a a′ : List ℕ) (l l′ : List ℤ)
-    → ClosingLeaves s x replies hours a l → ClosingLeaves s x replies hours a′ l′ → (a ≡ a′) × (l ≡ l′)
-one-closing s x replies hours a a′ l l′ h k = (one (h .0) (k .0), one (h .1) (k .1))
+  module _ (a a′ : List ℕ) where
+    pub one-size : SizeLeaves a → SizeLeaves a′ → a ≡ a′
+    one-size = one
+
+    pub one-compile : (list l l′ : List ℤ) → CompileLeaves list a l → CompileLeaves list a′ l′ → (a ≡ a′) × (l ≡ l′)
+    one-compile list l l′ h k = (one (h .0) (k .0), one (h .1) (k .1))
+
+    pub one-decode : (model : List ℕ) (values : List ℤ) (booleans : List ℕ) (v v′ : List ℤ) (w w′ : List ℕ)
+        → DecodeLeaves model values booleans a v w → DecodeLeaves model values booleans a′ v′ w′ → (a ≡ a′) × (v ≡ v′) × (w ≡ w′)
+    one-decode model values booleans v v′ w w′ h k = (one (h .0) (k .0), one (h .1) (k .1), one (h .2) (k .2))
+
+    pub one-judge : (values : List ℤ) (booleans : List ℕ) → JudgeLeaves values booleans a → JudgeLeaves values booleans a′ → a ≡ a′
+    one-judge values booleans = one
+
+    pub one-image : (values : List ℤ) (booleans model l l′ : List ℕ) → ImageLeaves values booleans model a l → ImageLeaves values booleans model a′ l′ → (a ≡ a′) × (l ≡ l′)
+    one-image values booleans model l l′ h k = (one (h .0) (k .0), one (h .1) (k .1))
+
+    pub one-closing : (x : ℕ) (replies : List ℕ) (hours l l′ : List ℤ) → ClosingLeaves x replies hours a l → ClosingLeaves x replies hours a′ l′ → (a ≡ a′) × (l ≡ l′)
+    one-closing x replies hours l l′ h k = (one (h .0) (k .0), one (h .1) (k .1))

@@ -14,9 +14,8 @@ pub use judge::judge;
 pub use size::size;
 ghost use mathlib.Core.Path.{_≡_};
 ghost use Rattle.definitions.specs.Answers.{refusal, saidHour, saidSizing, saidVerdict};
-ghost use Rattle.definitions.specs.Operations.{Compile, Decode, Image, Judge, Size};
 ghost use Rattle.basmuthar.specs.Interface.{hourWritten, hoursWritten, sizesWritten, verdictWritten};
-ghost use Rattle.basmuthar.specs.Outcome.{ClosingLeaves};
+ghost use Rattle.basmuthar.specs.Outcome.{ClosingLeaves, CompileLeaves, DecodeLeaves, ImageLeaves, JudgeLeaves, SizeLeaves};
 
 fn refusal_written(r: Refusal) -> [u64; 4]
     ensures { λ a. ⌜ a ≡ verdictWritten (refusal r) ⌝ }
@@ -77,15 +76,14 @@ fn hours_written(hour: Hour, hours: [i32; 3]) -> [i32; 3]
 
 #[no_mangle]
 pub extern "C" fn basmuthar_size(bytes: &[u8], answer: &mut [u64; 4])
-    ensures { λ _. ⌜ now (answer .exit) ≡ sizesWritten (Size (now (bytes .entry))) ⌝ }
+    ensures { λ _. ⌜ SizeLeaves (now (bytes .entry)) (now (answer .exit)) ⌝ }
 {
     *answer = sizes_written(size(bytes));
 }
 
 #[no_mangle]
 pub extern "C" fn basmuthar_compile(bytes: &[u8], list: &mut [i32], answer: &mut [u64; 4])
-    ensures { λ _. ⌜ now (answer .exit) ≡ sizesWritten (Compile (now (bytes .entry)) (now (list .entry)) .answer) ⌝ }
-    ensures { λ _. ⌜ now (list .exit) ≡ Compile (now (bytes .entry)) (now (list .entry)) .left ⌝ }
+    ensures { λ _. ⌜ CompileLeaves (now (bytes .entry)) (now (list .entry)) (now (answer .exit)) (now (list .exit)) ⌝ }
 {
     *answer = sizes_written(compile(bytes, list));
 }
@@ -98,8 +96,7 @@ pub extern "C" fn basmuthar_decode(
     booleans: &mut [u8],
     answer: &mut [u64; 4],
 )
-    ensures { λ _. ⌜ now (answer .exit) ≡ verdictWritten (Decode (now (bytes .entry)) (now (model .entry)) (now (values .entry)) (now (booleans .entry)) .answer) ⌝ }
-    ensures { λ _. ⌜ (now (values .exit), now (booleans .exit)) ≡ Decode (now (bytes .entry)) (now (model .entry)) (now (values .entry)) (now (booleans .entry)) .left ⌝ }
+    ensures { λ _. ⌜ DecodeLeaves (now (bytes .entry)) (now (model .entry)) (now (values .entry)) (now (booleans .entry)) (now (answer .exit)) (now (values .exit)) (now (booleans .exit)) ⌝ }
 {
     *answer = verdict_written(decode(bytes, model, values, booleans));
 }
@@ -111,7 +108,7 @@ pub extern "C" fn basmuthar_judge(
     booleans: &[u8],
     answer: &mut [u64; 4],
 )
-    ensures { λ _. ⌜ now (answer .exit) ≡ verdictWritten (Judge (now (bytes .entry)) (now (values .entry)) (now (booleans .entry))) ⌝ }
+    ensures { λ _. ⌜ JudgeLeaves (now (bytes .entry)) (now (values .entry)) (now (booleans .entry)) (now (answer .exit)) ⌝ }
 {
     *answer = verdict_written(judge(bytes, values, booleans));
 }
@@ -124,8 +121,7 @@ pub extern "C" fn basmuthar_image(
     model: &mut [u8],
     answer: &mut [u64; 4],
 )
-    ensures { λ _. ⌜ now (answer .exit) ≡ verdictWritten (Image (now (bytes .entry)) (now (values .entry)) (now (booleans .entry)) (now (model .entry)) .answer) ⌝ }
-    ensures { λ _. ⌜ now (model .exit) ≡ Image (now (bytes .entry)) (now (values .entry)) (now (booleans .entry)) (now (model .entry)) .left ⌝ }
+    ensures { λ _. ⌜ ImageLeaves (now (bytes .entry)) (now (values .entry)) (now (booleans .entry)) (now (model .entry)) (now (answer .exit)) (now (model .exit)) ⌝ }
 {
     *answer = verdict_written(image(bytes, values, booleans, model));
 }

@@ -2,8 +2,7 @@
 use mathlib.Core.Path.{_≡_, refl, sym, ap, ap₂, _∙_}
 use mathlib.Core.Bool.{Bool, true, false, not, _||_, or-false}
 use mathlib.Core.List.{List, [], _∷_, _++_, map, flatten, map-map, map-append}
-use Prim.Native.Nat.{ℕ, _+_, _-_, _^_, _≤_, _<_}
-use native.Mathlib.Nat.{add-zero}
+use Prim.Native.Nat.{ℕ, zero, suc, _+_, _-_, _^_, _≤_, _<_}
 use native.Mathlib.Omega.{arith}
 use lib.ListN.{length, length-map}
 use lib.IntN.{ℤ, pos, sucℤ, _+ℤ_, _-ℤ_}
@@ -20,16 +19,12 @@ use Rattle.laws.specs.Layout.{width-range}
 use Rattle.laws.specs.Ranges.{range-shift}
 use Rattle.decode.specs.declared.Checked.{Checked}
 use Rattle.decode.specs.Truth.{trueClause, tests}
-use Rattle.decode.specs.Goes.{Sought, Goes, goes-start, goes-one, goes-stop, goes-end}
+use Rattle.decode.specs.Goes.{Sought, Goes, goes-one, goes-stop}
 
 module _ (model : List ℕ) where
   -- the order variable v is not true, or the next one is
   unfoldable pub rises : ℕ → Bool
   rises v = not (on model v) || on model (v + 1)
-
-  -- of a variable whose order variables are those from `first` to `last`
-  unfoldable pub axiomTests : ℕ → ℕ → List Bool
-  axiomTests first last = not (on model first) ∷ on model last ∷ map rises (countUp first (last - first))
 
   pub rises-on : (v : ℕ) → on model v ≡ true → rises v ≡ on model (v + 1)
   unfolding rises
@@ -39,34 +34,43 @@ module _ (model : List ℕ) where
   unfolding rises
   rises-off v h = rw h
 
-  -- ---- a search through them
-  module _ (n first last : ℕ) where
-    abbrev rising : List Bool
-    rising = map rises (countUp first (last - first))
+  -- ---- of a variable with so many order variables from `first` on
+  module _ (first width : ℕ) where
+    -- its axiom k, from 0: the first is not true; the last is; the others rise
+    unfoldable pub axiomTest : ℕ → Bool
+    axiomTest zero = not (on model first)
+    axiomTest (suc zero) = on model (first + width - 1)
+    axiomTest (suc (suc k)) = rises (first + k)
 
-    pub first-fails : on model first ≡ true → Sought n (axiomTests first last) (Checked.Fails n)
-    unfolding axiomTests
-    first-fails h = goes-stop (goes-start n _) (not (on model first)) (on model last ∷ rising) refl (rw h)
+    pub axiom-rises : (k : ℕ) → 2 ≤ k → axiomTest k ≡ rises (first + k - 2)
+    unfolding axiomTest
+    axiom-rises zero h = absurd (omega arith)
+    axiom-rises (suc zero) h = absurd (omega arith)
+    axiom-rises (suc (suc k)) h = ap rises (omega arith)
 
-    past-first : on model first ≡ false → Goes n (axiomTests first last) (n + 1) (on model last ∷ rising)
-    unfolding axiomTests
-    past-first h = goes-one (goes-start n _) (not (on model first)) _ refl (rw h)
+    -- those from k on
+    unfoldable pub axiomTests : ℕ → List Bool
+    axiomTests k = map axiomTest (countUp k (width + 1 - k))
 
-    pub last-fails : on model first ≡ false → on model last ≡ false → Sought n (axiomTests first last) (Checked.Fails (n + 1))
-    last-fails h k = goes-stop (past-first h) (on model last) _ refl k
+    -- a search through them, and then through others
+    module _ {all : List Bool} {n : ℕ} (k : ℕ) (others : List Bool) (g : Goes 0 all n (axiomTests k ++ others)) where
+      axiom-first : k ≤ width → axiomTests k ++ others ≡ axiomTest k ∷ axiomTests (k + 1) ++ others
+      unfolding axiomTests
+      axiom-first l = ap (λ ks. map axiomTest ks ++ others) (countUp-first k (width + 1) (omega arith))
 
-    pub past-last : on model first ≡ false → on model last ≡ true → Goes n (axiomTests first last) (n + 2) rising
-    past-last h k = let e : n + 1 + 1 ≡ n + 2 = omega arith in rw e at (goes-one (past-first h) (on model last) _ refl k)
+      pub axiom-holds : k ≤ width → axiomTest k ≡ true → Goes 0 all (n + 1) (axiomTests (k + 1) ++ others)
+      axiom-holds l = goes-one g (axiomTest k) _ (axiom-first l)
 
-  module _ {i : ℕ} {all : List Bool} {n : ℕ} (v last : ℕ) (g : Goes i all n (map rises (countUp v (last - v)))) where
-    pub step-holds : v < last → rises v ≡ true → Goes i all (n + 1) (map rises (countUp (v + 1) (last - (v + 1))))
-    step-holds l h = goes-one g (rises v) _ (ap (map rises) (countUp-first v last l)) h
+      pub axiom-fails : k ≤ width → axiomTest k ≡ false → Sought 0 all (Checked.Fails n)
+      axiom-fails l = goes-stop g (axiomTest k) _ (axiom-first l)
 
-    pub step-fails : v < last → rises v ≡ false → Sought i all (Checked.Fails n)
-    step-fails l h = goes-stop g (rises v) _ (ap (map rises) (countUp-first v last l)) h
+      -- one of them is left, so its number is one of all
+      pub axiom-room : k ≤ width → n < length all
+      axiom-room l = omega (arith, g .count, ap length (axiom-first l))
 
-    pub steps-end : last ≤ v → Sought i all (Checked.Hold n)
-    steps-end l = goes-end g (ap (map rises) (countUp-none v last l))
+      pub axioms-over : width < k → Goes 0 all n others
+      unfolding axiomTests
+      axioms-over l = rw (ap (map axiomTest) (countUp-none k (width + 1) (omega arith))) at g
 
 module _ (B : Board) (model : List ℕ) (x : ℕ) (h : boundsOf B x .lo ≤ℤ boundsOf B x .hi) where
   abbrev lo : ℤ
@@ -82,27 +86,30 @@ module _ (B : Board) (model : List ℕ) (x : ℕ) (h : boundsOf B x .lo ≤ℤ b
   unfolding satisfies inModel rises
   step-test k = ap₂ (λ v w. not (on model v) || (on model w || false)) (before-value B x (lo +ℤ pos k) k refl) (at-value B x (lo +ℤ pos k) k refl) ∙ ap (λ b. not (on model (first B x + k)) || b) (or-false _)
 
-  pub axioms-tests : tests B model (axiomsOf (boundsOf B) x) ≡ axiomTests model (first B x) (first B x + width (boundsOf B x) - 1)
-  unfolding axiomsOf axiomTests satisfies inModel
+  axioms-tests : tests B model (axiomsOf (boundsOf B) x) ≡ axiomTests model (first B x) (width (boundsOf B x)) 0
+  unfolding axiomsOf axiomTests axiomTest satisfies inModel
   axioms-tests =
       let n = size (sucℤ hi -ℤ lo) in
       let f = first B x in
       let w = width (boundsOf B x) in
       let highest : number B (order x hi) ≡ f + w - 1 = omega (arith, highest-number B x h) in
-      let steps : n ≡ f + w - 1 - f = omega (arith, width-range (boundsOf B x) h) in
+      let many : suc (suc n) ≡ w + 1 - 0 = omega (arith, width-range (boundsOf B x) h) in
+      let later : (k : ℕ) → axiomTest model f w (2 + k) ≡ rises model (f + k) = λ k. (let e : 2 + k ≡ suc (suc k) = omega arith in ap (axiomTest model f w) e) in
       ap₂ _∷_ (or-false _ ∙ ap (λ v. not (on model v)) (lowest-number B x))
       (ap₂ _∷_ (or-false _ ∙ ap (on model) highest)
       (map-map (trueClause B model) step (range lo hi)
       ∙ ap (map (λ c. trueClause B model (step c))) (range-shift lo hi)
       ∙ map-map (λ c. trueClause B model (step c)) (λ k. lo +ℤ pos k) (countUp 0 n)
       ∙ map-same (λ k. trueClause B model (step (lo +ℤ pos k))) (λ k. rises model (f + k)) (countUp 0 n) (all-every _ step-test (countUp 0 n))
-      ∙ sym (map-map (rises model) (λ k. f + k) (countUp 0 n))
-      ∙ ap (map (rises model)) (countUp-shift f 0 n ∙ ap₂ countUp (add-zero f) steps)))
+      ∙ sym (map-same (λ k. axiomTest model f w (2 + k)) (λ k. rises model (f + k)) (countUp 0 n) (all-every _ later (countUp 0 n)))
+      ∙ sym (map-map (axiomTest model f w) (λ k. 2 + k) (countUp 0 n))
+      ∙ ap (map (axiomTest model f w)) (countUp-shift 2 0 n)))
+      ∙ ap (λ m. map (axiomTest model f w) (countUp 0 m)) many
 
 -- ---- variable by variable
 module _ (B : Board) (model : List ℕ) where
   pub axioms-first : (x : ℕ) → x < length (B .bounds) → boundsOf B x .lo ≤ℤ boundsOf B x .hi
-      → tests B model (axiomsFrom B x) ≡ axiomTests model (first B x) (first B x + width (boundsOf B x) - 1) ++ tests B model (axiomsFrom B (x + 1))
+      → tests B model (axiomsFrom B x) ≡ axiomTests model (first B x) (width (boundsOf B x)) 0 ++ tests B model (axiomsFrom B (x + 1))
   axioms-first x h o =
       ap (tests B model) (axioms-more B x h)
       ∙ map-append (trueClause B model) (axiomsOf (boundsOf B) x) (axiomsFrom B (x + 1))

@@ -14,12 +14,12 @@ use size::measure;
 ghost use mathlib.Core.Path.{_≡_};
 ghost use Rattle.definitions.specs.Encoding.{N};
 ghost use Rattle.definitions.specs.Answers.{saidVerdict};
-ghost use Rattle.definitions.specs.Operations.{lending, Decode};
+ghost use Rattle.definitions.specs.Operations.{lending};
 ghost use Rattle.laws.specs.Boards.{boardOf};
 ghost use Rattle.opening.specs.Headers.{Opened};
 ghost use Rattle.decode.specs.Given.{Given};
 ghost use Rattle.decode.specs.Decoded.{modelChecks, readBack};
-ghost use Rattle.decode.specs.Outcome.{Leaves};
+ghost use Rattle.decode.specs.Outcome.{Allowed, Leaves};
 
 // The first clause that does not hold, or that all do, and the number of the clause after them.
 pub enum Checked {
@@ -88,7 +88,7 @@ fn read_back(
 
 // 01, Decode: a refusal leaves both lists as they were.
 pub fn decode(bytes: &[u8], model: &[u8], values: &mut [i32], booleans: &mut [u8]) -> Verdict
-    ensures { λ r. ⌜ Leaves (Decode (now (bytes .entry)) (now (model .entry)) (now (values .entry)) (now (booleans .entry))) r (now (values .exit)) (now (booleans .exit)) ⌝ }
+    ensures { λ r. ⌜ Allowed (now (bytes .entry)) (now (model .entry)) (now (values .entry)) (now (booleans .entry)) r (now (values .exit)) (now (booleans .exit)) ⌝ }
 {
     match measure(bytes) {
         Measured::Board(header, totals) => {

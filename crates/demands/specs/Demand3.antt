@@ -1,6 +1,7 @@
 -- The third demand, for every accepted record; and what it says of Decode, Judge and Image. Assumes nothing.
 use mathlib.Core.Path.{_≡_, refl, sym, ap, ap₂, _∙_}
 use mathlib.Core.Logic.{_↔_}
+use mathlib.Core.Bool.{Bool}
 use mathlib.Core.List.{List, map}
 use Prim.Native.Nat.{ℕ, _-_, _≤_, _<_}
 use native.Mathlib.Omega.{arith}
@@ -11,7 +12,7 @@ use lib.Signed.{_≤ℤ_}
 use Rattle.definitions.specs.Tools.{All, Any, sumZ}
 use Rattle.definitions.specs.Board.{Board, Literal, isTrue, isFalse, atMost, boundsOf, variables}
 use Rattle.definitions.specs.Result.{done}
-use Rattle.definitions.specs.Encoding.{selector, selections, clauseList, N}
+use Rattle.definitions.specs.Encoding.{selector, selections, number, clauseList, N}
 use Rattle.definitions.specs.Meaning.{on, assigned, inBounds, compares, holds, Solution, inModel, Model, valuesOf, selection, Plain, plainModel}
 use Rattle.definitions.specs.Operations.{accepted, _leaves_, Decode, Judge, Image}
 use Rattle.laws.specs.Lists.{all-read, all-countUp, countUp-all}
@@ -51,6 +52,11 @@ module _ (B : Board) (values : List ℤ) (bools : List ℕ) where
         λ s. (s .0, s .1, s .2, all-countUp _ 0 n (λ x l u. inside x .full (s .3 x (omega arith))), tests .sound (every (some (said (s .2))) (B .clauses) .full (s .4))),
       )
 
+-- two tests agree exactly if what they decide does
+agree : {b c : Bool} {P Q : Type 0} → Decides b P → Decides c Q → (T b ↔ T c) ↔ (P ↔ Q)
+agree p q =
+    (λ i. (λ h. q .sound (i .0 (p .full h)), λ h. p .sound (i .1 (q .full h))), λ i. (λ h. q .full (i .0 (p .sound h)), λ h. p .full (i .1 (q .sound h))))
+
 -- a plain model, and the solution that it decodes to
 pub record Paired (B : Board) (model : List ℕ) (values : List ℤ) (bools : List ℕ) : Type 0 where
   pub satisfies : Model B model
@@ -70,11 +76,16 @@ module _ (s : List ℕ) (B : Board) (e : accepted s ≡ done B) where
   pub each-model-decodes-to-a-solution : (model : List ℕ) → Model B model → Solution B (valuesOf B model) (take (B .bools) model)
   each-model-decodes-to-a-solution = pairing.decodes B good
 
-  -- "a model is plain if each selector is true exactly when its comparison holds at the decoded values"
-  pub plain-means : (model : List ℕ) →
-      Plain B model ↔ ((j : ℕ) → j < length (selections B) → T (inModel B model (selector j)) ↔ T (compares (assigned (valuesOf B model) (take (B .bools) model)) (selection B j)))
-  unfolding Plain compares assigned
-  plain-means model = (λ p j h. countUp-all _ 0 (length (selections B)) p j (omega arith) (omega arith), λ f. all-countUp _ 0 (length (selections B)) (λ j l u. f j (omega arith)))
+  -- "a model is plain if each selector is true exactly when its comparison holds at the decoded values": its byte is 1, the sum at most the constant
+  pub plain-means : (model : List ℕ) → Plain B model ↔
+      ((j : ℕ) → j < length (selections B) → (getD model (number B (selector j) - 1) 0 ≡ 1) ↔
+      (sumZ (map (λ t. t .coef *ℤ getD (valuesOf B model) (t .var) (pos 0)) (selection B j .terms)) ≤ℤ selection B j .constant))
+  unfolding Plain inModel on compares assigned
+  plain-means model =
+      let n = length (selections B) in (
+        λ p j h. agree (equals _ 1) (at-mostZ _ _) .0 (countUp-all _ 0 n p j (omega arith) (omega arith)),
+        λ f. all-countUp _ 0 n (λ j l u. agree (equals _ 1) (at-mostZ _ _) .1 (f j (omega arith))),
+      )
 
   -- "decoding pairs the plain models with the solutions": none left over on either side
   pub each-plain-model-is-paired : (model : List ℕ) → Model B model → Plain B model → Paired B model (valuesOf B model) (take (B .bools) model)

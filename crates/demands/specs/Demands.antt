@@ -34,6 +34,6 @@ pub use Rattle.demands.specs.OneList.{one-list-serves, the-list-answers-
 pub use Rattle.demands.specs.Earliest.{a-driver-asks-14-questions-at-most, a-driver-finds-the-least}
 pub use Rattle.demands.specs.Tried.{isSolved-decides, trying-all-finds-the-least}
 -- ---- the paper's own statements
-pub use Rattle.demands.specs.Rule.{proposition-1}
+pub use Rattle.demands.specs.Rule.{lemma-1, proposition-1}
 pub use Rattle.demands.specs.Order.{proposition-2}
 pub use Rattle.demands.specs.Selectors.{lemma-2-sound, lemma-2-full}

@@ -4,9 +4,7 @@ use crate::checks::solved;
 use definitions::Verdict;
 use size::Measured;
 use size::measure;
-ghost use mathlib.Core.Path.{_≡_};
-ghost use Rattle.definitions.specs.Operations.{Judge};
-ghost use Rattle.definitions.specs.Answers.{saidVerdict};
+ghost use Rattle.judge.specs.Outcome.{Allowed};
 
 pub mod checks; // checks.rt: refusals 11, 12, 14 and 13
 pub mod clauses; // clauses.rt: the first clause that does not hold (refusal 13)
@@ -15,7 +13,7 @@ pub mod values; // values.rt: the first value outside its bounds (refusal 14)
 
 // Accepts exactly a solution; nothing is written.
 pub fn judge(bytes: &[u8], values: &[i32], booleans: &[u8]) -> Verdict
-    ensures { λ r. ⌜ saidVerdict r ≡ Judge (now (bytes .entry)) (now (values .entry)) (now (booleans .entry)) ⌝ }
+    ensures { λ r. ⌜ Allowed (now (bytes .entry)) (now (values .entry)) (now (booleans .entry)) r ⌝ }
 {
     match measure(bytes) {
         Measured::Board(header, _) => match lengths(header, values, booleans) {

@@ -13,7 +13,7 @@ use Rattle.definitions.specs.Closing.{Earliest, found, none, unfinished}
 use Rattle.definitions.specs.Answers.{said, saidVerdict, saidSizing, saidHour}
 
 -- a refusal's number and detail tell which it is; 15 to 21 are not given yet
-unsaid : ℕ × ℕ → Refusal
+pub unsaid : ℕ × ℕ → Refusal
 unsaid p =
     let d = p .1 in
     getD
@@ -23,7 +23,7 @@ unsaid p =
     (replicate 7 Refusal.RecordTooLong ++ (Refusal.NoVariable d ∷ Refusal.RepliesLeft d ∷ [])))
     (p .0 - 1) Refusal.RecordTooLong
 
-unsaid-said : (r : Refusal) → unsaid (said r) ≡ r
+pub unsaid-said : (r : Refusal) → unsaid (said r) ≡ r
 unfolding unsaid
 unsaid-said Refusal.RecordTooLong = refl
 unsaid-said Refusal.LengthWrong = refl
@@ -43,7 +43,7 @@ unsaid-said (Refusal.NoVariable d) = refl
 unsaid-said (Refusal.RepliesLeft d) = refl
 
 -- what can be read back from its saying is told by it
-told : {A S : Type 0} (say : A → S) (back : S → A) → ((a : A) → back (say a) ≡ a) → (a b : A) → say a ≡ say b → a ≡ b
+pub told : {A S : Type 0} (say : A → S) (back : S → A) → ((a : A) → back (say a) ≡ a) → (a b : A) → say a ≡ say b → a ≡ b
 told say back e a b h = sym (e a) ∙ ap back h ∙ e b
 
 pub one-verdict : (v v′ : Verdict) → saidVerdict v ≡ saidVerdict v′ → v ≡ v′

@@ -2,3 +2,4 @@ pub mod Said
 pub mod Parts
 pub mod Headers
 pub mod Told
+pub mod Outcome

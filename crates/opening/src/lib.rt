@@ -1,9 +1,9 @@
 // The whole record: 01's refusals 1 to 8 for every input, or its counts and the place where its clauses begin.
 ghost use mathlib.Core.Path.{_≡_};
 ghost use Prim.Native.Nat.{_≤_};
-ghost use Rattle.definitions.specs.Operations.{readBoard};
 ghost use Rattle.reader.specs.Said.{contextOf};
-ghost use Rattle.opening.specs.Said.{mapDone, headerOf, contextIn, saidOpening};
+ghost use Rattle.opening.specs.Said.{contextIn};
+ghost use Rattle.opening.specs.Outcome.{Allowed};
 use definitions::Refusal;
 use reader::Context;
 use reader::Number;
@@ -40,7 +40,7 @@ pub enum Opening {
 
 // Refusals 1 to 8, in 01's order.
 pub fn open(bytes: &[u8]) -> Opening
-    ensures { λ r. ⌜ saidOpening r ≡ mapDone headerOf (readBoard (now (bytes .entry))) ⌝ }
+    ensures { λ r. ⌜ Allowed (now (bytes .entry)) r ⌝ }
 {
     match head::envelope_of(bytes) {
         Number::Value {

@@ -5,11 +5,7 @@ use definitions::Sizing;
 use opening::Header;
 use opening::Opening;
 use opening::open;
-ghost use mathlib.Core.Path.{_≡_};
-ghost use Rattle.definitions.specs.Answers.{saidSizing};
-ghost use Rattle.definitions.specs.Operations.{accepted, Size};
-ghost use Rattle.opening.specs.Said.{mapDone};
-ghost use Rattle.size.specs.Said.{measuredOf, saidMeasured};
+ghost use Rattle.size.specs.Outcome.{Allowed, MeasureAllowed};
 
 pub mod count; // count.rt: how many tuples a comparison has, by formula
 pub mod pieces; // pieces.rt: what a piece of the rules adds
@@ -39,7 +35,7 @@ const LONGEST: usize = 2000000000;
 
 // What all operations do: 01's refusals 1 to 9, or the record's header and sizes.
 pub fn measure(bytes: &[u8]) -> Measured
-    ensures { λ r. ⌜ saidMeasured r ≡ mapDone measuredOf (accepted (now (bytes .entry))) ⌝ }
+    ensures { λ r. ⌜ MeasureAllowed (now (bytes .entry)) r ⌝ }
 {
     match open(bytes) {
         Opening::Board(header) => {
@@ -56,7 +52,7 @@ pub fn measure(bytes: &[u8]) -> Measured
 
 // The three numbers, or refusal 1 to 9.
 pub fn size(bytes: &[u8]) -> Sizing
-    ensures { λ r. ⌜ saidSizing r ≡ Size (now (bytes .entry)) ⌝ }
+    ensures { λ r. ⌜ Allowed (now (bytes .entry)) r ⌝ }
 {
     match measure(bytes) {
         Measured::Board(_, totals) => Sizing::Sizes {

@@ -1,5 +1,5 @@
 -- `basmuthar::basmuthar_decode` meets its contract.
-use mathlib.Core.Path.{ap, ap₂, _∙_}
+use mathlib.Core.Path.{ap, _∙_}
 use borrow.Author.Needs.{needs}
 use Rattle.basmuthar.specs.Interface.{verdictWritten}
 use Rattle.basmuthar.proofs.basmuthar_decode.Statement.{statement}
@@ -20,7 +20,7 @@ same-length-2 c = search needs
 returns : tie.Need-returns
 returns c =
     let leaves = c .before .before .before .before .decode .ensures in
-    (c .verdict-written .ensures ∙ ap verdictWritten (leaves .answer), ap₂ (λ v w. (v, w)) (leaves .values) (leaves .booleans))
+    (c .verdict-written .ensures ∙ ap verdictWritten (leaves .answer), leaves .values, leaves .booleans)
 
 pub basmuthar-decode-spec : {M : Type 1} → statement M
 basmuthar-decode-spec =

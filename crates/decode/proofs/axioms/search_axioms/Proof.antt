@@ -1,12 +1,12 @@
 -- `decode::axioms::search_axioms` meets its contract.
 use borrow.Author.Needs.{needs}
+use borrow.Author.Tests.{not-true, not-false}
 use mathlib.Core.Path.{_≡_, sym, ap, ap₂, _∙_}
 use mathlib.Core.Bool.{Bool}
 use mathlib.Core.List.{List, _++_, flatten}
 use Prim.Native.Nat.{ℕ, _+_, _-_, _≤_, _<_}
 use native.Mathlib.Omega.{arith}
 use lib.ListN.{length}
-use Rattle.definitions.specs.Board.{Board}
 use Rattle.definitions.specs.Encoding.{width, axioms}
 use Rattle.definitions.specs.Encoding as Encoding
 use Rattle.laws.specs.Boards.{boardOf}
@@ -15,95 +15,126 @@ use Rattle.slots.specs.Variables.{bounds-same, first-none, first-more}
 use Rattle.opening.specs.Headers.{ints-is, bools-is, counts-small, admitted}
 use Rattle.decode.specs.Given.{short, inside, ordered, within}
 use Rattle.decode.specs.Truth.{tests}
-use Rattle.decode.specs.Goes.{Goes, goes-start, goes-part, goes-fails, goes-end}
-use Rattle.decode.specs.Axioms.{axiomTests, axioms-first, axioms-fit}
+use Rattle.decode.specs.Goes.{Goes, goes-start, goes-end}
+use Rattle.decode.specs.Axioms.{axiomTests, axiom-holds, axiom-fails, axiom-room, axioms-over, axioms-first, axioms-fit}
 use Rattle.decode.proofs.axioms.search_axioms.Statement.{statement}
 use Rattle.decode.proofs.axioms.search_axioms.Tie as tie
 
+-- the tests of all axioms, and of those from variable x on
+abbrev all : List ℕ → List ℕ → List Bool
+all bytes model = tests (boardOf bytes) model (flatten (axioms (boardOf bytes)))
+
+abbrev from : List ℕ → List ℕ → ℕ → List Bool
+from bytes model x = tests (boardOf bytes) model (axiomsFrom (boardOf bytes) x)
+
 abbrev Inv-loop : tie.InvT-loop
-Inv-loop bytes model header x₀ first₀ number₀ x first number =
-    (x ≤ header .ints) × (first ≡ Encoding.first (boardOf bytes) x) × Goes 0 (tests (boardOf bytes) model (flatten (axioms (boardOf bytes)))) number (tests (boardOf bytes) model (axiomsFrom (boardOf bytes) x))
+Inv-loop bytes model header x first number₀ width k₀ number k =
+    (k ≤ width + 1) × Goes 0 (all bytes model) number (axiomTests model first width k ++ from bytes model (x + 1))
 
 abbrev μ-loop : tie.MeasureT-loop
-μ-loop bytes model header x₀ first₀ number₀ x first number = header .ints - x
+μ-loop bytes model header x first number₀ width k₀ number k = width + 1 - k
 
-abbrev B : tie.Start Inv-loop μ-loop → Board
-B c = boardOf (c .args .bytes .now)
+abbrev Inv-search : tie.InvT-search
+Inv-search bytes model header x₀ first₀ number₀ x first number =
+    (x ≤ header .ints) × (first ≡ Encoding.first (boardOf bytes) x) × Goes 0 (all bytes model) number (from bytes model x)
+
+abbrev μ-search : tie.MeasureT-search
+μ-search bytes model header x₀ first₀ number₀ x first number = header .ints - x
 
 -- the width of variable x was found
-module _ (c : tie.After-width-of Inv-loop μ-loop) where
+module _ (c : tie.After-width-of Inv-loop μ-loop Inv-search μ-search) where
+  abbrev start : tie.Start Inv-loop μ-loop Inv-search μ-search
+  start = c .before .before .before .before .before .before .before .before
+
+  abbrev bytes : List ℕ
+  bytes = start .args .bytes .now
+
+  abbrev model : List ℕ
+  model = start .args .model .now
+
   abbrev x : ℕ
-  x = c .before .before .before .before .loop .x
+  x = c .before .before .before .before .search .x
 
-  room : (1 ≤ c .before .before .before .before .loop .first) × (c .before .before .before .before .loop .first + c .width-of .result ≤ length (c .before .before .before .before .before .before .before .before .args .model .now) + 1) × (2 ≤ c .width-of .result) × (length (c .before .before .before .before .before .before .before .before .args .model .now) < 2147483648)
-  room =
-      let w = within (c .before .before .before .before .before .before .before .before .pre) x (c .before .before .if1 .taken) (c .before .bounds-of .ensures) in
-      rw (c .before .before .before .before .loop .inv .1, c .width-of .ensures) (w .0, w .1, w .2, short (c .before .before .before .before .before .before .before .before .pre))
+  abbrev first : ℕ
+  first = c .before .before .before .before .search .first
 
-  abbrev testsFrom : ℕ → List Bool
-  testsFrom y = tests (B (c .before .before .before .before .before .before .before .before)) (c .before .before .before .before .before .before .before .before .args .model .now) (axiomsFrom (B (c .before .before .before .before .before .before .before .before)) y)
+  abbrev wide : ℕ
+  wide = c .width-of .result
 
-  here : testsFrom x ≡ axiomTests (c .before .before .before .before .before .before .before .before .args .model .now) (c .before .before .before .before .loop .first) (c .before .before .before .before .loop .first + c .width-of .result - 1) ++ testsFrom (x + 1)
+  known : x < length (boardOf bytes .bounds)
+  known = inside (start .pre) x (omega arith) (c .before .bounds-of .ensures)
+
+  room : (1 ≤ first) × (2 ≤ wide) × (first + wide ≤ length model + 1) × (length model < 2147483648)
+  room = omega (arith, within (start .pre) x (omega arith) (c .before .bounds-of .ensures), c .before .before .before .before .search .inv .1, c .width-of .ensures, short (start .pre))
+
+  here : from bytes model x ≡ axiomTests model first wide 0 ++ from bytes model (x + 1)
   here =
-      axioms-first (B (c .before .before .before .before .before .before .before .before)) (c .before .before .before .before .before .before .before .before .args .model .now) x (inside (c .before .before .before .before .before .before .before .before .pre) x (c .before .before .if1 .taken) (c .before .bounds-of .ensures)) (ordered (c .before .before .before .before .before .before .before .before .pre) x (c .before .before .if1 .taken) (c .before .bounds-of .ensures))
-      ∙ ap₂ (λ f w. axiomTests (c .before .before .before .before .before .before .before .before .args .model .now) f (f + w - 1) ++ testsFrom (x + 1)) (sym (c .before .before .before .before .loop .inv .1)) (sym (c .width-of .ensures ∙ ap width (bounds-same (B (c .before .before .before .before .before .before .before .before)) x _ (c .before .bounds-of .ensures))))
+      axioms-first (boardOf bytes) model x known (ordered (start .pre) x (omega arith) (c .before .bounds-of .ensures))
+      ∙ ap₂ (λ f w. axiomTests model f w 0 ++ from bytes model (x + 1)) (sym (c .before .before .before .before .search .inv .1)) (sym (c .width-of .ensures ∙ ap width (bounds-same (boardOf bytes) x _ (c .before .bounds-of .ensures))))
 
-add-first : tie.Need-add-first Inv-loop μ-loop
+  onward : first + wide ≡ Encoding.first (boardOf bytes) (x + 1)
+  onward = omega (arith, first-more (boardOf bytes) x _ known (c .before .bounds-of .ensures), c .width-of .ensures, c .before .before .before .before .search .inv .1)
+
+  fit : length (all bytes model) < 9223372036854775808
+  fit = axioms-fit (boardOf bytes) model (admitted (start .pre .opened))
+
+add-first : tie.Need-add-first Inv-loop μ-loop Inv-search μ-search
 add-first c = omega (arith, counts-small (c .before .before .before .pre .opened))
 
-loop-holds : tie.Need-loop-holds Inv-loop μ-loop
-loop-holds c =
-    (omega arith, rw (bools-is (c .before .before .before .pre .opened)) (sym (first-none (B (c .before .before .before)))), rw (axioms-all (B (c .before .before .before))) (goes-start 0 _))
+search-holds : tie.Need-search-holds Inv-loop μ-loop Inv-search μ-search
+search-holds c =
+    let s = c .before .before .before in
+    let board = boardOf (s .args .bytes .now) in
+    (omega arith, rw (bools-is (s .pre .opened)) (sym (first-none board)), rw (axioms-all board) (goes-start 0 _))
 
-bounds-of-requires : tie.Need-bounds-of-requires Inv-loop μ-loop
-bounds-of-requires c κs = (c .before .before .before .before .before .before .pre .opened .opens, omega (arith, ints-is (c .before .before .before .before .before .before .pre .opened)))
+bounds-of-requires : tie.Need-bounds-of-requires Inv-loop μ-loop Inv-search μ-search
+bounds-of-requires c κs = let o = c .before .before .before .before .before .before .pre .opened in (o .opens, omega (arith, ints-is o))
 
-width-of-requires : tie.Need-width-of-requires Inv-loop μ-loop
+width-of-requires : tie.Need-width-of-requires Inv-loop μ-loop Inv-search μ-search
 width-of-requires c κs = c .bounds-of .ensures .good
 
-cast-width : tie.Need-cast-width Inv-loop μ-loop
+cast-width : tie.Need-cast-width Inv-loop μ-loop Inv-search μ-search
 cast-width c = search needs
 
-add-search-variable : tie.Need-add-search-variable Inv-loop μ-loop
-add-search-variable c = omega (arith, room (c))
+loop-holds : tie.Need-loop-holds Inv-loop μ-loop Inv-search μ-search
+loop-holds c = (omega arith, rw (here c) at (c .before .before .before .before .search .inv .2))
 
-sub-search-variable : tie.Need-sub-search-variable Inv-loop μ-loop
-sub-search-variable c = omega (arith, room (c))
+axiom-holds-requires : tie.Need-axiom-holds-requires Inv-loop μ-loop Inv-search μ-search
+axiom-holds-requires c κs = omega (arith, room (c .before .before))
 
-search-variable-requires : tie.Need-search-variable-requires Inv-loop μ-loop
-search-variable-requires c κs =
-    omega (arith, room (c), axioms-fit (B (c .before .before .before .before .before .before .before .before)) (c .before .before .before .before .before .before .before .before .args .model .now) (admitted (c .before .before .before .before .before .before .before .before .pre .opened)), c .before .before .before .before .loop .inv .2 .count)
+add-k : tie.Need-add-k Inv-loop μ-loop Inv-search μ-search
+add-k c = omega (arith, room (c .before .before .before .before))
 
-enum-known-checked : tie.Need-enum-known-checked Inv-loop μ-loop
-enum-known-checked c = search needs
+add-number : tie.Need-add-number Inv-loop μ-loop Inv-search μ-search
+add-number c = omega (arith, axiom-room _ _ _ _ _ (c .before .before .before .loop .inv .1) (c .before .before .loop-test .taken), fit (c .before .before .before .before))
 
-enum-told : tie.Need-enum-told Inv-loop μ-loop
-enum-told c = search needs
-
-returns : tie.Need-returns Inv-loop μ-loop
-returns c =
-    rw (c .enum-told .given .1) (goes-fails (c .before .before .before .before .before .before .before .loop .inv .2) _ _ (here (c .before .before .before)) _ (c .before .before .search-variable .ensures) (c .enum-told .given .1))
-
-add-x : tie.Need-add-x Inv-loop μ-loop
-add-x c = omega arith
-
-add-first-2 : tie.Need-add-first-2 Inv-loop μ-loop
-add-first-2 c = omega (arith, room (c .before .before .before .before))
-
-loop-less : tie.Need-loop-less Inv-loop μ-loop
+loop-less : tie.Need-loop-less Inv-loop μ-loop Inv-search μ-search
 loop-less c = omega arith
 
-loop-again : tie.Need-loop-again Inv-loop μ-loop
+loop-again : tie.Need-loop-again Inv-loop μ-loop Inv-search μ-search
 loop-again c =
-    let v = c .before .before .before .before in (
-      omega arith,
-      omega (arith, first-more (B (c .before .before .before .before .before .before .before .before .before .before .before .before)) (x v) _ (inside (c .before .before .before .before .before .before .before .before .before .before .before .before .pre) (x v) (c .before .before .before .before .before .before .if1 .taken) (c .before .before .before .before .before .bounds-of .ensures)) (c .before .before .before .before .before .bounds-of .ensures), c .before .before .before .before .width-of .ensures),
-      goes-part (c .before .before .before .before .before .before .before .before .loop .inv .2) _ _ (here v) _ (c .before .before .before .search-variable .ensures) (c .before .checked .given .1),
-    )
+    (omega arith, axiom-holds _ _ _ _ _ (c .before .before .before .loop .inv .1) (c .before .before .loop-test .taken) (sym (c .before .axiom-holds .ensures) ∙ not-false _ (c .if2 .left)))
 
-returns-2 : tie.Need-returns-2 Inv-loop μ-loop
-returns-2 c =
-    goes-end (c .before .before .loop .inv .2) (ap (tests (B (c .before .before .before .before .before .before)) (c .before .before .before .before .before .before .args .model .now)) (axioms-none (B (c .before .before .before .before .before .before)) _ (omega (arith, ints-is (c .before .before .before .before .before .before .pre .opened)))))
+add-x : tie.Need-add-x Inv-loop μ-loop Inv-search μ-search
+add-x c = omega arith
+
+add-first-2 : tie.Need-add-first-2 Inv-loop μ-loop Inv-search μ-search
+add-first-2 c = omega (arith, room (c .before .before))
+
+search-less : tie.Need-search-less Inv-loop μ-loop Inv-search μ-search
+search-less c = omega arith
+
+search-again : tie.Need-search-again Inv-loop μ-loop Inv-search μ-search
+search-again c = (omega arith, onward (c .before .before), axioms-over _ _ _ _ _ (c .before .loop .inv .1) (c .loop-test .left))
+
+returns : tie.Need-returns Inv-loop μ-loop Inv-search μ-search
+returns c =
+    let s = c .before .before .before .before .before .before in
+    let board = boardOf (s .args .bytes .now) in
+    goes-end (c .before .before .search .inv .2) (ap (tests board (s .args .model .now)) (axioms-none board _ (omega (arith, ints-is (s .pre .opened)))))
+
+returns-2 : tie.Need-returns-2 Inv-loop μ-loop Inv-search μ-search
+returns-2 c = axiom-fails _ _ _ _ _ (c .before .before .before .loop .inv .1) (c .before .before .loop-test .taken) (sym (c .before .axiom-holds .ensures) ∙ not-true _ (c .if2 .taken))
 
 pub search-axioms-spec : {M : Type 1} → statement M
 search-axioms-spec =
@@ -111,19 +142,22 @@ search-axioms-spec =
     (tie.spec
     Inv-loop
     μ-loop
+    Inv-search
+    μ-search
     add-first
-    loop-holds
+    search-holds
     bounds-of-requires
     width-of-requires
     cast-width
-    add-search-variable
-    sub-search-variable
-    search-variable-requires
-    enum-known-checked
-    enum-told
-    returns
-    add-x
-    add-first-2
+    loop-holds
+    axiom-holds-requires
+    add-k
+    add-number
     loop-less
     loop-again
+    add-x
+    add-first-2
+    search-less
+    search-again
+    returns
     returns-2)
