@@ -1,5 +1,5 @@
--- The starred examples of 01 and the figures of 02, in one table, and one statement: what the definitions answer is what the
--- document says, or what follows from it.
+-- The starred examples of 01, its refusals and the figures of 02, in one table, and one statement: what the definitions answer is
+-- what the document says, or what follows from it.
 use Prim.Native.Nat.{ℕ, zero, suc, _+_, _*_, _-_}
 use mathlib.Core.Path.{_≡_, refl}
 use mathlib.Core.Bool.{Bool, true, false, not, _&&_}
@@ -65,6 +65,7 @@ once (c ∷ cs) = c ∷ keep (λ d. not (equal c d)) (once cs)
 pub data Question : Type 0 where
   howLong : String → Question
   size : String → Question
+  sizeOf : List ℕ → Question
   compile : String → List ℤ → Question
   decode : String → List ℕ → List ℤ → List ℕ → Question
   judge : String → List ℤ → List ℕ → Question
@@ -103,6 +104,7 @@ onBoard (refused n d) f = sized (refused n d)
 abbrev pub ask : Question → Answer
 ask (howLong s) = long (length (hex s))
 ask (size s) = sized (Size (hex s))
+ask (sizeOf bytes) = sized (Size bytes)
 ask (compile s list) = compiled (Compile (hex s) list)
 ask (decode s model values booleans) = decoded (Decode (hex s) model values booleans)
 ask (judge s values booleans) = judged (Judge (hex s) values booleans)
@@ -154,6 +156,17 @@ eight = "01 0000001D 0001 0000 0001 0000 0003 02 02 01 01 0000 00000001 02 01 01
 abbrev thirteen : String
 thirteen = "01 00000027 0002 0000 0001 0000 0002 0000 0002 02 02 02 01 0000 FF 0001 FFFFFFFF 02 02 FF 0000 01 0001 FFFFFFFF"
 
+-- case 10 with coefficients 65, and with version 9 as well
+abbrev eleven : String
+eleven = "01 00000022 0003 0000 0001 F000 0FFF F000 0FFF F000 0FFF 01 02 03 41 0000 41 0001 41 0002 00000000"
+
+abbrev eleven₉ : String
+eleven₉ = "09 00000022 0003 0000 0001 F000 0FFF F000 0FFF F000 0FFF 01 02 03 41 0000 41 0001 41 0002 00000000"
+
+-- x in 0..1 and two Booleans: the first; not the second or x at most 0
+abbrev flags : String
+flags = "01 0000001B 0001 0002 0002 0000 0001 01 00 0001 02 01 0002 02 01 01 0000 00000000"
+
 -- one variable each, no clause: 003's makespan, hours around 0, and the widest range
 abbrev makespan : String
 makespan = "01 0000000A 0001 0000 0000 03E8 05E5"
@@ -193,12 +206,14 @@ asks low high h = hour (done (unfinished (record { lo = low; hi = high }) h))
 abbrev finds : ℤ → Answer
 finds v = hour (done (found v))
 
--- a line of the table: 01's case or 02's request, what is asked of the definitions, what the document says of it. Where 01 does
--- not say it in so many words it follows from 01's rules: in 4 decode, judge and three of the clauses, in 5 compile, print and
--- the clauses at 0, in 7 compile, in 13 judge and image. Of P9's rows those of `makespan` are 003's Table 1 after the first
--- question, and the others follow from 02's sentences
+-- a line of the table: 01's case, 01's refusal or 02's request, what is asked of the definitions, what the document says of it.
+-- Where 01 does not say it in so many words it follows from 01's rules: in 4 decode, judge and three of the clauses, in 5 compile,
+-- print and the clauses at 0, in 7 compile, in 12 the list, in 13 judge and image. Of P9's rows those of `makespan` are 003's
+-- Table 1 after the first question, and the others follow from 02's sentences
 pub data Source : Type 0 where
   caseOf01 : ℕ → Source
+  refusalOf01 : ℕ → Source
+  rulesOf01 : Source
   requestOf02 : ℕ → Source
 
 pub record Row : Type 0 where
@@ -209,6 +224,35 @@ pub record Row : Type 0 where
 infix 10 case_∶_⇒_
 abbrev pub case_∶_⇒_ : ℕ → Question → Answer → Row
 case n ∶ q ⇒ a = record { source = caseOf01 n; question = q; document = a }
+
+-- a question and its refusal, what was lent as it was
+abbrev Refusable : Type 0
+Refusable = Question × (ℕ → ℕ → Answer)
+
+abbrev read : String → Refusable
+read s = (size s, λ n d. sized (refused n d))
+
+abbrev readBytes : List ℕ → Refusable
+readBytes s = (sizeOf s, λ n d. sized (refused n d))
+
+abbrev toDecode : String → List ℕ → List ℤ → List ℕ → Refusable
+toDecode s model values booleans = (decode s model values booleans, λ n d. decoded (refused n d leaves (values, booleans)))
+
+abbrev toJudge : String → List ℤ → List ℕ → Refusable
+toJudge s values booleans = (judge s values booleans, λ n d. judged (refused n d))
+
+abbrev toImage : String → List ℤ → List ℕ → List ℕ → Refusable
+toImage s values booleans model = (image s values booleans model, λ n d. imaged (refused n d leaves model))
+
+-- a line of 01's table of refusals, its number and detail
+infix 10 refusal_detail_∶_
+abbrev pub refusal_detail_∶_ : ℕ → ℕ → Refusable → Row
+refusal n detail d ∶ q = record { source = refusalOf01 n; question = q .0; document = q .1 n d }
+
+-- what is accepted beside them, by 01's rules
+infix 10 follows∶_⇒_
+abbrev pub follows∶_⇒_ : Question → Answer → Row
+follows∶ q ⇒ a = record { source = rulesOf01; question = q; document = a }
 
 infix 10 P_∶_⇒_
 abbrev pub P_∶_⇒_ : ℕ → Question → Answer → Row
@@ -251,6 +295,13 @@ table =
     (case 8 ∶ howMany eight ⇒ models-solutions-plain 7 3 3) ∷
     (case 9 ∶ translation (record { coef = neg 3; var = 0 }) (neg 7) ⇒ literal (minus (order 0 (pos 2)))) ∷
     (case 9 ∶ translation (record { coef = pos 3; var = 0 }) (neg 7) ⇒ literal (plus (order 0 (neg 3)))) ∷
+    (case 11 ∶ size eleven ⇒ sized (refused 7 26)) ∷
+    (case 11 ∶ size eleven₉ ⇒ sized (refused 3 0)) ∷
+    (case 12 ∶ compile two (replicate 52 (pos 7)) ⇒ compiled (refused 10 53 leaves replicate 52 (pos 7))) ∷
+    (case 12 ∶ compile two (replicate 54 (pos 7)) ⇒ compiled (NMK 12 19 53 leaves
+    (neg 1 ∷ pos 0 ∷ pos 6 ∷ pos 0 ∷ neg 1 ∷ pos 2 ∷ pos 0 ∷ neg 2 ∷ pos 3 ∷ pos 0 ∷ neg 3 ∷ pos 4 ∷ pos 0 ∷ neg 4 ∷ pos 5 ∷ pos 0 ∷ neg 5 ∷ pos 6 ∷ pos 0 ∷
+    neg 7 ∷ pos 0 ∷ pos 12 ∷ pos 0 ∷ neg 7 ∷ pos 8 ∷ pos 0 ∷ neg 8 ∷ pos 9 ∷ pos 0 ∷ neg 9 ∷ pos 10 ∷ pos 0 ∷ neg 10 ∷ pos 11 ∷ pos 0 ∷ neg 11 ∷ pos 12 ∷ pos 0 ∷
+    pos 1 ∷ pos 11 ∷ pos 0 ∷ pos 2 ∷ pos 10 ∷ pos 0 ∷ pos 3 ∷ pos 9 ∷ pos 0 ∷ pos 4 ∷ pos 8 ∷ pos 0 ∷ pos 5 ∷ pos 7 ∷ pos 0 ∷ pos 7 ∷ []))) ∷
     (case 13 ∶ howLong thirteen ⇒ long 44) ∷
     (case 13 ∶ size thirteen ⇒ sized (NMK 10 17 53)) ∷
     (case 13 ∶ numbers thirteen ⇒ numbered
@@ -266,6 +317,99 @@ table =
     (case 13 ∶ judge thirteen (pos 1 ∷ pos 1 ∷ []) [] ⇒ judged (refused 13 0)) ∷
     (case 13 ∶ image thirteen (pos 0 ∷ pos 1 ∷ []) [] (7 ∷ 7 ∷ 7 ∷ 7 ∷ 7 ∷ 7 ∷ 7 ∷ 7 ∷ 7 ∷ 7 ∷ []) ⇒
     imaged (accept leaves (0 ∷ 1 ∷ 1 ∷ 1 ∷ 0 ∷ 0 ∷ 1 ∷ 1 ∷ 1 ∷ 0 ∷ []))) ∷
+    -- 1, 2 and 3: the length above 65,536 before all else, fewer than 5 bytes before the version, that before the stated length
+    (refusal 1 detail 0 ∶ readBytes (replicate 65537 0)) ∷  -- a byte too many; the version is wrong too
+    (refusal 3 detail 0 ∶ readBytes (replicate 65536 0)) ∷  -- not too long; version 0
+    (refusal 2 detail 0 ∶ read "") ∷  -- no byte
+    (refusal 2 detail 0 ∶ read "09 000000") ∷  -- 4 bytes; the version is wrong too
+    (refusal 3 detail 0 ∶ read "09 00000000") ∷  -- 5 bytes, version 9
+    (refusal 3 detail 0 ∶ read "02 00000007 0000 0000 0000") ∷  -- version 2; the stated length is wrong too
+    (refusal 2 detail 0 ∶ read "01 00000007 0401 0000 0000") ∷  -- stated a byte too long; a count is wrong too
+    (refusal 2 detail 0 ∶ read "01 00000005 0401 0000 0000") ∷  -- stated a byte too short
+    -- 4: each count, its limits, and from left to right
+    (refusal 4 detail 5 ∶ read "01 00000006 0401 1001 1001") ∷  -- 1,025 integer variables
+    (refusal 4 detail 7 ∶ read "01 00000006 0400 1001 1001") ∷  -- 1,024 of them; 4,097 Boolean variables
+    (refusal 4 detail 9 ∶ read "01 00000006 0400 1000 1001") ∷  -- 4,096 of them; 4,097 clauses
+    (refusal 8 detail 11 ∶ read "01 00000006 0400 1000 1000") ∷  -- 4,096 of them; the first bound is missing
+    (refusal 4 detail 11 ∶ read "01 00000007 0000 0000 0001 41") ∷  -- 65 literals
+    (refusal 8 detail 12 ∶ read "01 00000007 0000 0000 0001 40") ∷  -- 64 literals; the first kind is missing
+    (refusal 4 detail 13 ∶ read "01 00000009 0000 0000 0001 01 02 00") ∷  -- no term
+    (refusal 4 detail 13 ∶ read "01 00000009 0000 0000 0001 01 02 04") ∷  -- 4 terms
+    (refusal 8 detail 14 ∶ read "01 00000009 0000 0000 0001 01 02 03") ∷  -- 3 terms; the first coefficient is missing
+    -- 5: each bound, its limits, an upper below its lower
+    (refusal 5 detail 11 ∶ read "01 0000000A 0001 0000 0000 EFFF 1000") ∷  -- lower -4,097; the upper is wrong too
+    (refusal 5 detail 11 ∶ read "01 0000000A 0001 0000 0000 1000 1000") ∷  -- lower 4,096
+    (refusal 5 detail 13 ∶ read "01 0000000A 0001 0000 0000 F000 EFFF") ∷  -- lower -4,096; upper -4,097
+    (refusal 5 detail 13 ∶ read "01 0000000A 0001 0000 0000 0FFF 1000") ∷  -- lower 4,095; upper 4,096
+    (refusal 5 detail 13 ∶ read "01 0000000A 0001 0000 0000 0005 0004") ∷  -- upper 4 below lower 5
+    (refusal 5 detail 17 ∶ read "01 0000000E 0002 0000 0000 0005 0005 0001 0000") ∷  -- the same of the second variable
+    (follows∶ size "01 0000000E 0002 0000 0000 F000 F000 0FFF 0FFF" ⇒ sized (NMK 4 6 14)) ∷  -- each limit as lower and as upper
+    -- 6: kind and Boolean number
+    (refusal 6 detail 12 ∶ read "01 0000000A 0000 0001 0001 01 03 0000") ∷  -- kind 3; a Boolean number is wrong too
+    (refusal 6 detail 12 ∶ read "01 0000000A 0000 0001 0001 01 FF 0001") ∷  -- kind 255
+    (refusal 6 detail 13 ∶ read "01 0000000A 0000 0001 0001 01 00 0000") ∷  -- Boolean 0
+    (refusal 6 detail 13 ∶ read "01 0000000A 0000 0001 0001 01 00 0002") ∷  -- Boolean 2 of 1
+    (refusal 6 detail 13 ∶ read "01 0000000A 0000 0001 0001 01 01 0000") ∷  -- negated Boolean 0
+    (refusal 6 detail 13 ∶ read "01 0000000A 0000 0001 0001 01 01 0002") ∷  -- negated Boolean 2 of 1
+    (follows∶ size "01 0000000D 0000 0002 0001 02 00 0001 01 0002" ⇒ sized (NMK 2 1 3)) ∷  -- 1 and 2 of 2
+    -- 7: coefficient, variable, constant; term by term and before the constant
+    (refusal 7 detail 18 ∶ read "01 00000014 0001 0000 0001 0000 0003 01 02 01 00 0001 7FFFFFFF") ∷  -- coefficient 0; variable and constant are wrong too
+    (refusal 7 detail 18 ∶ read "01 00000014 0001 0000 0001 0000 0003 01 02 01 41 0001 7FFFFFFF") ∷  -- coefficient 65
+    (refusal 7 detail 18 ∶ read "01 00000014 0001 0000 0001 0000 0003 01 02 01 BF 0001 7FFFFFFF") ∷  -- coefficient -65
+    (refusal 7 detail 19 ∶ read "01 00000014 0001 0000 0001 0000 0003 01 02 01 40 0001 7FFFFFFF") ∷  -- coefficient 64; variable 1 of one
+    (refusal 7 detail 21 ∶ read "01 00000014 0001 0000 0001 0000 0003 01 02 01 C0 0000 000F4241") ∷  -- coefficient -64; constant 1,000,001
+    (refusal 7 detail 21 ∶ read "01 00000014 0001 0000 0001 0000 0003 01 02 01 C0 0000 FFF0BDBF") ∷  -- constant -1,000,001
+    (follows∶ size "01 00000014 0001 0000 0001 0000 0003 01 02 01 01 0000 000F4240" ⇒ sized (NMK 5 6 16)) ∷  -- constant 1,000,000: it always holds
+    (follows∶ size "01 00000014 0001 0000 0001 0000 0003 01 02 01 01 0000 FFF0BDC0" ⇒ sized (NMK 5 7 17)) ∷  -- constant -1,000,000: it never holds
+    (refusal 7 detail 22 ∶ read "01 00000013 0001 0000 0001 0000 0003 01 02 02 01 0000 01 0000") ∷  -- variable 0 again; the constant is missing too
+    (refusal 7 detail 29 ∶ read "01 0000001E 0002 0000 0001 0000 0003 0000 0003 01 02 03 01 0000 01 0001 01 0000 00000001") ∷  -- variable 0 again, after 1
+    -- 8: each field cut short, before its value (what is there would be out of range), and bytes left over
+    (refusal 8 detail 5 ∶ read "01 00000000") ∷  -- no count
+    (refusal 8 detail 5 ∶ read "01 00000001 FF") ∷  -- integer variables
+    (refusal 8 detail 7 ∶ read "01 00000003 0000 FF") ∷  -- Boolean variables
+    (refusal 8 detail 9 ∶ read "01 00000005 0000 0000 FF") ∷  -- clauses
+    (refusal 8 detail 11 ∶ read "01 00000007 0001 0000 0000 7F") ∷  -- lower bound
+    (refusal 8 detail 13 ∶ read "01 00000009 0001 0000 0000 0005 7F") ∷  -- upper bound
+    (refusal 8 detail 11 ∶ read "01 00000006 0000 0000 0001") ∷  -- literal count
+    (refusal 8 detail 12 ∶ read "01 00000007 0000 0001 0001 01") ∷  -- kind
+    (refusal 8 detail 13 ∶ read "01 00000009 0000 0001 0001 01 00 FF") ∷  -- Boolean number
+    (refusal 8 detail 13 ∶ read "01 00000009 0000 0001 0001 01 01 FF") ∷  -- of a negated Boolean
+    (refusal 8 detail 13 ∶ read "01 00000008 0000 0000 0001 01 02") ∷  -- term count
+    (refusal 8 detail 18 ∶ read "01 0000000D 0001 0000 0001 0000 0003 01 02 01") ∷  -- coefficient
+    (refusal 8 detail 19 ∶ read "01 0000000F 0001 0000 0001 0000 0003 01 02 01 01 FF") ∷  -- variable
+    (refusal 8 detail 21 ∶ read "01 00000013 0001 0000 0001 0000 0003 01 02 01 01 0000 7FFFFF") ∷  -- constant
+    (refusal 8 detail 11 ∶ read "01 00000007 0000 0000 0000 00") ∷  -- a byte after the counts
+    (refusal 8 detail 15 ∶ read "01 0000000C 0001 0000 0000 0005 0005 00 00") ∷  -- two bytes after the variable table: the first
+    (refusal 8 detail 15 ∶ read "01 0000000B 0000 0001 0001 01 00 0001 01") ∷  -- a byte after the last clause
+    -- 11 to 14. Decode: model, values, Booleans; then 12, 13
+    (refusal 11 detail 6 ∶ toDecode flags (0 ∷ 0 ∷ 0 ∷ 0 ∷ 2 ∷ []) (pos 7 ∷ pos 7 ∷ []) (7 ∷ [])) ∷  -- model of 5; the other lengths and a byte are wrong too
+    (refusal 11 detail 6 ∶ toDecode flags (0 ∷ 0 ∷ 0 ∷ 0 ∷ 2 ∷ 0 ∷ 0 ∷ []) (pos 7 ∷ pos 7 ∷ []) (7 ∷ [])) ∷  -- model of 7
+    (refusal 11 detail 1 ∶ toDecode flags (0 ∷ 0 ∷ 0 ∷ 0 ∷ 2 ∷ 0 ∷ []) (pos 7 ∷ pos 7 ∷ []) (7 ∷ [])) ∷  -- 2 values
+    (refusal 11 detail 2 ∶ toDecode flags (0 ∷ 0 ∷ 0 ∷ 0 ∷ 2 ∷ 0 ∷ []) (pos 7 ∷ []) (7 ∷ [])) ∷  -- 1 Boolean
+    (refusal 12 detail 4 ∶ toDecode flags (0 ∷ 0 ∷ 0 ∷ 0 ∷ 2 ∷ 0 ∷ []) (pos 7 ∷ []) (7 ∷ 7 ∷ [])) ∷  -- byte 4; clause 1 does not hold either
+    (refusal 13 detail 4 ∶ toDecode flags (0 ∷ 0 ∷ 0 ∷ 1 ∷ 1 ∷ 0 ∷ []) (pos 7 ∷ []) (7 ∷ 7 ∷ [])) ∷  -- the axioms hold; the first Boolean
+    -- Judge: values, Booleans; then 12, 14, 13
+    (refusal 11 detail 1 ∶ toJudge flags (pos 2 ∷ pos 2 ∷ []) (2 ∷ [])) ∷  -- 2 values; all else is wrong too
+    (refusal 11 detail 2 ∶ toJudge flags (pos 2 ∷ []) (2 ∷ [])) ∷  -- 1 Boolean
+    (refusal 12 detail 1 ∶ toJudge flags (pos 2 ∷ []) (0 ∷ 2 ∷ [])) ∷  -- byte 1
+    (refusal 14 detail 0 ∶ toJudge flags (pos 2 ∷ []) (0 ∷ 1 ∷ [])) ∷  -- value 0 above its upper
+    (refusal 14 detail 0 ∶ toJudge flags (neg 1 ∷ []) (0 ∷ 1 ∷ [])) ∷  -- and below its lower
+    (refusal 13 detail 0 ∶ toJudge flags (pos 1 ∷ []) (0 ∷ 1 ∷ [])) ∷  -- neither clause holds: the first
+    (refusal 13 detail 1 ∶ toJudge flags (pos 1 ∷ []) (1 ∷ 1 ∷ [])) ∷  -- the second
+    (refusal 14 detail 1 ∶ toJudge thirteen (pos 1 ∷ pos 3 ∷ []) []) ∷  -- value 1 above its upper
+    -- Image: values, Booleans, model; then as Judge
+    (refusal 11 detail 1 ∶ toImage flags (pos 2 ∷ pos 2 ∷ []) (2 ∷ []) (7 ∷ [])) ∷  -- 2 values; all else is wrong too
+    (refusal 11 detail 2 ∶ toImage flags (pos 2 ∷ []) (2 ∷ []) (7 ∷ [])) ∷  -- 1 Boolean
+    (refusal 11 detail 6 ∶ toImage flags (pos 2 ∷ []) (0 ∷ 2 ∷ []) (7 ∷ [])) ∷  -- model of 1
+    (refusal 12 detail 1 ∶ toImage flags (pos 2 ∷ []) (0 ∷ 2 ∷ []) (7 ∷ 7 ∷ 7 ∷ 7 ∷ 7 ∷ 7 ∷ [])) ∷  -- byte 1 of the Booleans; the model is not looked at
+    (refusal 14 detail 0 ∶ toImage flags (pos 2 ∷ []) (0 ∷ 1 ∷ []) (7 ∷ 7 ∷ 7 ∷ 7 ∷ 7 ∷ 7 ∷ [])) ∷  -- value 0
+    (refusal 13 detail 0 ∶ toImage flags (pos 1 ∷ []) (0 ∷ 1 ∷ []) (7 ∷ 7 ∷ 7 ∷ 7 ∷ 7 ∷ 7 ∷ [])) ∷  -- clause 0
+    -- the board with Booleans, accepted
+    (follows∶ print flags ⇒ text (ascii "p cnf 6 7\n-3 0\n5 0\n-3 4 0\n-4 5 0\n1 0\n-2 6 0\n-6 4 0\n")) ∷
+    (follows∶ howMany flags ⇒ models-solutions-plain 4 3 3) ∷
+    (follows∶ decode flags (1 ∷ 1 ∷ 0 ∷ 1 ∷ 1 ∷ 1 ∷ []) (pos 7 ∷ []) (7 ∷ 7 ∷ []) ⇒ decoded (accept leaves (pos 0 ∷ [], 1 ∷ 1 ∷ []))) ∷
+    (follows∶ judge flags (pos 0 ∷ []) (1 ∷ 1 ∷ []) ⇒ judged accept) ∷
+    (follows∶ image flags (pos 0 ∷ []) (1 ∷ 1 ∷ []) (7 ∷ 7 ∷ 7 ∷ 7 ∷ 7 ∷ 7 ∷ []) ⇒ imaged (accept leaves (1 ∷ 1 ∷ 0 ∷ 1 ∷ 1 ∷ 1 ∷ []))) ∷
     (P 9 ∶ closing makespan 0 [] ⇒ asks (pos 1000) (pos 1509) (pos 1509)) ∷
     (P 9 ∶ closing makespan 0 (1 ∷ []) ⇒ asks (pos 1000) (pos 1509) (pos 1254)) ∷
     (P 9 ∶ closing makespan 0 (1 ∷ 1 ∷ []) ⇒ asks (pos 1000) (pos 1254) (pos 1127)) ∷
@@ -305,4 +449,4 @@ Holds r = ask (r .question) ≡ r .document
 
 pub the-examples-hold : All Holds table
 unfolding all-open
-the-examples-hold = (refl, (refl, (refl, (refl, (refl, (refl, (refl, (refl, (refl, (refl, (refl, (refl, (refl, (refl, (refl, (refl, (refl, (refl, (refl, (refl, (refl, (refl, (refl, (refl, (refl, (refl, (refl, (refl, (refl, (refl, (refl, (refl, (refl, (refl, (refl, (refl, (refl, (refl, (refl, (refl, (refl, (refl, (refl, (refl, (refl, (refl, (refl, (refl, (refl, (refl, (refl, (refl, (refl, (refl, (refl, (refl, (refl, (refl, (refl, (refl, (refl, (refl, (refl, (refl, tt))))))))))))))))))))))))))))))))))))))))))))))))))))))))))))))))
+the-examples-hold = (refl, (refl, (refl, (refl, (refl, (refl, (refl, (refl, (refl, (refl, (refl, (refl, (refl, (refl, (refl, (refl, (refl, (refl, (refl, (refl, (refl, (refl, (refl, (refl, (refl, (refl, (refl, (refl, (refl, (refl, (refl, (refl, (refl, (refl, (refl, (refl, (refl, (refl, (refl, (refl, (refl, (refl, (refl, (refl, (refl, (refl, (refl, (refl, (refl, (refl, (refl, (refl, (refl, (refl, (refl, (refl, (refl, (refl, (refl, (refl, (refl, (refl, (refl, (refl, (refl, (refl, (refl, (refl, (refl, (refl, (refl, (refl, (refl, (refl, (refl, (refl, (refl, (refl, (refl, (refl, (refl, (refl, (refl, (refl, (refl, (refl, (refl, (refl, (refl, (refl, (refl, (refl, (refl, (refl, (refl, (refl, (refl, (refl, (refl, (refl, (refl, (refl, (refl, (refl, (refl, (refl, (refl, (refl, (refl, (refl, (refl, (refl, (refl, (refl, (refl, (refl, (refl, (refl, (refl, (refl, (refl, (refl, (refl, (refl, (refl, (refl, (refl, (refl, (refl, (refl, (refl, (refl, (refl, (refl, (refl, (refl, (refl, (refl, (refl, (refl, (refl, (refl, (refl, (refl, (refl, (refl, (refl, (refl, (refl, (refl, (refl, tt)))))))))))))))))))))))))))))))))))))))))))))))))))))))))))))))))))))))))))))))))))))))))))))))))))))))))))))))))))))))))))))))))))))))))))))))))))))))

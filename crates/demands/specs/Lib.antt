@@ -12,6 +12,8 @@ pub mod Passed
 pub mod Accepts
 pub mod Flat
 pub mod Demand1
+pub mod Refusals
+pub mod TooLarge
 pub mod Demand2
 pub mod Demand3
 pub mod Bisection

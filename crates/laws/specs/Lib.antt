@@ -28,4 +28,6 @@ pub mod Spelling
 pub mod Grammar
 pub mod Reads
 pub mod Reread
+pub mod Refusals
+pub mod Explained
 pub mod Boards

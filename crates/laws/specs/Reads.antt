@@ -20,10 +20,10 @@ use Rattle.laws.specs.Spelling.{several, natural, integer, boundsFields,
 use Rattle.laws.specs.Grammar.{Grammar, _⇒_, Just, just, Spelt, spelt, Then, _then_, Image, image, Reads, reads-as, reads-give, reads-asked, reads-bind, reads-mapped, reads-times, reads-unsigned, reads-signed, reads-tested, Many}
 
 -- ---- tests
-apart : (b : Bool) {P : Type 0} → Decides b P → Decides (not b) (¬ P)
+pub apart : (b : Bool) {P : Type 0} → Decides b P → Decides (not b) (¬ P)
 apart b d = record { sound = λ t p. T-not b t (d .full p); full = λ n. not-T b (λ t. n (d .sound t)) }
 
-equalsZ : (a b : ℤ) → Decides (eqZ a b) (a ≡ b)
+pub equalsZ : (a b : ℤ) → Decides (eqZ a b) (a ≡ b)
 equalsZ a b =
     let d = both (leZ a b) (leZ b a) (at-mostZ a b) (at-mostZ b a) in
     record {
@@ -35,18 +35,18 @@ neither : (b c : Bool) {P Q : Type 0} → Decides (not b) P → Decides (not c) 
 neither true c d e = record { sound = λ t. absurd t; full = λ h. d .full (h .0) }
 neither false c d e = record { sound = λ t. (d .sound tt, e .sound t); full = λ h. e .full (h .1) }
 
-new : (x : ℕ) (seen : List ℕ) → Decides (not (any (eqb x) seen)) (All (λ y. x ≢ y) seen)
+pub new : (x : ℕ) (seen : List ℕ) → Decides (not (any (eqb x) seen)) (All (λ y. x ≢ y) seen)
 new x [] = record { sound = λ t. tt; full = λ t. tt }
 new x (y ∷ seen) = neither (eqb x y) (any (eqb x) seen) (apart (eqb x y) (equals x y)) (new x seen)
 
 -- ---- fields
-abbrev FromTo : ℕ → ℕ → ℕ → Type 0
+abbrev pub FromTo : ℕ → ℕ → ℕ → Type 0
 FromTo least most n = (least ≤ n) × (n ≤ most)
 
-abbrev Within : ℤ → ℤ → ℤ → Type 0
+abbrev pub Within : ℤ → ℤ → ℤ → Type 0
 Within lo hi z = (lo ≤ℤ z) × (z ≤ℤ hi)
 
-from-to : (least most n : ℕ) → Decides (leb least n && leb n most) (FromTo least most n)
+pub from-to : (least most n : ℕ) → Decides (leb least n && leb n most) (FromTo least most n)
 from-to least most n = both (leb least n) (leb n most) (at-most least n) (at-most n most)
 
 abbrev Natural : (ℕ → Type 0) → ℕ → Grammar ℕ
