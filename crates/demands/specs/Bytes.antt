@@ -55,16 +55,16 @@ module _ (B : Board) where
       (all-map P selector (countUp 0 s) (all-countUp (λ j. P (selector j)) 0 s (λ j l u. f (selector j) (omega arith))))
 
   -- each atom's truth in turn
-  abbrev pub bytesOf : (Atom → Bool) → List ℕ
-  bytesOf v = map (λ x. bit (v x)) (atoms B)
+  abbrev pub modelBytes : (Atom → Bool) → List ℕ
+  modelBytes v = map (λ x. bit (v x)) (atoms B)
 
-  pub bytes-length : (v : Atom → Bool) → length (bytesOf v) ≡ N B
+  pub bytes-length : (v : Atom → Bool) → length (modelBytes v) ≡ N B
   bytes-length v = length-map (atoms B) (λ x. bit (v x)) ∙ sym (N-is B)
 
-  pub bytes-small : (v : Atom → Bool) → All (λ b. b ≤ 1) (bytesOf v)
+  pub bytes-small : (v : Atom → Bool) → All (λ b. b ≤ 1) (modelBytes v)
   bytes-small v = all-map (λ b. b ≤ 1) (λ x. bit (v x)) (atoms B) (all-every (λ x. bit (v x) ≤ 1) (λ x. bit-most (v x)) (atoms B))
 
-  pub bytes-bools : (v : Atom → Bool) → take (B .bools) (bytesOf v) ≡ map (λ i. bit (v (bool i))) (countUp 1 (B .bools))
+  pub bytes-bools : (v : Atom → Bool) → take (B .bools) (modelBytes v) ≡ map (λ i. bit (v (bool i))) (countUp 1 (B .bools))
   unfolding atoms
   bytes-bools v =
       let f : Atom → ℕ = λ x. bit (v x) in
@@ -76,19 +76,19 @@ module _ (B : Board) where
       ∙ take-at (map f (map bool is)) (map f (os ++ ss)) (B .bools) (length-map (map bool is) f ∙ length-map is bool ∙ length-countUp 1 (B .bools))
       ∙ map-map f bool is
 
-  pub bytes-read : (v : Atom → Bool) (x : Atom) → Has B x → inModel B (bytesOf v) x ≡ v x
+  pub bytes-read : (v : Atom → Bool) (x : Atom) → Has B x → inModel B (modelBytes v) x ≡ v x
   unfolding inModel on
   bytes-read v x h =
       let r = number-range B x h in
-      let e : getD (bytesOf v) (number B x - 1) 0 ≡ bit (v x) = map-read (λ x. bit (v x)) x 0 (atoms B) (number B x - 1) (omega (arith, N-is B)) ∙ ap (λ y. bit (v y)) (atom-at B x x h) in
+      let e : getD (modelBytes v) (number B x - 1) 0 ≡ bit (v x) = map-read (λ x. bit (v x)) x 0 (atoms B) (number B x - 1) (omega (arith, N-is B)) ∙ ap (λ y. bit (v y)) (atom-at B x x h) in
       rw e (bit-on (v x))
 
-  pub read-bytes : (model : List ℕ) → length model ≡ N B → All (λ b. b ≤ 1) model → bytesOf (inModel B model) ≡ model
+  pub read-bytes : (model : List ℕ) → length model ≡ N B → All (λ b. b ≤ 1) model → modelBytes (inModel B model) ≡ model
   unfolding inModel
   read-bytes model e a =
       sym (map-map (λ i. bit (on model i)) (number B) (atoms B))
       ∙ ap (map (λ i. bit (on model i))) (numbers-are B ∙ ap (countUp 1) (sym e))
       ∙ truth-bytes model a
 
-  pub bytes-alike : (v w : Atom → Bool) → ((x : Atom) → Has B x → v x ≡ w x) → bytesOf v ≡ bytesOf w
+  pub bytes-alike : (v w : Atom → Bool) → ((x : Atom) → Has B x → v x ≡ w x) → modelBytes v ≡ modelBytes w
   bytes-alike v w f = map-same (λ x. bit (v x)) (λ x. bit (w x)) (atoms B) (all-atoms (λ x. bit (v x) ≡ bit (w x)) (λ x h. ap bit (f x h)))
