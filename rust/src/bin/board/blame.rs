@@ -2,25 +2,24 @@
 
 use crate::complaint::Spot;
 use crate::sheet::Sheet;
-use crate::writing::{written, Mark, Owner, Written};
-use basmuthar::{Refusal, Sizes};
+use basmuthar::{Builder, Part, Refusal, Sizes};
 
 const LONGEST_RECORD: usize = 65_536;
 
 /// Where in the text a refusal of the whole record belongs, and what stands there.
 pub fn of_record(
     sheet: &Sheet,
-    written: &Written,
+    builder: &Builder,
     refusal: Refusal,
 ) -> Option<(Spot, &'static str)> {
     if refusal.has_place() {
-        let mark = mark_at(written, refusal.detail as usize)?;
-        return Some((owner_spot(sheet, mark.owner)?, mark.says));
+        let field = builder.field_at(refusal.detail as usize)?;
+        return Some((part_spot(sheet, field.part)?, field.says));
     }
     match refusal.number {
         1 => {
-            let mark = mark_at(written, LONGEST_RECORD)?;
-            Some((owner_spot(sheet, mark.owner)?, "the record is full here"))
+            let field = builder.field_at(LONGEST_RECORD)?;
+            Some((part_spot(sheet, field.part)?, "the record is full here"))
         }
         9 => Some((rule_of_too_many(sheet)?, "too many with this rule")),
         _ => None,
@@ -56,23 +55,17 @@ pub fn of_model(sheet: &Sheet, refusal: Refusal) -> Option<Spot> {
     }
 }
 
-/// The last field that begins at or before a place.
-fn mark_at(written: &Written, place: usize) -> Option<&Mark> {
-    let after = written.marks.partition_point(|mark| mark.place <= place);
-    written.marks.get(after.checked_sub(1)?)
-}
-
 /// A count's spot is that of the last one counted: it is one too many.
-fn owner_spot(sheet: &Sheet, owner: Owner) -> Option<Spot> {
+fn part_spot(sheet: &Sheet, part: Part) -> Option<Spot> {
     let spots = &sheet.spots;
-    match owner {
-        Owner::AllNumbers => spots.numbers.last().map(|number| number.name),
-        Owner::AllChoices => spots.choices.last().copied(),
-        Owner::AllClauses => spots.clauses.last().map(|clause| clause.rule),
-        Owner::Lower(number) => spots.numbers.get(number).map(|number| number.lower),
-        Owner::Upper(number) => spots.numbers.get(number).map(|number| number.upper),
-        Owner::Clause(clause) => spots.clauses.get(clause).map(|clause| clause.rule),
-        Owner::Literal(clause, literal) => {
+    match part {
+        Part::AllNumbers => spots.numbers.last().map(|number| number.name),
+        Part::AllChoices => spots.choices.last().copied(),
+        Part::AllRules => spots.clauses.last().map(|clause| clause.rule),
+        Part::Lower(number) => spots.numbers.get(number).map(|number| number.lower),
+        Part::Upper(number) => spots.numbers.get(number).map(|number| number.upper),
+        Part::Rule(clause) => spots.clauses.get(clause).map(|clause| clause.rule),
+        Part::Literal(clause, literal) => {
             let literals = &spots.clauses.get(clause)?.literals;
             literals.get(literal).copied()
         }
@@ -89,7 +82,7 @@ fn rule_of_too_many(sheet: &Sheet) -> Option<Spot> {
 
 /// Size of the board with only so many of its numbers and clauses.
 fn size_of_first(sheet: &Sheet, numbers: usize, clauses: usize) -> Result<Sizes, Refusal> {
-    basmuthar::size(&written(&sheet.board.first(numbers, clauses)).record)
+    basmuthar::size(&sheet.board.first(numbers, clauses).builder().record())
 }
 
 /// The least count up to a greatest one for which what holds for all lesser counts no longer holds.

@@ -21,7 +21,6 @@ mod trouble;
 mod values;
 mod wording;
 mod words;
-mod writing;
 
 use solver::Solver;
 use std::ffi::OsString;

@@ -3,8 +3,7 @@
 use crate::blame;
 use crate::complaint::{Complaint, Spot};
 use crate::sheet::{read_sheet, Sheet};
-use crate::writing::{written, Written};
-use basmuthar::{Refusal, Sizes};
+use basmuthar::{Builder, Refusal, Sizes};
 use std::fs;
 
 pub struct Opened {
@@ -20,10 +19,11 @@ impl Opened {
     pub fn open(name: &str) -> Result<Opened, String> {
         let text = read_text(name)?;
         let sheet = read_sheet(&text).map_err(|complaint| complaint.shown(name, &text))?;
-        let written = written(&sheet.board);
-        let sizes = basmuthar::size(&written.record)
-            .map_err(|refusal| refused_record(name, &text, &sheet, &written, refusal))?;
-        Ok(Opened { name: name.to_string(), text, sheet, record: written.record, sizes })
+        let builder = sheet.board.builder();
+        let record = builder.record();
+        let sizes = basmuthar::size(&record)
+            .map_err(|refusal| refused_record(name, &text, &sheet, &builder, refusal))?;
+        Ok(Opened { name: name.to_string(), text, sheet, record, sizes })
     }
 
     /// A refusal in words, at the place in the text that it belongs to.
@@ -39,10 +39,10 @@ fn refused_record(
     name: &str,
     text: &str,
     sheet: &Sheet,
-    written: &Written,
+    builder: &Builder,
     refusal: Refusal,
 ) -> String {
-    match blame::of_record(sheet, written, refusal) {
+    match blame::of_record(sheet, builder, refusal) {
         Some((spot, says)) => Complaint::new(spot, format!("{refusal} ({says})")).shown(name, text),
         None => format!("{name}: {refusal}"),
     }

@@ -1,11 +1,12 @@
 //! Lines with a rule: literals joined by `or`, turned into clauses of a record.
 
-use crate::board::{Clause, Comparison, Literal, Term};
+use crate::board::Clause;
 use crate::complaint::{fitted, Complaint, Spot};
 use crate::sheet::{ClauseSpots, Named, Names, Rule, Sheet};
 use crate::signs::{rows_of, Turn};
 use crate::sums::{read_sum, Sum};
 use crate::words::{Word, Words};
+use basmuthar::{Comparison, Literal, Term};
 
 /// The most clauses that one rule may become: as many as a record may have.
 const MOST_CLAUSES: usize = 4_096;

@@ -1,6 +1,7 @@
 //! A board in words: its declarations, its clauses, and sums with values put in.
 
-use crate::board::{Board, Clause, Comparison, Literal, Number, Setting, Term};
+use crate::board::{Board, Clause, Number, Setting};
+use basmuthar::{Comparison, Literal, Term};
 
 /// A board as a text that reads back as the same board.
 pub fn board_words(board: &Board) -> String {

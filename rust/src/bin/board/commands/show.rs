@@ -2,7 +2,7 @@
 
 use super::put;
 use crate::blame;
-use crate::board::{clause_holds, Board, Clause, Literal, Number, Setting};
+use crate::board::{clause_holds, literal_holds, sum_at, Board, Clause, Number, Setting};
 use crate::opened::Opened;
 use crate::sheet::{Rule, Sheet};
 use crate::trouble::Trouble;
@@ -10,7 +10,7 @@ use crate::values::read_setting;
 use crate::wording::{
     bounds_words, choice_name, literal_words, sum_of_values, sum_words, yes_or_no,
 };
-use basmuthar::Refusal;
+use basmuthar::{Literal, Refusal};
 
 pub fn run(file: &str, arguments: &[&str]) -> Result<bool, Trouble> {
     let opened = Opened::open(file)?;
@@ -66,7 +66,7 @@ fn clause_words(board: &Board, clause: &Clause, setting: &Setting) -> String {
     }
     let lines = clause.iter().map(|literal| {
         let words = literal_with_values(board, literal, setting);
-        format!("    {words}: {}\n", holds_words(literal.holds(setting)))
+        format!("    {words}: {}\n", holds_words(literal_holds(literal, setting)))
     });
     lines.collect()
 }
@@ -82,7 +82,7 @@ fn literal_with_values(board: &Board, literal: &Literal, setting: &Setting) -> S
         Literal::Comparison(comparison) => {
             let names = sum_words(board, comparison);
             let values = sum_of_values(comparison, setting);
-            let (sum, limit) = (comparison.sum(setting).to_string(), comparison.limit);
+            let (sum, limit) = (sum_at(comparison, setting).to_string(), comparison.limit);
             let is_alone = values.trim_matches(['(', ')']) == sum;
             let values = if is_alone { String::new() } else { format!("{values} = ") };
             format!("{names} = {values}{sum}, limit {limit}")
