@@ -4,5 +4,7 @@ mod documents;
 mod earliest;
 mod failing;
 mod fake;
+mod output;
+mod place;
 mod run;
 mod solver;

@@ -20,7 +20,7 @@ impl Clauses {
     }
 
     /// Writes the list, and these literals after it as clauses of their own.
-    pub fn write(&self, out: &mut impl Write, added: &[i32]) -> io::Result<()> {
+    pub fn write(&self, out: &mut dyn Write, added: &[i32]) -> io::Result<()> {
         writeln!(out, "p cnf {} {}", self.sizes.variables, self.sizes.clauses + added.len())?;
         for number in &self.list {
             let end = if *number == 0 { '\n' } else { ' ' };

@@ -7,6 +7,7 @@ mod commands;
 mod complaint;
 mod declarations;
 mod opened;
+mod output;
 mod reading;
 mod reply;
 mod rules;
@@ -24,6 +25,7 @@ mod words;
 
 use solver::Solver;
 use std::ffi::OsString;
+use std::io::Write;
 use std::process::ExitCode;
 use trouble::{Status, Trouble};
 
@@ -34,15 +36,19 @@ board show FILE.board VALUES   writes every rule with the values put in, and whe
                                VALUES are words such as kiln=12 shared=yes, or files of such words
 board cnf FILE.board           writes the clause list of a board as DIMACS CNF
 board model FILE.board         reads a solver's reply from standard input and writes the values it stands for
+board place FILE.board -- SOLVER ARGUMENTS
+                               asks a solver for values that keep to every rule, and writes them
 board earliest FILE.board NAME -- SOLVER ARGUMENTS
-                               finds the least value of a number over all solutions by questions to a solver;
-                               {cnf} in ARGUMENTS stands for the clause file, which otherwise goes last, and
-                               {reply} for a file that the reply is written to, otherwise to standard output
-                               (minisat is given one)
+                               finds the least value of a number over all solutions by questions to a solver
+board --help, board --version  write these lines, or the version
 
-The status is 0, or 1 where something was refused or does not hold, or 2 where the words after `board` are wrong;
-with a solver also 3 where there is no solution, 4 where the solver says neither yes nor no, 5 where it cannot be
-started, is killed, ends with an error or contradicts itself, and 6 where it says yes and its model does not bear it out.
+{cnf} in ARGUMENTS stands for the clause file, which otherwise goes last, and {reply} for a file that the reply is
+written to, otherwise to standard output (minisat is given one).
+
+The status is 0, or 1 where something was refused or does not hold, or 2 where the words after `board` are wrong or
+standard output takes nothing; with a solver also 3 where there is no solution, 4 where the solver says neither yes nor
+no, 5 where it cannot be started, is killed, ends with an error or contradicts itself, and 6 where it says yes and its
+model does not bear it out.
 ";
 
 fn main() -> ExitCode {
@@ -55,7 +61,8 @@ fn main() -> ExitCode {
         Ok(true) => ExitCode::SUCCESS,
         Ok(false) => ExitCode::from(Status::Refused as u8),
         Err(trouble) => {
-            eprintln!("{}", trouble.words);
+            // Where standard error takes nothing either, the status still tells.
+            let _ = writeln!(std::io::stderr(), "{}", trouble.words);
             ExitCode::from(trouble.status as u8)
         }
     }
@@ -68,13 +75,18 @@ fn run(words: &[&str]) -> Result<bool, Trouble> {
         ["show", file, values @ ..] => commands::show::run(file, values),
         ["cnf", file] => commands::cnf::run(file),
         ["model", file] => commands::model::run(file),
+        ["place", file, "--", program, words @ ..] => {
+            commands::place::run(file, &Solver { program, words })
+        }
         ["earliest", file, name, "--", program, words @ ..] => {
             commands::earliest::run(file, name, &Solver { program, words })
         }
+        ["--help" | "-h" | "help"] => output::put(USAGE.as_bytes()),
+        ["--version"] => output::put(concat!("board ", env!("CARGO_PKG_VERSION"), "\n").as_bytes()),
         _ => Err(wrong_words()),
     }
 }
 
 fn wrong_words() -> Trouble {
-    Trouble::new(Status::WrongWords, USAGE.trim_end())
+    Trouble::new(Status::WrongUse, USAGE.trim_end())
 }

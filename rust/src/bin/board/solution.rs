@@ -1,8 +1,10 @@
-//! A model as a solution: decoded and judged by the library, and written in words.
+//! A model as a solution: decoded and judged by the library, and written in words; or that there is none.
 
 use crate::blame;
 use crate::board::{Board, Setting};
 use crate::opened::Opened;
+use crate::output::put;
+use crate::trouble::{Status, Trouble};
 use crate::wording::yes_or_no;
 
 /// What a model sets the numbers and choices to, after Judge has accepted it.
@@ -28,4 +30,12 @@ pub fn setting_words(board: &Board, setting: &Setting) -> String {
         text += &format!("{choice} = {}\n", yes_or_no(*byte));
     }
     text
+}
+
+/// Prints that there is no solution, and gives the trouble that ends the program.
+pub fn no_solution(file: &str, why: &str) -> Result<Trouble, Trouble> {
+    put(b"# none: there is no solution\n")?;
+    let help = "`board show` tells which rules a plan of your own breaks.";
+    let words = format!("{file}: there is no solution: {why}.\n{help}");
+    Ok(Trouble::new(Status::NoSolution, words))
 }

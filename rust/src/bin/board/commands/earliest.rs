@@ -2,12 +2,12 @@
 //!
 //! All that is printed reads as values with comments: questions, replies and the result are lines of `#`.
 
-use super::put;
 use crate::board::Setting;
 use crate::clauses::{at_most, Clauses};
 use crate::opened::Opened;
+use crate::output::put;
 use crate::sheet::Named;
-use crate::solution::{decoded, setting_words};
+use crate::solution::{decoded, no_solution, setting_words};
 use crate::solver::{Question, Said, Solver};
 use crate::trouble::{Status, Trouble};
 use basmuthar::Stopped;
@@ -103,16 +103,12 @@ impl Search<'_> {
 
     /// A yes counts only if its model is a solution that keeps to the question.
     fn look_at(&mut self, model: &[u8], hour: i32, question: &Question) -> Result<(), Trouble> {
-        let wrong = |words: &str| {
-            let help = "A yes like this is no answer: look at the solver, or ask another one.";
-            self.solver.trouble(question, Status::WrongYes, words, help)
-        };
         let setting = decoded(self.opened, model)
-            .map_err(|refused| wrong(&format!("says yes, and its model is refused:\n{refused}")))?;
+            .map_err(|refused| self.solver.wrong_yes(question, &refused))?;
         let value = setting.numbers[self.number];
         if value > hour {
             let words = format!("says yes, and its model has {} = {value}.", self.name());
-            return Err(wrong(&words));
+            return Err(self.solver.no_answer(question, &words));
         }
         if self.least_shown().is_none_or(|least| value <= least) {
             self.shown = Some(setting);
@@ -148,13 +144,10 @@ impl Search<'_> {
                 Err(Trouble::new(Status::SolverFailed, words))
             }
             (None, _) => {
-                put(b"# none: there is no solution\n")?;
                 let upper = self.opened.sheet.board.numbers[self.number].upper;
-                let words = format!(
-                    "{file}: there is no solution: the solver says no to {name} at most {upper}, its upper \
-                     bound.\n`board show` tells which rules a plan of your own breaks."
-                );
-                Err(Trouble::new(Status::NoSolution, words))
+                let words =
+                    format!("the solver says no to {name} at most {upper}, its upper bound");
+                Err(no_solution(file, &words)?)
             }
         }
     }

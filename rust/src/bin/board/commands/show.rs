@@ -1,9 +1,9 @@
 //! `board show`: every rule with the values put in, and whether it holds.
 
-use super::put;
 use crate::blame;
 use crate::board::{clause_holds, literal_holds, sum_at, Board, Clause, Number, Setting};
 use crate::opened::Opened;
+use crate::output::put;
 use crate::sheet::{Rule, Sheet};
 use crate::trouble::Trouble;
 use crate::values::read_setting;

@@ -1,6 +1,6 @@
 //! `board text`: a record as a readable board.
 
-use super::put;
+use crate::output::put;
 use crate::reading::board_of;
 use crate::trouble::Trouble;
 use crate::wording::board_words;
