@@ -7,4 +7,5 @@ mod fake;
 mod output;
 mod place;
 mod run;
+mod show;
 mod solver;

@@ -1,29 +1,51 @@
 //! The line that a refusal belongs to: from a place in the record, a clause or a variable back to the text.
 
-use crate::complaint::Spot;
+use crate::complaint::{Complaint, Spot};
+use crate::limits::{full_at, FEWER_NUMBERS, FEWER_RULES, LONGER_STEP, SHORTER_LIST};
 use crate::sheet::Sheet;
-use basmuthar::{Builder, Part, Refusal, Sizes};
+use basmuthar::{Builder, Field, Part, Refusal, Sizes};
 
 const LONGEST_RECORD: usize = 65_536;
+const MOST_CLAUSES: usize = 4_096;
+const MOST_NUMBERS: usize = 1_024;
+const MOST_CHOICES: usize = 4_096;
 
-/// Where in the text a refusal of the whole record belongs, and what stands there.
-pub fn of_record(
-    sheet: &Sheet,
-    builder: &Builder,
-    refusal: Refusal,
-) -> Option<(Spot, &'static str)> {
-    if refusal.has_place() {
-        let field = builder.field_at(refusal.detail as usize)?;
-        return Some((part_spot(sheet, field.part)?, field.says));
-    }
+/// A refusal of the whole record as a complaint about the text, with what would help where the record is full.
+pub fn of_record(sheet: &Sheet, builder: &Builder, refusal: Refusal) -> Option<Complaint> {
     match refusal.number {
-        1 => {
-            let field = builder.field_at(LONGEST_RECORD)?;
-            Some((part_spot(sheet, field.part)?, "the record is full here"))
+        1 => full(sheet, builder.field_at(LONGEST_RECORD)?, refusal),
+        9 => {
+            let spot = rule_of_too_many(sheet)?;
+            let words = format!("{refusal} (too many with this rule)");
+            Some(Complaint::new(spot, words).with_help(SHORTER_LIST))
         }
-        9 => Some((rule_of_too_many(sheet)?, "too many with this rule")),
+        _ if refusal.has_place() => {
+            let field = builder.field_at(refusal.detail as usize)?;
+            match field.part {
+                Part::AllNumbers | Part::AllChoices | Part::AllRules => full(sheet, field, refusal),
+                part => {
+                    let words = format!("{refusal} ({})", field.says);
+                    let complaint = Complaint::new(part_spot(sheet, part)?, words);
+                    let is_late = refusal.number == 5 && sheet.week.is_some();
+                    Some(if is_late { complaint.with_help(LONGER_STEP) } else { complaint })
+                }
+            }
+        }
         _ => None,
     }
+}
+
+/// The complaint that the record is full at a field, or at the first part that its count has no room for.
+fn full(sheet: &Sheet, field: Field, refusal: Refusal) -> Option<Complaint> {
+    let clause = match field.part {
+        Part::AllRules => Some(MOST_CLAUSES),
+        Part::Rule(clause) | Part::Literal(clause, _) => Some(clause),
+        _ => None,
+    };
+    let words = full_at(clause.and_then(|clause| sheet.rule_of_clause(clause)));
+    let help = if clause.is_some() { FEWER_RULES } else { FEWER_NUMBERS };
+    let spot = part_spot(sheet, field.part)?;
+    Some(Complaint::new(spot, format!("{words}: {refusal} ({})", field.says)).with_help(help))
 }
 
 /// Where a refusal of values and choices belongs.
@@ -55,13 +77,13 @@ pub fn of_model(sheet: &Sheet, refusal: Refusal) -> Option<Spot> {
     }
 }
 
-/// A count's spot is that of the last one counted: it is one too many.
+/// The spot of a part; a count's is that of the first one that is too many.
 fn part_spot(sheet: &Sheet, part: Part) -> Option<Spot> {
     let spots = &sheet.spots;
     match part {
-        Part::AllNumbers => spots.numbers.last().map(|number| number.name),
-        Part::AllChoices => spots.choices.last().copied(),
-        Part::AllRules => spots.clauses.last().map(|clause| clause.rule),
+        Part::AllNumbers => spots.numbers.get(MOST_NUMBERS).map(|number| number.name),
+        Part::AllChoices => spots.choices.get(MOST_CHOICES).copied(),
+        Part::AllRules => spots.clauses.get(MOST_CLAUSES).map(|clause| clause.rule),
         Part::Lower(number) => spots.numbers.get(number).map(|number| number.lower),
         Part::Upper(number) => spots.numbers.get(number).map(|number| number.upper),
         Part::Rule(clause) => spots.clauses.get(clause).map(|clause| clause.rule),

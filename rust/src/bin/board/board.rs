@@ -1,6 +1,6 @@
 //! A board: bounded numbers, choices and clauses, in the sizes that a record's fields have.
 
-use basmuthar::{Builder, Comparison, Literal};
+use basmuthar::{Builder, Literal};
 
 /// Numbers are counted from 0, choices from 1, as a record counts them.
 #[derive(Debug, Clone, Default, PartialEq, Eq)]
@@ -53,29 +53,4 @@ impl Board {
             clauses: self.clauses[..clauses].to_vec(),
         }
     }
-}
-
-/// Whether a literal holds at a setting.
-pub fn literal_holds(literal: &Literal, setting: &Setting) -> bool {
-    match literal {
-        Literal::Choice { number, wanted } => {
-            (setting.choices[usize::from(*number) - 1] == 1) == *wanted
-        }
-        Literal::Comparison(comparison) => {
-            sum_at(comparison, setting) <= i64::from(comparison.limit)
-        }
-    }
-}
-
-/// The sum of a comparison's terms at a setting.
-pub fn sum_at(comparison: &Comparison, setting: &Setting) -> i64 {
-    let products = comparison.terms.iter().map(|term| {
-        i64::from(term.coefficient) * i64::from(setting.numbers[usize::from(term.variable)])
-    });
-    products.sum()
-}
-
-/// Whether one of the literals holds.
-pub fn clause_holds(clause: &Clause, setting: &Setting) -> bool {
-    clause.iter().any(|literal| literal_holds(literal, setting))
 }

@@ -5,5 +5,6 @@ pub mod earliest;
 pub mod model;
 pub mod place;
 pub mod record;
+pub mod rules;
 pub mod show;
 pub mod text;

@@ -3,15 +3,25 @@
 mod blame;
 mod board;
 mod clauses;
+mod clock;
+mod closed;
+mod closings;
 mod commands;
 mod complaint;
+mod conditions;
 mod declarations;
+mod jobs;
+mod judging;
+mod limits;
+mod literals;
 mod opened;
 mod output;
+mod placement;
 mod reading;
 mod reply;
 mod rules;
 mod sheet;
+mod shown;
 mod signs;
 mod solution;
 mod solver;
@@ -20,6 +30,7 @@ mod sums;
 mod tests;
 mod trouble;
 mod values;
+mod week;
 mod wording;
 mod words;
 
@@ -32,8 +43,9 @@ use trouble::{Status, Trouble};
 const USAGE: &str = "\
 board record FILE.board        writes the record of a board to standard output
 board text FILE.record         writes a record as a readable board
-board show FILE.board VALUES   writes every rule with the values put in, and whether it holds;
-                               VALUES are words such as kiln=12 shared=yes, or files of such words
+board rules FILE.board         writes the plain rules that the lines of a board stand for, with their lines
+board show FILE.board VALUES   writes every rule with the values put in, and whether it holds (--broken: only those that
+                               do not); VALUES are words such as kiln=12 shared=yes, or files of such words
 board cnf FILE.board           writes the clause list of a board as DIMACS CNF
 board model FILE.board         reads a solver's reply from standard input and writes the values it stands for
 board place FILE.board -- SOLVER ARGUMENTS
@@ -73,6 +85,7 @@ fn run(words: &[&str]) -> Result<bool, Trouble> {
         ["record", file] => commands::record::run(file),
         ["text", file] => commands::text::run(file),
         ["show", file, values @ ..] => commands::show::run(file, values),
+        ["rules", file] => commands::rules::run(file),
         ["cnf", file] => commands::cnf::run(file),
         ["model", file] => commands::model::run(file),
         ["place", file, "--", program, words @ ..] => {

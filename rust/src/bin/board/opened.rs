@@ -3,8 +3,11 @@
 use crate::blame;
 use crate::complaint::{Complaint, Spot};
 use crate::sheet::{read_sheet, Sheet};
-use basmuthar::{Builder, Refusal, Sizes};
+use basmuthar::{Refusal, Sizes};
 use std::fs;
+
+/// The version that every record begins with, and no text.
+const VERSION: u8 = 1;
 
 pub struct Opened {
     name: String,
@@ -21,8 +24,12 @@ impl Opened {
         let sheet = read_sheet(&text).map_err(|complaint| complaint.shown(name, &text))?;
         let builder = sheet.board.builder();
         let record = builder.record();
-        let sizes = basmuthar::size(&record)
-            .map_err(|refusal| refused_record(name, &text, &sheet, &builder, refusal))?;
+        let sizes = basmuthar::size(&record).map_err(|refusal| {
+            match blame::of_record(&sheet, &builder, refusal) {
+                Some(complaint) => complaint.shown(name, &text),
+                None => format!("{name}: {refusal}"),
+            }
+        })?;
         Ok(Opened { name: name.to_string(), text, sheet, record, sizes })
     }
 
@@ -35,21 +42,32 @@ impl Opened {
     }
 }
 
-fn refused_record(
-    name: &str,
-    text: &str,
-    sheet: &Sheet,
-    builder: &Builder,
-    refusal: Refusal,
-) -> String {
-    match blame::of_record(sheet, builder, refusal) {
-        Some((spot, says)) => Complaint::new(spot, format!("{refusal} ({says})")).shown(name, text),
-        None => format!("{name}: {refusal}"),
-    }
-}
-
 /// The text of a file.
 pub fn read_text(name: &str) -> Result<String, String> {
     let bytes = fs::read(name).map_err(|error| format!("{name}: {error}"))?;
-    String::from_utf8(bytes).map_err(|_| format!("{name} is no text; `board text` reads records"))
+    if bytes.first() == Some(&VERSION) {
+        return Err(format!(
+            "{name} is a record and no text; `board text {name}` writes it as text"
+        ));
+    }
+    String::from_utf8(bytes)
+        .map_err(|_| format!("{name} is no text of UTF-8; save it as UTF-8 and try again"))
+}
+
+/// The bytes of a file that should be a record.
+pub fn read_record(name: &str) -> Result<Vec<u8>, String> {
+    let bytes = fs::read(name).map_err(|error| format!("{name}: {error}"))?;
+    if is_text(&bytes) {
+        return Err(format!(
+            "{name} is a text and no record; `board record {name}` makes a record"
+        ));
+    }
+    Ok(bytes)
+}
+
+/// No record is like that: it has at least three counts of two bytes, and the first byte of each is small.
+fn is_text(bytes: &[u8]) -> bool {
+    let is_printed = |character: char| !character.is_control() || "\n\r\t".contains(character);
+    let text = std::str::from_utf8(bytes);
+    text.is_ok_and(|text| !text.is_empty() && text.chars().all(is_printed))
 }

@@ -1,11 +1,10 @@
-//! A model as a solution: decoded and judged by the library, and written in words; or that there is none.
+//! A model as a solution: decoded and judged by the library; or that there is none.
 
 use crate::blame;
-use crate::board::{Board, Setting};
+use crate::board::Setting;
 use crate::opened::Opened;
 use crate::output::put;
 use crate::trouble::{Status, Trouble};
-use crate::wording::yes_or_no;
 
 /// What a model sets the numbers and choices to, after Judge has accepted it.
 pub fn decoded(opened: &Opened, model: &[u8]) -> Result<Setting, String> {
@@ -18,18 +17,6 @@ pub fn decoded(opened: &Opened, model: &[u8]) -> Result<Setting, String> {
     basmuthar::judge(&opened.record, numbers, choices)
         .map_err(|refusal| opened.refused(refusal, blame::of_setting(&opened.sheet, refusal)))?;
     Ok(setting)
-}
-
-/// Values in the form that `board show` reads.
-pub fn setting_words(board: &Board, setting: &Setting) -> String {
-    let mut text = "# a solution, decoded and judged\n".to_string();
-    for (number, value) in board.numbers.iter().zip(&setting.numbers) {
-        text += &format!("{} = {value}\n", number.name);
-    }
-    for (choice, byte) in board.choices.iter().zip(&setting.choices) {
-        text += &format!("{choice} = {}\n", yes_or_no(*byte));
-    }
-    text
 }
 
 /// Prints that there is no solution, and gives the trouble that ends the program.

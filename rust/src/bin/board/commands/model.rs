@@ -2,8 +2,9 @@
 
 use crate::opened::Opened;
 use crate::output::put;
+use crate::placement::placement_words;
 use crate::reply::{read_reply, Reply};
-use crate::solution::{decoded, no_solution, setting_words};
+use crate::solution::{decoded, no_solution};
 use crate::trouble::{Status, Trouble};
 use std::io::{self, Read};
 
@@ -21,7 +22,7 @@ pub fn run(file: &str) -> Result<bool, Trouble> {
         }
         Reply::Model(model) => {
             let setting = decoded(&opened, &model)?;
-            put(setting_words(&opened.sheet.board, &setting).as_bytes())
+            put(placement_words(&opened.sheet, &setting).as_bytes())
         }
     }
 }

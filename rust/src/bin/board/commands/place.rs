@@ -3,7 +3,8 @@
 use crate::clauses::Clauses;
 use crate::opened::Opened;
 use crate::output::put;
-use crate::solution::{decoded, no_solution, setting_words};
+use crate::placement::placement_words;
+use crate::solution::{decoded, no_solution};
 use crate::solver::{Question, Said, Solver};
 use crate::trouble::Trouble;
 
@@ -17,7 +18,7 @@ pub fn run(file: &str, solver: &Solver) -> Result<bool, Trouble> {
         Said::Yes(model) => {
             let setting = decoded(&opened, &model)
                 .map_err(|refused| solver.wrong_yes(&question, &refused))?;
-            put(setting_words(&opened.sheet.board, &setting).as_bytes())
+            put(placement_words(&opened.sheet, &setting).as_bytes())
         }
     }
 }

@@ -9,7 +9,7 @@ use std::path::{Path, PathBuf};
 use std::{env, fs};
 
 /// All files of boards/ and boards/refused/ with this ending.
-fn files(ending: &str) -> Vec<PathBuf> {
+pub fn files(ending: &str) -> Vec<PathBuf> {
     let boards = Path::new(env!("CARGO_MANIFEST_DIR")).join("../boards");
     let folders = [boards.join("refused"), boards];
     let entries = folders.iter().flat_map(|folder| fs::read_dir(folder).unwrap());
@@ -19,7 +19,7 @@ fn files(ending: &str) -> Vec<PathBuf> {
     files
 }
 
-fn sheet_of(file: &Path) -> Sheet {
+pub fn sheet_of(file: &Path) -> Sheet {
     let text = fs::read_to_string(file).unwrap();
     read_sheet(&text).unwrap_or_else(|complaint| {
         panic!("{}", complaint.shown(&file.display().to_string(), &text))
@@ -75,7 +75,7 @@ fn a_refusal_is_shown_at_the_line_that_the_note_beside_it_says() {
         let Err(refusal) = basmuthar::size(&builder.record()) else {
             continue;
         };
-        let (spot, _) = blame::of_record(&sheet, &builder, refusal).unwrap();
+        let spot = blame::of_record(&sheet, &builder, refusal).unwrap().spot;
         let line = format!("line {}, column {}", spot.line, spot.column);
         assert_eq!(note.lines().last(), Some(line.as_str()), "{}", file.display());
     }
