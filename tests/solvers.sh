@@ -68,10 +68,21 @@ earliest() {
     echo "$value"
 }
 
+# The names of a board's numbers, in their order.
+numbers() {
+    "$board" rules "$1" | sed -n 's/^number \([^ ]*\) :.*/\1/p'
+}
+
+# The numbers whose least values are looked for: of a board with jobs only its closings, as each takes many questions.
+wanted() {
+    if grep -q '^job ' "$1"; then sed -n 's/^closing \([^ ]*\).*/\1/p' "$1"; else numbers "$1"; fi
+}
+
 # The least value of each number of a board: the same by every solver and, where all values were tried, by them.
 least() {
-    local file=$1 tried=$2 place=4 name first said solver
-    for name in $(sed -n 's/^number \(.*\):.*/\1/p' "$file" | tr ',' ' '); do
+    local file=$1 tried=$2 place name first said solver
+    for name in $(wanted "$file"); do
+        place=$(($(numbers "$file" | grep -nx -- "$name" | cut -d : -f 1) + 3))
         first=""
         for solver in "${solvers[@]}"; do
             said=$(earliest "$solver" "$file" "$name")
@@ -85,7 +96,6 @@ least() {
         esac
         [ "$first" = "$said" ] || fail "the least $name: $first by ${solvers[0]}, $said by trying all values: $file"
         if [ "$first" = none ]; then none=$((none + 1)); else found=$((found + 1)); fi
-        place=$((place + 1))
     done
 }
 

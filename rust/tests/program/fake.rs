@@ -56,6 +56,11 @@ impl Fake {
         self.board(&["place", &self.path("x.board"), "--"], solver)
     }
 
+    /// The command `board why x.board --` with a solver and its words.
+    pub fn asking_why(&self, solver: &[&str]) -> Command {
+        self.board(&["why", &self.path("x.board"), "--"], solver)
+    }
+
     fn board(&self, words: &[&str], solver: &[&str]) -> Command {
         let mut command = in_project("board");
         command.args(words).args(solver).env("TMPDIR", self.path("temporary"));

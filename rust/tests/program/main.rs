@@ -9,3 +9,5 @@ mod place;
 mod run;
 mod show;
 mod solver;
+mod week;
+mod why;

@@ -8,3 +8,4 @@ pub mod record;
 pub mod rules;
 pub mod show;
 pub mod text;
+pub mod why;

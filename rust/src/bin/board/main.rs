@@ -34,6 +34,7 @@ mod week;
 mod wording;
 mod words;
 
+use commands::show::BROKEN;
 use solver::Solver;
 use std::ffi::OsString;
 use std::io::Write;
@@ -52,6 +53,8 @@ board place FILE.board -- SOLVER ARGUMENTS
                                asks a solver for values that keep to every rule, and writes them
 board earliest FILE.board NAME -- SOLVER ARGUMENTS
                                finds the least value of a number over all solutions by questions to a solver
+board why FILE.board -- SOLVER ARGUMENTS
+                               finds lines that cannot be kept together, where there is no solution
 board --help, board --version  write these lines, or the version
 
 {cnf} in ARGUMENTS stands for the clause file, which otherwise goes last, and {reply} for a file that the reply is
@@ -84,12 +87,15 @@ fn run(words: &[&str]) -> Result<bool, Trouble> {
     match words {
         ["record", file] => commands::record::run(file),
         ["text", file] => commands::text::run(file),
-        ["show", file, values @ ..] => commands::show::run(file, values),
+        ["show", words @ ..] => show(words),
         ["rules", file] => commands::rules::run(file),
         ["cnf", file] => commands::cnf::run(file),
         ["model", file] => commands::model::run(file),
         ["place", file, "--", program, words @ ..] => {
             commands::place::run(file, &Solver { program, words })
+        }
+        ["why", file, "--", program, words @ ..] => {
+            commands::why::run(file, &Solver { program, words })
         }
         ["earliest", file, name, "--", program, words @ ..] => {
             commands::earliest::run(file, name, &Solver { program, words })
@@ -97,6 +103,15 @@ fn run(words: &[&str]) -> Result<bool, Trouble> {
         ["--help" | "-h" | "help"] => output::put(USAGE.as_bytes()),
         ["--version"] => output::put(concat!("board ", env!("CARGO_PKG_VERSION"), "\n").as_bytes()),
         _ => Err(wrong_words()),
+    }
+}
+
+fn show(words: &[&str]) -> Result<bool, Trouble> {
+    let is_brief = words.contains(&BROKEN);
+    let words: Vec<&str> = words.iter().copied().filter(|word| *word != BROKEN).collect();
+    match words[..] {
+        [file, ref values @ ..] => commands::show::run(file, values, is_brief),
+        [] => Err(wrong_words()),
     }
 }
 

@@ -2,7 +2,7 @@
 
 use crate::blame;
 use crate::complaint::{Complaint, Spot};
-use crate::sheet::{read_sheet, Sheet};
+use crate::sheet::{read_sheet, Rule, Sheet};
 use basmuthar::{Refusal, Sizes};
 use std::fs;
 
@@ -22,6 +22,15 @@ impl Opened {
     pub fn open(name: &str) -> Result<Opened, String> {
         let text = read_text(name)?;
         let sheet = read_sheet(&text).map_err(|complaint| complaint.shown(name, &text))?;
+        Opened::of(name, text, sheet)
+    }
+
+    /// The same with only some of its rules.
+    pub fn only(&self, is_kept: impl Fn(&Rule) -> bool) -> Result<Opened, String> {
+        Opened::of(&self.name, self.text.clone(), self.sheet.only(is_kept))
+    }
+
+    fn of(name: &str, text: String, sheet: Sheet) -> Result<Opened, String> {
         let builder = sheet.board.builder();
         let record = builder.record();
         let sizes = basmuthar::size(&record).map_err(|refusal| {
@@ -31,6 +40,11 @@ impl Opened {
             }
         })?;
         Ok(Opened { name: name.to_string(), text, sheet, record, sizes })
+    }
+
+    /// A line of the text, counted from 1.
+    pub fn line(&self, number: usize) -> &str {
+        self.text.lines().nth(number - 1).unwrap_or("").trim()
     }
 
     /// A refusal in words, at the place in the text that it belongs to.

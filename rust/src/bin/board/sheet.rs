@@ -15,7 +15,7 @@ use crate::words::{Word, Words};
 use std::collections::{HashMap, HashSet};
 use std::ops::Range;
 
-#[derive(Debug, Default)]
+#[derive(Debug, Clone, Default)]
 pub struct Sheet {
     pub board: Board,
     pub names: Names,
@@ -40,7 +40,7 @@ pub enum Named {
     Machine(usize),
 }
 
-#[derive(Debug)]
+#[derive(Debug, Clone)]
 pub struct Machine {
     pub name: String,
     pub title: Option<String>,
@@ -48,7 +48,7 @@ pub struct Machine {
 }
 
 /// A rule that a line is, or that was made for a line.
-#[derive(Debug)]
+#[derive(Debug, Clone)]
 pub struct Rule {
     pub spot: Spot,
     /// As it is written, or in plain words where it was made.
@@ -64,7 +64,7 @@ pub struct Rule {
 }
 
 /// Where in the text each part of the board stands.
-#[derive(Debug, Default)]
+#[derive(Debug, Clone, Default)]
 pub struct Spots {
     pub numbers: Vec<NumberSpots>,
     pub choices: Vec<Spot>,
@@ -137,6 +137,21 @@ impl Sheet {
             }
             rule.clauses = first..self.board.clauses.len();
         }
+    }
+
+    /// The sheet with only some of its rules.
+    pub fn only(&self, is_kept: impl Fn(&Rule) -> bool) -> Sheet {
+        let mut fewer = self.clone();
+        fewer.rules.retain(is_kept);
+        fewer.board.clauses.clear();
+        fewer.spots.clauses.clear();
+        for rule in &mut fewer.rules {
+            let first = fewer.board.clauses.len();
+            fewer.board.clauses.extend_from_slice(&self.board.clauses[rule.clauses.clone()]);
+            fewer.spots.clauses.extend_from_slice(&self.spots.clauses[rule.clauses.clone()]);
+            rule.clauses = first..fewer.board.clauses.len();
+        }
+        fewer
     }
 
     /// The rule that a clause of the board belongs to.

@@ -22,7 +22,8 @@ pub fn decoded(opened: &Opened, model: &[u8]) -> Result<Setting, String> {
 /// Prints that there is no solution, and gives the trouble that ends the program.
 pub fn no_solution(file: &str, why: &str) -> Result<Trouble, Trouble> {
     put(b"# none: there is no solution\n")?;
-    let help = "`board show` tells which rules a plan of your own breaks.";
+    let help = "`board why` finds lines that cannot be kept together; `board show --broken` tells which rules a plan of \
+        your own breaks.";
     let words = format!("{file}: there is no solution: {why}.\n{help}");
     Ok(Trouble::new(Status::NoSolution, words))
 }

@@ -12,15 +12,13 @@ use crate::values::read_setting;
 use crate::wording::{bounds_words, yes_or_no};
 use basmuthar::Refusal;
 
-/// With this word among the values, only what is broken is written.
-const BROKEN: &str = "--broken";
+/// With this word anywhere behind `show`, only what is broken is written.
+pub const BROKEN: &str = "--broken";
 
-pub fn run(file: &str, arguments: &[&str]) -> Result<bool, Trouble> {
+pub fn run(file: &str, values: &[&str], is_brief: bool) -> Result<bool, Trouble> {
     let opened = Opened::open(file)?;
-    let values: Vec<&str> = arguments.iter().copied().filter(|word| *word != BROKEN).collect();
-    let is_brief = values.len() < arguments.len();
     let sheet = &opened.sheet;
-    let setting = read_setting(&values, sheet)?;
+    let setting = read_setting(values, sheet)?;
     let verdict = basmuthar::judge(&opened.record, &setting.numbers, &setting.choices);
     let mut text = setting_words(sheet, &setting, is_brief);
     for rule in &sheet.rules {
