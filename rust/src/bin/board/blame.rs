@@ -44,8 +44,10 @@ fn full(sheet: &Sheet, field: Field, refusal: Refusal) -> Option<Complaint> {
     };
     let words = full_at(clause.and_then(|clause| sheet.rule_of_clause(clause)));
     let help = if clause.is_some() { FEWER_RULES } else { FEWER_NUMBERS };
+    // Of a record that is too long, the field at its end says nothing more.
+    let says = if refusal.has_place() { format!(" ({})", field.says) } else { String::new() };
     let spot = part_spot(sheet, field.part)?;
-    Some(Complaint::new(spot, format!("{words}: {refusal} ({})", field.says)).with_help(help))
+    Some(Complaint::new(spot, format!("{words}: {refusal}{says}")).with_help(help))
 }
 
 /// Where a refusal of values and choices belongs.

@@ -1,12 +1,10 @@
-//! Jobs on machines: their lines, and the rules that no two of them meet on one machine.
+//! Jobs on machines: what they are, and their lines.
 
 use crate::clock::{read_duration, read_value};
 use crate::complaint::{fitted, Complaint, Spot};
 use crate::declarations::{add_choice, add_number, BOUND};
-use crate::literals::{Part, Side};
-use crate::rules::make_rule;
+use crate::overlaps::{one_at_a_time, one_machine_each};
 use crate::sheet::{Named, NumberSpots, Sheet};
-use crate::sums::Sum;
 use crate::words::{Word, Words};
 
 /// A job begins in the hour that its number says.
@@ -165,79 +163,4 @@ fn add_machine_choices(
         on.push(OnMachine { machine, choice });
     }
     Ok(on)
-}
-
-/// A job with several machines is on one of them, and on no two.
-fn one_machine_each(sheet: &mut Sheet, job: &Job) -> Result<(), Complaint> {
-    let choices: Vec<String> = job
-        .machines
-        .iter()
-        .filter_map(|on| on.choice)
-        .map(|choice| sheet.board.choices[usize::from(choice) - 1].clone())
-        .collect();
-    if choices.is_empty() {
-        return Ok(());
-    }
-    let made_for = format!("job {}", job.name);
-    let comment = format!("{} is on one machine", job.name);
-    make_rule(sheet, job.spot, choices.join(" or "), comment, &made_for)?;
-    for (index, one) in choices.iter().enumerate() {
-        for other in &choices[index + 1..] {
-            let comment = format!("{} is on no two machines", job.name);
-            make_rule(sheet, job.spot, format!("not {one} or not {other}"), comment, &made_for)?;
-        }
-    }
-    Ok(())
-}
-
-/// On each of its machines a job is over before another begins, or the other way round.
-fn one_at_a_time(sheet: &mut Sheet, job: &Job) -> Result<(), Complaint> {
-    for on in &job.machines {
-        let machine = on.machine;
-        let earlier: Vec<Job> =
-            sheet.jobs.iter().filter(|other| other.on(machine).is_some()).cloned().collect();
-        let name = sheet.machines[machine].name.clone();
-        let made_for = format!("job {} on {name}", earlier.len() + 1);
-        for other in earlier.iter().filter(|other| may_meet(other, job)) {
-            let unless =
-                other.unless_elsewhere(sheet, machine) + &job.unless_elsewhere(sheet, machine);
-            let (one, two) = (other.end_words(sheet), job.end_words(sheet));
-            let text = format!("{unless}{one} <= {} or {two} <= {}", job.name, other.name);
-            let comment = format!("one at a time on {name}");
-            make_rule(sheet, job.spot, text, comment, &made_for)?;
-        }
-    }
-    Ok(())
-}
-
-/// Whether two jobs may be on a machine at the same time; if not, they need no rule.
-fn may_meet(one: &Job, other: &Job) -> bool {
-    one.ends().1 > other.begins.0 && other.ends().1 > one.begins.0
-}
-
-/// Takes `mugs before plates` if a job and `before` are next: the one is unloaded when the other begins, or earlier.
-pub fn take_before(words: &mut Words, sheet: &Sheet) -> Result<Option<Part>, Complaint> {
-    let (spot, Word::Name(name)) = (words.spot(), words.peek()?) else {
-        return Ok(None);
-    };
-    if words.second() != Some(Word::Name("before")) {
-        return Ok(None);
-    }
-    let Some(job) = sheet.jobs.iter().find(|job| job.name == name) else {
-        return Err(words.expected("the name of a job that is declared above"));
-    };
-    words.take()?;
-    words.take()?;
-    let later = match words.peek()? {
-        Word::Name(name) => sheet.names.get(name),
-        _ => None,
-    };
-    let Some(&Named::Number(later)) = later else {
-        return Err(words.expected("the name of a job or a number that is declared above"));
-    };
-    words.take()?;
-    let end = Side { text: job.end_words(sheet), sum: Sum::hours(job.number, job.takes) };
-    let text = sheet.board.numbers[usize::from(later)].name.clone();
-    let begin = Side { text, sum: Sum::hours(later, 0) };
-    Part::comparison(end, "<=", begin, spot).map(Some)
 }

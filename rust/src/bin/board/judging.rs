@@ -11,7 +11,8 @@ const DOES_NOT_HOLD: u64 = 13;
 pub fn clauses_hold(sheet: &Sheet, clauses: &[Clause], setting: &Setting) -> Result<bool, Refusal> {
     let mut builder = Builder::new();
     for (number, value) in sheet.board.numbers.iter().zip(&setting.numbers) {
-        let value = *value as i16;
+        // No value is read that a bound could not be.
+        let value = i16::try_from(*value).unwrap_or(number.lower);
         builder.number(number.lower.min(value), number.upper.max(value));
     }
     for _ in &sheet.board.choices {

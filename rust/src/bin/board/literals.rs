@@ -1,7 +1,7 @@
 //! The literals of a rule: read as they are written, and turned into literals of a record.
 
+use crate::before::take_before;
 use crate::complaint::{fitted, Complaint, Spot};
-use crate::jobs::take_before;
 use crate::sheet::{Named, Sheet};
 use crate::signs::{negated, rows_of, sign_of, Turn};
 use crate::sums::{read_sum, Sum};

@@ -1,5 +1,6 @@
 //! The program `board`: readable boards to records and back, to a solver and back, and looked through by hand.
 
+mod before;
 mod blame;
 mod board;
 mod clauses;
@@ -16,6 +17,7 @@ mod limits;
 mod literals;
 mod opened;
 mod output;
+mod overlaps;
 mod placement;
 mod reading;
 mod reply;
@@ -29,6 +31,7 @@ mod sums;
 #[cfg(test)]
 mod tests;
 mod trouble;
+mod unknown_signs;
 mod values;
 mod week;
 mod wording;

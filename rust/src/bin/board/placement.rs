@@ -10,7 +10,8 @@ pub fn placement_words(sheet: &Sheet, setting: &Setting) -> String {
     for machine in 0..sheet.machines.len() {
         text += &machine_words(sheet, setting, machine);
     }
-    if !sheet.jobs.is_empty() && sheet.jobs.len() < sheet.board.numbers.len() {
+    let values = setting.numbers.len() + setting.choices.len();
+    if !sheet.jobs.is_empty() && sheet.jobs.len() < values {
         text += "# besides\n";
     }
     for (number, value) in (0_u16..).zip(&setting.numbers) {

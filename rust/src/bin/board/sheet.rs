@@ -118,7 +118,7 @@ fn read_line(words: &mut Words, sheet: &mut Sheet) -> Result<(), Complaint> {
 /// Whether a line's first word has its meaning as such. A declared name has not, unless what follows it fits no rule.
 fn begins_a_line(words: &Words, first: &str, sheet: &Sheet) -> bool {
     let fits_no_rule = match words.second() {
-        Some(Word::Name(second)) => second != "or" && first != "if",
+        Some(Word::Name(second)) => second != "or" && second != "before",
         Some(Word::Symbol(symbol)) => symbol == ":",
         _ => false,
     };

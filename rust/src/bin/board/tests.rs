@@ -3,6 +3,7 @@
 mod all_values;
 mod complaints;
 mod dice;
+mod drawn_jobs;
 mod folder;
 mod hours;
 mod jobs;

@@ -1,6 +1,7 @@
 //! The words of a line: names, numbers and symbols, each with its place.
 
 use crate::complaint::{Complaint, Spot};
+use crate::unknown_signs::plain_form;
 
 #[derive(Debug, Clone, Copy, PartialEq, Eq)]
 pub enum Word<'a> {
@@ -21,22 +22,6 @@ const KEPT: [&str; 5] = ["number", "choice", "or", "not", "never"];
 
 /// Larger numbers have no use on a board; sums of these stay far within 64 bits.
 const GREATEST: i64 = 1_000_000_000;
-
-/// Signs that people write and that have a plain form.
-const PLAIN_FORMS: [(char, &str); 9] = [
-    ('≤', "<="),
-    ('≥', ">="),
-    ('≠', "!="),
-    ('−', "-"),
-    ('–', "-"),
-    ('×', "*"),
-    ('…', ".."),
-    ('“', "\""),
-    ('”', "\""),
-];
-
-/// Some programs put it unseen at the beginning of a file.
-const BYTE_ORDER_MARK: char = '\u{feff}';
 
 /// A line's words, taken from the left.
 #[derive(Clone, Copy)]
@@ -253,13 +238,4 @@ fn comment_start(line: &str) -> usize {
         }
     }
     line.len()
-}
-
-/// What to write in the place of a sign that is none here.
-fn plain_form(sign: char) -> String {
-    if sign == BYTE_ORDER_MARK {
-        return " (a byte order mark, BOM); save the file as UTF-8 without it".to_string();
-    }
-    let found = PLAIN_FORMS.iter().find(|row| row.0 == sign);
-    found.map_or(String::new(), |row| format!("; write `{}`", row.1))
 }
