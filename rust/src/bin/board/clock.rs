@@ -2,7 +2,7 @@
 
 use crate::complaint::Complaint;
 use crate::sheet::Sheet;
-use crate::week::{parts_a_day, weekday, Week};
+use crate::week::{is_nearly_a_weekday, parts_a_day, weekday, Week};
 use crate::words::{Word, Words};
 
 pub const NEEDS_WEEK: &str = "a line such as `week from Monday 00:00 step 30 min` above";
@@ -46,8 +46,16 @@ pub fn take_hours(words: &mut Words, sheet: &Sheet) -> Result<Option<Hours>, Com
     let (spot, Word::Name(name)) = (words.spot(), words.peek()?) else {
         return Ok(None);
     };
-    let Some(day) = weekday(name).filter(|_| !sheet.names.contains_key(name)) else {
+    if sheet.names.contains_key(name) {
         return Ok(None);
+    }
+    let Some(day) = weekday(name) else {
+        let is_meant = sheet.week.is_some() && is_nearly_a_weekday(name);
+        return if is_meant {
+            Err(words.expected("a weekday such as Tue or Tuesday"))
+        } else {
+            Ok(None)
+        };
     };
     let Some(week) = sheet.week else {
         return Err(Complaint::new(spot, format!("clock hours need {NEEDS_WEEK}")));

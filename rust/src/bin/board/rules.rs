@@ -82,7 +82,11 @@ pub fn read_alternatives(words: &mut Words, sheet: &Sheet) -> Result<Vec<Part>, 
         }
         parts.push(read_part(words, sheet)?);
     }
-    words.end("`or` or the end of the line")?;
+    let help = match words.peek()? {
+        Word::Name("and") => " (for `and` write a line for each)",
+        _ => "",
+    };
+    words.end(&format!("`or` or the end of the line{help}"))?;
     Ok(parts)
 }
 

@@ -21,6 +21,9 @@ pub fn plain_form(sign: char) -> String {
     if sign == BYTE_ORDER_MARK {
         return " (a byte order mark, BOM); save the file as UTF-8 without it".to_string();
     }
+    if sign == '.' {
+        return "; there are no fractions: 7 h 30 min is seven and a half hours".to_string();
+    }
     let found = PLAIN_FORMS.iter().find(|row| row.0 == sign);
     found.map_or(String::new(), |row| format!("; write `{}`", row.1))
 }

@@ -20,6 +20,12 @@ pub fn weekday(name: &str) -> Option<i64> {
     Some(day as i64)
 }
 
+/// Whether a name is a weekday but for large and small letters.
+pub fn is_nearly_a_weekday(name: &str) -> bool {
+    let is_written = |word: &str| word.eq_ignore_ascii_case(name);
+    DAYS.iter().any(|day| is_written(day) || is_written(&day[..3]))
+}
+
 /// Whether a step parts every day evenly, so that each clock hour is the same on all days.
 pub fn parts_a_day(step: i64) -> bool {
     step > 0 && DAY % step == 0
