@@ -95,6 +95,7 @@ fn a_model_that_breaks_an_axiom_is_refused_at_the_number() {
 #[test]
 fn wrong_words_after_board_are_answered_with_the_right_ones() {
     let (words, status) = shell("board solve boards/nothing.board");
-    assert!(words.starts_with("board record FILE.board"));
+    let found = "expected words as below, found `board solve boards/nothing.board`\n\nboard record FILE.board";
+    assert!(words.starts_with(found), "{words}");
     assert_eq!(status, Some(2));
 }

@@ -73,7 +73,7 @@ fn main() -> ExitCode {
     let words = std::env::args_os().skip(1).map(OsString::into_string);
     let outcome = match words.collect::<Result<Vec<String>, OsString>>() {
         Ok(words) => run(&words.iter().map(String::as_str).collect::<Vec<_>>()),
-        Err(_) => Err(wrong_words()),
+        Err(_) => Err(wrong_words(&[])),
     };
     match outcome {
         Ok(true) => ExitCode::SUCCESS,
@@ -90,7 +90,7 @@ fn run(words: &[&str]) -> Result<bool, Trouble> {
     match words {
         ["record", file] => commands::record::run(file),
         ["text", file] => commands::text::run(file),
-        ["show", words @ ..] => show(words),
+        ["show", values @ ..] if values.iter().any(|word| *word != BROKEN) => show(values),
         ["rules", file] => commands::rules::run(file),
         ["cnf", file] => commands::cnf::run(file),
         ["model", file] => commands::model::run(file),
@@ -105,19 +105,19 @@ fn run(words: &[&str]) -> Result<bool, Trouble> {
         }
         ["--help" | "-h" | "help"] => output::put(USAGE.as_bytes()),
         ["--version"] => output::put(concat!("board ", env!("CARGO_PKG_VERSION"), "\n").as_bytes()),
-        _ => Err(wrong_words()),
+        _ => Err(wrong_words(words)),
     }
 }
 
+/// The first word that is not `--broken` is the file.
 fn show(words: &[&str]) -> Result<bool, Trouble> {
     let is_brief = words.contains(&BROKEN);
     let words: Vec<&str> = words.iter().copied().filter(|word| *word != BROKEN).collect();
-    match words[..] {
-        [file, ref values @ ..] => commands::show::run(file, values, is_brief),
-        [] => Err(wrong_words()),
-    }
+    commands::show::run(words[0], &words[1..], is_brief)
 }
 
-fn wrong_words() -> Trouble {
-    Trouble::new(Status::WrongUse, USAGE.trim_end())
+fn wrong_words(words: &[&str]) -> Trouble {
+    let found = [&["board"], words].concat().join(" ");
+    let words = format!("expected words as below, found `{found}`\n\n{}", USAGE.trim_end());
+    Trouble::new(Status::WrongUse, words)
 }

@@ -84,6 +84,7 @@ pub fn read_alternatives(words: &mut Words, sheet: &Sheet) -> Result<Vec<Part>, 
     }
     let help = match words.peek()? {
         Word::Name("and") => " (for `and` write a line for each)",
+        Word::Symbol(":") => " (a clock needs its weekday, such as Tue 08:00)",
         _ => "",
     };
     words.end(&format!("`or` or the end of the line{help}"))?;

@@ -8,7 +8,7 @@ const DECLARED: &str = "week from Monday 00:00 step 30 min\nmachine kiln\nmachin
     job mugs on kiln takes 7 h then 6 h cooling : Mon 07:00 .. Sun 20:00\nchoice wet\n";
 
 /// A sixth line, the column of the complaint about it, and its words.
-const ROWS: [(&str, usize, &str); 35] = [
+const ROWS: [(&str, usize, &str); 36] = [
     ("week from Tue 00:00 step 1 h", 1, "expected one `week` line only"),
     ("week Tue 00:00 step 1 h", 6, "expected `from`, found `Tue`"),
     (
@@ -18,6 +18,11 @@ const ROWS: [(&str, usize, &str); 35] = [
     ),
     ("week from Tue 00:00 step 7", 26, "expected a step, such as `30 min` or `1 h`, found `7`"),
     ("week from today 00:00 step 1 h", 11, "expected a weekday, found `today`"),
+    (
+        "mugs >= 08:00",
+        11,
+        "expected `or` or the end of the line (a clock needs its weekday, such as Tue 08:00), found `:`",
+    ),
     ("mugs >= tue 08:00", 9, "expected a weekday such as Tue or Tuesday, found `tue`"),
     ("mugs >= Tue 08:00 and wet", 19, "expected `or` or the end of the line (for `and` write a line for each), found `and`"),
     ("mugs + 7.5 h <= 9", 9, "expected a name, a number or a sign, found `.`; there are no fractions: 7 h 30 min is seven and a half hours"),
