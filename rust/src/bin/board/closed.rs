@@ -9,7 +9,7 @@ use crate::words::{Word, Words};
 
 #[derive(Debug, Clone)]
 pub struct Closed {
-    pub spot: Spot,
+    spot: Spot,
     comment: String,
     /// The machines that are closed; none is named where all are.
     machines: Vec<usize>,

@@ -84,9 +84,10 @@ pub fn read_job(words: &mut Words, sheet: &mut Sheet) -> Result<(), Complaint> {
 fn read_machines(words: &mut Words, sheet: &Sheet) -> Result<Vec<usize>, Complaint> {
     let mut machines = Vec::new();
     loop {
+        let spot = words.spot();
         let machine = read_machine_name(words, sheet)?;
         if machines.contains(&machine) {
-            return Err(words.expected("each machine once"));
+            return Err(Complaint::new(spot, "expected each machine once"));
         }
         machines.push(machine);
         if !words.take_if(Word::Name("or"))? {

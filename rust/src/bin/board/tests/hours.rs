@@ -47,7 +47,7 @@ const ROWS: [(&str, usize, &str); 36] = [
         13,
         "expected the name of a machine that is declared above, found `oven`",
     ),
-    ("job cups on kiln or kiln takes 3 h", 26, "expected each machine once, found `takes`"),
+    ("job cups on kiln or kiln takes 3 h", 21, "expected each machine once"),
     ("job cups on kiln takes h", 24, "expected a duration, found `h`"),
     (
         "job cups on kiln takes 3 h then 2 h : 0 .. 99",
