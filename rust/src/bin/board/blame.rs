@@ -35,6 +35,14 @@ pub fn of_record(sheet: &Sheet, builder: &Builder, refusal: Refusal) -> Option<C
     }
 }
 
+/// What the library refuses of a sheet that is not read to its end.
+pub fn of_what_is_read(sheet: &Sheet) -> Option<Complaint> {
+    let sheet = sheet.settled();
+    let builder = sheet.board.builder();
+    let refusal = basmuthar::size(&builder.record()).err()?;
+    of_record(&sheet, &builder, refusal)
+}
+
 /// The complaint that the record is full at a field, or at the first part that its count has no room for.
 fn full(sheet: &Sheet, field: Field, refusal: Refusal) -> Option<Complaint> {
     let clause = match field.part {

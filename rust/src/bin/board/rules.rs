@@ -1,5 +1,6 @@
 //! Rules: literals joined by `or`, written in a line or made for one, and turned into clauses of a record.
 
+use crate::blame;
 use crate::board::Clause;
 use crate::complaint::{fitted, Complaint, Spot};
 use crate::limits::{full_for, FEWER_RULES};
@@ -57,9 +58,9 @@ pub fn add_rule(sheet: &mut Sheet, drafted: Drafted) -> Result<(), Complaint> {
     let first = sheet.rules.last().map_or(0, |rule| rule.clauses.end);
     let clauses = first..first + placed.len();
     if u16::try_from(clauses.end).is_err() {
-        // The library would refuse it too; going on would only take long.
-        let words = full_for(made_for.as_deref());
-        return Err(Complaint::new(spot, words).with_help(FEWER_RULES));
+        // Going on would only take long: what there is by now is refused.
+        let here = || Complaint::new(spot, full_for(made_for.as_deref())).with_help(FEWER_RULES);
+        return Err(blame::of_what_is_read(sheet).unwrap_or_else(here));
     }
     sheet.rules.push(Rule { spot, text, comment, made_for, parts, placed, clauses });
     Ok(())

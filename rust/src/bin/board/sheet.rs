@@ -126,6 +126,13 @@ fn begins_a_line(words: &Words, first: &str, sheet: &Sheet) -> bool {
 }
 
 impl Sheet {
+    /// The sheet with the rules that it has by now in their places.
+    pub fn settled(&self) -> Sheet {
+        let mut sheet = self.clone();
+        sheet.settle();
+        sheet
+    }
+
     /// Gives the rules' clauses their places on the board, in the order of the lines.
     fn settle(&mut self) {
         self.rules.sort_by_key(|rule| rule.spot.line);
