@@ -1,6 +1,6 @@
 #!/usr/bin/env bash
-# Boards through real solvers and back: board cnf, then cadical and minisat, then board model and board show; and board
-# earliest for every number.
+# Boards through real solvers and back: board cnf, then cadical and minisat, then board model and board show; board place;
+# and board earliest for every number.
 #
 #     tests/solvers.sh [HOW MANY BOARDS TO DRAW, 100 IF NOT SAID]
 #
@@ -38,15 +38,20 @@ ask() {
 
 # The verdict of a solver on a board; its values are decoded, judged and looked through.
 verdict() {
-    local solver=$1 file=$2
+    local solver=$1 file=$2 status=0 placed=0
     ask "$solver" "$work/cnf"
-    "$board" model "$file" <"$work/reply" >"$work/values" || fail "$solver's reply is refused: $file"
-    if grep -q '^# the solver says that there is no solution$' "$work/values"; then
-        echo UNSATISFIABLE
-    else
-        "$board" show "$file" "$work/values" >"$work/shown" || fail "$solver's values do not hold: $file"
-        echo SATISFIABLE
-    fi
+    "$board" model "$file" <"$work/reply" >"$work/values" 2>"$work/trouble" || status=$?
+    "$board" place "$file" -- "$solver" >"$work/placed" 2>"$work/trouble" || placed=$?
+    [ "$placed" = "$status" ] || fail "board place ends with $placed, board model with $status: $solver, $file"
+    case $status in
+    3) echo UNSATISFIABLE && return ;;
+    0) ;;
+    *) fail "$solver's reply is refused: $file: $(cat "$work/trouble")" ;;
+    esac
+    for values in "$work/values" "$work/placed"; do
+        "$board" show "$file" "$values" >"$work/shown" || fail "$solver's values do not hold: $file"
+    done
+    echo SATISFIABLE
 }
 
 # The least value of a number by a solver, or `none`; what is printed has to read as a solution with that value.
@@ -63,10 +68,21 @@ earliest() {
     echo "$value"
 }
 
+# The names of a board's numbers, in their order.
+numbers() {
+    "$board" rules "$1" | sed -n 's/^number \([^ ]*\) :.*/\1/p'
+}
+
+# The numbers whose least values are looked for: of a board with jobs only its closings, as each takes many questions.
+wanted() {
+    if grep -q '^job ' "$1"; then sed -n 's/^closing \([^ ]*\).*/\1/p' "$1"; else numbers "$1"; fi
+}
+
 # The least value of each number of a board: the same by every solver and, where all values were tried, by them.
 least() {
-    local file=$1 tried=$2 place=4 name first said solver
-    for name in $(sed -n 's/^number \(.*\):.*/\1/p' "$file" | tr ',' ' '); do
+    local file=$1 tried=$2 place name first said solver
+    for name in $(wanted "$file"); do
+        place=$(($(numbers "$file" | grep -nx -- "$name" | cut -d : -f 1) + 3))
         first=""
         for solver in "${solvers[@]}"; do
             said=$(earliest "$solver" "$file" "$name")
@@ -80,7 +96,6 @@ least() {
         esac
         [ "$first" = "$said" ] || fail "the least $name: $first by ${solvers[0]}, $said by trying all values: $file"
         if [ "$first" = none ]; then none=$((none + 1)); else found=$((found + 1)); fi
-        place=$((place + 1))
     done
 }
 

@@ -1,6 +1,6 @@
 //! The boards that are measured, each with a solution that it was built around.
 
-use crate::record::{follows, record, AtMost, Term};
+use basmuthar::{Builder, Literal};
 
 pub struct Board {
     pub title: &'static str,
@@ -22,13 +22,17 @@ pub fn workshop_week() -> Board {
         }
         for firing in 1..firings {
             let earlier = number((kiln + 1) % kilns, firing - 1);
-            clauses.push(vec![follows(earlier, firing_hours(earlier), number(kiln, firing))]);
+            clauses.push(vec![Literal::follows(
+                earlier,
+                firing_hours(earlier),
+                number(kiln, firing),
+            )]);
         }
     }
     let starts = (0..kilns).flat_map(|_| (0..i32::from(firings)).map(|firing| 16 * firing));
     Board {
         title: "A workshop's week: 200 firings in 168 hours, two-term rules",
-        record: record(kilns * firings, (0, 167), &clauses),
+        record: record(kilns * firings, (0, 167), clauses),
         solution: starts.collect(),
     }
 }
@@ -43,7 +47,7 @@ pub fn shop() -> Board {
         for operation in 1..count {
             let earlier = number(job, operation - 1);
             let hours = operation_hours(earlier);
-            clauses.push(vec![follows(earlier, hours, number(job, operation))]);
+            clauses.push(vec![Literal::follows(earlier, hours, number(job, operation))]);
         }
     }
     for machine in 0..count {
@@ -54,7 +58,7 @@ pub fn shop() -> Board {
     let starts = (0..count).flat_map(|_| (0..i32::from(count)).map(|operation| 100 * operation));
     Board {
         title: "A shop of 100 operations in hours 0 to 1,500",
-        record: record(count * count, (0, 1_500), &clauses),
+        record: record(count * count, (0, 1_500), clauses),
         solution: starts.collect(),
     }
 }
@@ -68,31 +72,46 @@ pub fn three_term_sums() -> Board {
     for first in 0..count {
         let neighbours = [0, 1, 2].map(|place| ((first + place) % count) as u16);
         let row = coefficients[first as usize % coefficients.len()];
-        let terms: Vec<Term> = row.into_iter().zip(neighbours).collect();
-        let product = |&(a, x): &Term| i32::from(a) * solution[usize::from(x)];
+        let terms: Vec<(i8, u16)> = row.into_iter().zip(neighbours).collect();
+        let product = |&(a, x): &(i8, u16)| i32::from(a) * solution[usize::from(x)];
         let constant = terms.iter().map(product).sum::<i32>() + first % 7;
-        clauses.push(vec![AtMost { terms, constant }]);
+        clauses.push(vec![Literal::at_most(terms, constant)]);
     }
     Board {
         title: "Sums of three terms: 48 rules in 0 to 100",
-        record: record(count as u16, (0, 100), &clauses),
+        record: record(count as u16, (0, 100), clauses),
         solution,
     }
 }
 
+/// The record of numbers that all have the same bounds, and of rules.
+fn record(numbers: u16, (lower, upper): (i16, i16), rules: Vec<Vec<Literal>>) -> Vec<u8> {
+    let mut board = Builder::new();
+    for _ in 0..numbers {
+        board.number(lower, upper);
+    }
+    for rule in rules {
+        board.rule(rule);
+    }
+    board.record()
+}
+
 /// A clause for each pair: one of the two is over before the other begins.
-fn apart(numbers: &[u16], hours: fn(u16) -> i32) -> Vec<Vec<AtMost>> {
+fn apart(numbers: &[u16], hours: fn(u16) -> i32) -> Vec<Vec<Literal>> {
     let mut clauses = Vec::new();
     for (index, &one) in numbers.iter().enumerate() {
         for &other in &numbers[index + 1..] {
-            clauses.push(vec![follows(one, hours(one), other), follows(other, hours(other), one)]);
+            clauses.push(vec![
+                Literal::follows(one, hours(one), other),
+                Literal::follows(other, hours(other), one),
+            ]);
         }
     }
     clauses
 }
 
-fn ended_by(firing: u16, end: i32) -> Vec<AtMost> {
-    vec![AtMost { terms: vec![(1, firing)], constant: end - firing_hours(firing) }]
+fn ended_by(firing: u16, end: i32) -> Vec<Literal> {
+    vec![Literal::at_most([(1, firing)], end - firing_hours(firing))]
 }
 
 /// From 6 to 16 hours.

@@ -7,7 +7,6 @@
 mod boards;
 mod clock;
 mod operations;
-mod record;
 mod table;
 
 use boards::{shop, three_term_sums, workshop_week};

@@ -11,7 +11,8 @@
 //! | [`image`] | a record, values and Boolean bytes | the plain model of that solution |
 //! | [`closing`] | a record, a variable and a solver's replies | its least value over all solutions, or the next question ([`Hour`]) |
 //!
-//! [`earliest`] puts the questions of [`closing`] one after another.
+//! [`earliest`] puts the questions of [`closing`] one after another. A [`Builder`] puts a board together and writes its
+//! record.
 //!
 //! Every operation takes every input: what is wrong is answered with a [`Refusal`], and then nothing that was lent
 //! has changed.
@@ -68,11 +69,15 @@
 //! # Ok::<(), basmuthar::Refusal>(())
 //! ```
 
+mod builder;
 mod closing;
+mod fields;
 mod library;
 mod operations;
 mod refusal;
 
+pub use builder::{Builder, Comparison, Literal, Term};
 pub use closing::{closing, earliest, Hour, Stopped};
+pub use fields::{Field, Part};
 pub use operations::{compile, decode, image, judge, size, Sizes};
 pub use refusal::Refusal;

@@ -1,4 +1,4 @@
-//! Small scripts that stand in for a solver, and `board earliest` run with them on a board of one number.
+//! Small scripts that stand in for a solver, and `board earliest` or `board place` run with them on a board of one number.
 
 use crate::run::in_project;
 use std::fs::{self, Permissions};
@@ -48,9 +48,22 @@ impl Fake {
 
     /// The command `board earliest x.board x --` with a solver and its words.
     pub fn command(&self, solver: &[&str]) -> Command {
+        self.board(&["earliest", &self.path("x.board"), "x", "--"], solver)
+    }
+
+    /// The command `board place x.board --` with a solver and its words.
+    pub fn placing(&self, solver: &[&str]) -> Command {
+        self.board(&["place", &self.path("x.board"), "--"], solver)
+    }
+
+    /// The command `board why x.board --` with a solver and its words.
+    pub fn asking_why(&self, solver: &[&str]) -> Command {
+        self.board(&["why", &self.path("x.board"), "--"], solver)
+    }
+
+    fn board(&self, words: &[&str], solver: &[&str]) -> Command {
         let mut command = in_project("board");
-        command.args(["earliest", &self.path("x.board"), "x", "--"]).args(solver);
-        command.env("TMPDIR", self.path("temporary"));
+        command.args(words).args(solver).env("TMPDIR", self.path("temporary"));
         command
     }
 

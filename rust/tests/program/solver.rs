@@ -24,6 +24,9 @@ p cnf 10 17
 -10 -2 5 0
 ";
 
+const NONE: &str =
+    "# none: there is no solution\nboards/unequal_starts.board: there is no solution";
+
 fn replied(words: &str) -> (String, Option<i32>) {
     shell(&format!("printf '{words}' | board model boards/unequal_starts.board"))
 }
@@ -53,23 +56,23 @@ fn a_model_in_the_form_of_minisat_is_read_back() {
     assert_eq!(words, "# a solution, decoded and judged\nx = 0\ny = 1\n");
     assert_eq!(status, Some(0));
     let (words, status) = replied(r"UNSAT\n");
-    assert_eq!(words, "# the solver says that there is no solution\n");
-    assert_eq!(status, Some(0));
+    assert!(words.starts_with(NONE), "{words}");
+    assert_eq!(status, Some(3));
 }
 
 #[test]
-fn a_solver_that_gave_up_is_refused() {
+fn a_solver_that_gave_up_has_a_status_of_its_own() {
     for reply in [r"s UNKNOWN\n", r"INDET\n"] {
         let expected = "the reply: the solver says neither yes nor no\n";
-        assert_eq!(replied(reply), (expected.to_string(), Some(1)));
+        assert_eq!(replied(reply), (expected.to_string(), Some(4)));
     }
 }
 
 #[test]
-fn no_solution_is_said() {
+fn no_solution_is_said_and_has_a_status_of_its_own() {
     let (words, status) = replied(r"s UNSATISFIABLE\n");
-    assert_eq!(words, "# the solver says that there is no solution\n");
-    assert_eq!(status, Some(0));
+    assert!(words.starts_with(NONE), "{words}");
+    assert_eq!(status, Some(3));
 }
 
 #[test]
@@ -92,6 +95,7 @@ fn a_model_that_breaks_an_axiom_is_refused_at_the_number() {
 #[test]
 fn wrong_words_after_board_are_answered_with_the_right_ones() {
     let (words, status) = shell("board solve boards/nothing.board");
-    assert!(words.starts_with("board record FILE.board"));
+    let found = "expected words as below, found `board solve boards/nothing.board`\n\nboard record FILE.board";
+    assert!(words.starts_with(found), "{words}");
     assert_eq!(status, Some(2));
 }

@@ -1,4 +1,6 @@
-//! Boards for the tests: written as records, judged and imaged apart from the library.
+//! Boards for the tests: written as records by the builder, judged and imaged apart from the library.
+
+use basmuthar::Builder;
 
 #[derive(Debug, Clone)]
 pub enum Literal {
@@ -29,21 +31,17 @@ pub fn one_comparison(bounds: (i16, i16), coefficients: &[i8], constant: i32) ->
 
 impl Board {
     pub fn record(&self) -> Vec<u8> {
-        let mut record = vec![1, 0, 0, 0, 0];
-        for count in [self.bounds.len(), self.booleans.into(), self.clauses.len()] {
-            record.extend((count as u16).to_be_bytes());
-        }
+        let mut builder = Builder::new();
         for (lower, upper) in &self.bounds {
-            record.extend(lower.to_be_bytes());
-            record.extend(upper.to_be_bytes());
+            builder.number(*lower, *upper);
+        }
+        for _ in 0..self.booleans {
+            builder.choice();
         }
         for clause in &self.clauses {
-            record.push(clause.len() as u8);
-            clause.iter().for_each(|literal| literal.write(&mut record));
+            builder.rule(clause.iter().map(Literal::built));
         }
-        let length = record.len() as u32 - 5;
-        record[1..5].copy_from_slice(&length.to_be_bytes());
-        record
+        builder.record()
     }
 
     /// All settings within the bounds.
@@ -94,18 +92,11 @@ impl Board {
 }
 
 impl Literal {
-    fn write(&self, record: &mut Vec<u8>) {
+    fn built(&self) -> basmuthar::Literal {
         match self {
-            Literal::Boolean(number) => record.extend([0, (number >> 8) as u8, *number as u8]),
-            Literal::Negated(number) => record.extend([1, (number >> 8) as u8, *number as u8]),
-            Literal::AtMost(terms, constant) => {
-                record.extend([2, terms.len() as u8]);
-                for (coefficient, variable) in terms {
-                    record.extend(coefficient.to_be_bytes());
-                    record.extend(variable.to_be_bytes());
-                }
-                record.extend(constant.to_be_bytes());
-            }
+            Literal::Boolean(number) => basmuthar::Literal::yes(*number),
+            Literal::Negated(number) => basmuthar::Literal::no(*number),
+            Literal::AtMost(terms, limit) => basmuthar::Literal::at_most(terms.clone(), *limit),
         }
     }
 

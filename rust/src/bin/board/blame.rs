@@ -1,30 +1,61 @@
 //! The line that a refusal belongs to: from a place in the record, a clause or a variable back to the text.
 
-use crate::complaint::Spot;
+use crate::complaint::{Complaint, Spot};
+use crate::limits::{full_at, FEWER_NUMBERS, FEWER_RULES, LONGER_STEP, SHORTER_LIST};
 use crate::sheet::Sheet;
-use crate::writing::{written, Mark, Owner, Written};
-use basmuthar::{Refusal, Sizes};
+use basmuthar::{Builder, Field, Part, Refusal, Sizes};
 
 const LONGEST_RECORD: usize = 65_536;
+const MOST_CLAUSES: usize = 4_096;
+const MOST_NUMBERS: usize = 1_024;
+const MOST_CHOICES: usize = 4_096;
 
-/// Where in the text a refusal of the whole record belongs, and what stands there.
-pub fn of_record(
-    sheet: &Sheet,
-    written: &Written,
-    refusal: Refusal,
-) -> Option<(Spot, &'static str)> {
-    if refusal.has_place() {
-        let mark = mark_at(written, refusal.detail as usize)?;
-        return Some((owner_spot(sheet, mark.owner)?, mark.says));
-    }
+/// A refusal of the whole record as a complaint about the text, with what would help where the record is full.
+pub fn of_record(sheet: &Sheet, builder: &Builder, refusal: Refusal) -> Option<Complaint> {
     match refusal.number {
-        1 => {
-            let mark = mark_at(written, LONGEST_RECORD)?;
-            Some((owner_spot(sheet, mark.owner)?, "the record is full here"))
+        1 => full(sheet, builder.field_at(LONGEST_RECORD)?, refusal),
+        9 => {
+            let spot = rule_of_too_many(sheet)?;
+            let words = format!("{refusal} (too many with this rule)");
+            Some(Complaint::new(spot, words).with_help(SHORTER_LIST))
         }
-        9 => Some((rule_of_too_many(sheet)?, "too many with this rule")),
+        _ if refusal.has_place() => {
+            let field = builder.field_at(refusal.detail as usize)?;
+            match field.part {
+                Part::AllNumbers | Part::AllChoices | Part::AllRules => full(sheet, field, refusal),
+                part => {
+                    let words = format!("{refusal} ({})", field.says);
+                    let complaint = Complaint::new(part_spot(sheet, part)?, words);
+                    let is_late = refusal.number == 5 && sheet.week.is_some();
+                    Some(if is_late { complaint.with_help(LONGER_STEP) } else { complaint })
+                }
+            }
+        }
         _ => None,
     }
+}
+
+/// What the library refuses of a sheet that is not read to its end.
+pub fn of_what_is_read(sheet: &Sheet) -> Option<Complaint> {
+    let sheet = sheet.settled();
+    let builder = sheet.board.builder();
+    let refusal = basmuthar::size(&builder.record()).err()?;
+    of_record(&sheet, &builder, refusal)
+}
+
+/// The complaint that the record is full at a field, or at the first part that its count has no room for.
+fn full(sheet: &Sheet, field: Field, refusal: Refusal) -> Option<Complaint> {
+    let clause = match field.part {
+        Part::AllRules => Some(MOST_CLAUSES),
+        Part::Rule(clause) | Part::Literal(clause, _) => Some(clause),
+        _ => None,
+    };
+    let words = full_at(clause.and_then(|clause| sheet.rule_of_clause(clause)));
+    let help = if clause.is_some() { FEWER_RULES } else { FEWER_NUMBERS };
+    // Of a record that is too long, the field at its end says nothing more.
+    let says = if refusal.has_place() { format!(" ({})", field.says) } else { String::new() };
+    let spot = part_spot(sheet, field.part)?;
+    Some(Complaint::new(spot, format!("{words}: {refusal}{says}")).with_help(help))
 }
 
 /// Where a refusal of values and choices belongs.
@@ -56,23 +87,17 @@ pub fn of_model(sheet: &Sheet, refusal: Refusal) -> Option<Spot> {
     }
 }
 
-/// The last field that begins at or before a place.
-fn mark_at(written: &Written, place: usize) -> Option<&Mark> {
-    let after = written.marks.partition_point(|mark| mark.place <= place);
-    written.marks.get(after.checked_sub(1)?)
-}
-
-/// A count's spot is that of the last one counted: it is one too many.
-fn owner_spot(sheet: &Sheet, owner: Owner) -> Option<Spot> {
+/// The spot of a part; a count's is that of the first one that is too many.
+fn part_spot(sheet: &Sheet, part: Part) -> Option<Spot> {
     let spots = &sheet.spots;
-    match owner {
-        Owner::AllNumbers => spots.numbers.last().map(|number| number.name),
-        Owner::AllChoices => spots.choices.last().copied(),
-        Owner::AllClauses => spots.clauses.last().map(|clause| clause.rule),
-        Owner::Lower(number) => spots.numbers.get(number).map(|number| number.lower),
-        Owner::Upper(number) => spots.numbers.get(number).map(|number| number.upper),
-        Owner::Clause(clause) => spots.clauses.get(clause).map(|clause| clause.rule),
-        Owner::Literal(clause, literal) => {
+    match part {
+        Part::AllNumbers => spots.numbers.get(MOST_NUMBERS).map(|number| number.name),
+        Part::AllChoices => spots.choices.get(MOST_CHOICES).copied(),
+        Part::AllRules => spots.clauses.get(MOST_CLAUSES).map(|clause| clause.rule),
+        Part::Lower(number) => spots.numbers.get(number).map(|number| number.lower),
+        Part::Upper(number) => spots.numbers.get(number).map(|number| number.upper),
+        Part::Rule(clause) => spots.clauses.get(clause).map(|clause| clause.rule),
+        Part::Literal(clause, literal) => {
             let literals = &spots.clauses.get(clause)?.literals;
             literals.get(literal).copied()
         }
@@ -89,7 +114,7 @@ fn rule_of_too_many(sheet: &Sheet) -> Option<Spot> {
 
 /// Size of the board with only so many of its numbers and clauses.
 fn size_of_first(sheet: &Sheet, numbers: usize, clauses: usize) -> Result<Sizes, Refusal> {
-    basmuthar::size(&written(&sheet.board.first(numbers, clauses)).record)
+    basmuthar::size(&sheet.board.first(numbers, clauses).builder().record())
 }
 
 /// The least count up to a greatest one for which what holds for all lesser counts no longer holds.

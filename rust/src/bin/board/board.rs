@@ -1,5 +1,7 @@
 //! A board: bounded numbers, choices and clauses, in the sizes that a record's fields have.
 
+use basmuthar::{Builder, Literal};
+
 /// Numbers are counted from 0, choices from 1, as a record counts them.
 #[derive(Debug, Clone, Default, PartialEq, Eq)]
 pub struct Board {
@@ -19,29 +21,6 @@ pub struct Number {
 /// Holds where one of its literals does.
 pub type Clause = Vec<Literal>;
 
-#[derive(Debug, Clone, PartialEq, Eq)]
-pub enum Literal {
-    /// Holds where the choice is yes, or no, as is wanted.
-    Choice {
-        number: u16,
-        wanted: bool,
-    },
-    Comparison(Comparison),
-}
-
-/// Says that the sum of the terms is at most the limit.
-#[derive(Debug, Clone, PartialEq, Eq)]
-pub struct Comparison {
-    pub terms: Vec<Term>,
-    pub limit: i32,
-}
-
-#[derive(Debug, Clone, Copy, PartialEq, Eq)]
-pub struct Term {
-    pub coefficient: i8,
-    pub variable: u16,
-}
-
 /// What the numbers and choices of a board are set to.
 #[derive(Debug, Clone, PartialEq, Eq)]
 pub struct Setting {
@@ -51,6 +30,21 @@ pub struct Setting {
 }
 
 impl Board {
+    /// The board without its names, ready to be written as a record.
+    pub fn builder(&self) -> Builder {
+        let mut builder = Builder::new();
+        for number in &self.numbers {
+            builder.number(number.lower, number.upper);
+        }
+        for _ in &self.choices {
+            builder.choice();
+        }
+        for clause in &self.clauses {
+            builder.rule(clause.iter().cloned());
+        }
+        builder
+    }
+
     /// The board with only so many of its numbers and clauses, which name no number that is left out.
     pub fn first(&self, numbers: usize, clauses: usize) -> Board {
         Board {
@@ -59,32 +53,4 @@ impl Board {
             clauses: self.clauses[..clauses].to_vec(),
         }
     }
-}
-
-impl Literal {
-    pub fn holds(&self, setting: &Setting) -> bool {
-        match self {
-            Literal::Choice { number, wanted } => {
-                (setting.choices[usize::from(*number) - 1] == 1) == *wanted
-            }
-            Literal::Comparison(comparison) => {
-                comparison.sum(setting) <= i64::from(comparison.limit)
-            }
-        }
-    }
-}
-
-impl Comparison {
-    /// The sum of the terms at a setting.
-    pub fn sum(&self, setting: &Setting) -> i64 {
-        let products = self.terms.iter().map(|term| {
-            i64::from(term.coefficient) * i64::from(setting.numbers[usize::from(term.variable)])
-        });
-        products.sum()
-    }
-}
-
-/// Whether one of the literals holds.
-pub fn clause_holds(clause: &Clause, setting: &Setting) -> bool {
-    clause.iter().any(|literal| literal.holds(setting))
 }

@@ -20,7 +20,7 @@ impl Clauses {
     }
 
     /// Writes the list, and these literals after it as clauses of their own.
-    pub fn write(&self, out: &mut impl Write, added: &[i32]) -> io::Result<()> {
+    pub fn write(&self, out: &mut dyn Write, added: &[i32]) -> io::Result<()> {
         writeln!(out, "p cnf {} {}", self.sizes.variables, self.sizes.clauses + added.len())?;
         for number in &self.list {
             let end = if *number == 0 { '\n' } else { ' ' };
@@ -55,7 +55,6 @@ pub fn at_most(board: &Board, number: usize, hour: i32) -> i32 {
 mod tests {
     use super::*;
     use crate::sheet::read_sheet;
-    use crate::writing::written;
 
     const TEXT: &str = "number a : -3 .. 2\nchoice s, t\nnumber b : 5 .. 5\nnumber c : 0 .. 4\n\
         a + 3 <= c or s\n";
@@ -63,7 +62,7 @@ mod tests {
     #[test]
     fn a_number_is_at_most_an_hour_where_the_library_says_so() {
         let board = read_sheet(TEXT).unwrap().board;
-        let record = written(&board).record;
+        let record = board.builder().record();
         let mut model = vec![0; basmuthar::size(&record).unwrap().variables];
         for (a, c) in (-3..=2).flat_map(|a| (0..=4).map(move |c| (a, c))) {
             let values = [a, 5, c];

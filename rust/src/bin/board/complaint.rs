@@ -14,12 +14,18 @@ const WIDEST: usize = 200;
 pub struct Complaint {
     pub spot: Spot,
     pub words: String,
+    /// What would help, where that needs a sentence of its own.
+    pub help: Option<&'static str>,
 }
 
 impl Complaint {
     pub fn new(spot: Spot, words: impl Into<String>) -> Complaint {
         let words = words.into();
-        Complaint { spot, words }
+        Complaint { spot, words, help: None }
+    }
+
+    pub fn with_help(self, help: &'static str) -> Complaint {
+        Complaint { help: Some(help), ..self }
     }
 
     /// The complaint with the name of its text, and the line that it is about with a mark below the column.
@@ -28,7 +34,8 @@ impl Complaint {
         let (about, mark) = part_about(text.lines().nth(line - 1).unwrap_or(""), column - 1);
         let indent: String = about.chars().take(mark).map(blank).collect();
         let words = &self.words;
-        format!("{name}, line {line}, column {column}: {words}\n  {about}\n  {indent}^")
+        let help = self.help.map_or(String::new(), |help| format!("\n{help}"));
+        format!("{name}, line {line}, column {column}: {words}\n  {about}\n  {indent}^{help}")
     }
 }
 

@@ -1,6 +1,7 @@
 //! A record read as a board, with names made up for its variables.
 
-use crate::board::{Board, Clause, Comparison, Literal, Number, Term};
+use crate::board::{Board, Clause, Number};
+use basmuthar::{Comparison, Literal, Term};
 
 /// What is still to be read of a record.
 struct Rest<'a>(&'a [u8]);

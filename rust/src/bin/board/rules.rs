@@ -1,131 +1,95 @@
-//! Lines with a rule: literals joined by `or`, turned into clauses of a record.
+//! Rules: literals joined by `or`, written in a line or made for one, and turned into clauses of a record.
 
-use crate::board::{Clause, Comparison, Literal, Term};
+use crate::blame;
+use crate::board::Clause;
 use crate::complaint::{fitted, Complaint, Spot};
-use crate::sheet::{ClauseSpots, Named, Names, Rule, Sheet};
-use crate::signs::{rows_of, Turn};
-use crate::sums::{read_sum, Sum};
+use crate::limits::{full_for, FEWER_RULES};
+use crate::literals::{read_part, Part};
+use crate::sheet::{Rule, Sheet};
 use crate::words::{Word, Words};
+use basmuthar::Literal;
 
 /// The most clauses that one rule may become: as many as a record may have.
 const MOST_CLAUSES: usize = 4_096;
 
-/// A part of a rule between two `or`: each row has to hold, and a row holds where one of its literals does.
-struct Part {
-    rows: Vec<Vec<Literal>>,
-    spot: Spot,
-}
-
 /// A clause with the place of each of its literals.
-type Placed = (Clause, Vec<Spot>);
+pub type Placed = (Clause, Vec<Spot>);
 
-/// Reads a rule and adds its clauses to the board.
+/// Reads a rule and adds it to the sheet.
 pub fn read_rule(words: &mut Words, sheet: &mut Sheet) -> Result<(), Complaint> {
     let spot = words.spot();
     let text = words.rest_of_line().to_string();
-    let parts = read_parts(words, &sheet.names)?;
-    let first = sheet.board.clauses.len();
-    for (clause, literals) in joined(&parts)? {
+    let parts = read_parts(words, sheet)?;
+    let comment = words.comment().to_string();
+    add_rule(sheet, Drafted { spot, text, comment, made_for: None, parts })
+}
+
+/// Makes a rule of this text for the line at this spot.
+pub fn make_rule(
+    sheet: &mut Sheet,
+    spot: Spot,
+    text: String,
+    comment: String,
+    made_for: &str,
+) -> Result<(), Complaint> {
+    let at_spot = |complaint: Complaint| Complaint::new(spot, complaint.words);
+    let mut parts = read_parts(&mut Words::of(&text, spot.line), sheet).map_err(at_spot)?;
+    parts.iter_mut().for_each(|part| part.spot = spot);
+    let made_for = Some(made_for.to_string());
+    add_rule(sheet, Drafted { spot, text, comment, made_for, parts })
+}
+
+/// A rule that is not yet on the sheet.
+pub struct Drafted {
+    pub spot: Spot,
+    pub text: String,
+    pub comment: String,
+    pub made_for: Option<String>,
+    pub parts: Vec<Part>,
+}
+
+/// Adds a rule with its clauses to the sheet.
+pub fn add_rule(sheet: &mut Sheet, drafted: Drafted) -> Result<(), Complaint> {
+    let Drafted { spot, text, comment, made_for, parts } = drafted;
+    let placed = joined(&parts)?;
+    for (clause, _) in &placed {
         fitted::<u8>(clause.len() as i64, spot, "at most 64 literals in a rule")?;
-        sheet.board.clauses.push(clause);
-        sheet.spots.clauses.push(ClauseSpots { rule: spot, literals });
     }
-    let last = sheet.board.clauses.len();
-    fitted::<u16>(last as i64, spot, "at most 4,096 rules")?;
-    let clauses = first..last;
-    sheet.rules.push(Rule { spot, text, clauses });
+    let first = sheet.rules.last().map_or(0, |rule| rule.clauses.end);
+    let clauses = first..first + placed.len();
+    if u16::try_from(clauses.end).is_err() {
+        // Going on would only take long: what there is by now is refused.
+        let here = || Complaint::new(spot, full_for(made_for.as_deref())).with_help(FEWER_RULES);
+        return Err(blame::of_what_is_read(sheet).unwrap_or_else(here));
+    }
+    sheet.rules.push(Rule { spot, text, comment, made_for, parts, placed, clauses });
     Ok(())
 }
 
-fn read_parts(words: &mut Words, names: &Names) -> Result<Vec<Part>, Complaint> {
-    let mut parts = Vec::new();
+fn read_parts(words: &mut Words, sheet: &Sheet) -> Result<Vec<Part>, Complaint> {
     if words.take_if(Word::Name("never"))? {
         words.end("the end of the line")?;
-        return Ok(parts);
+        return Ok(Vec::new());
     }
-    loop {
-        parts.push(read_part(words, names)?);
-        if !words.take_if(Word::Name("or"))? {
-            break;
+    read_alternatives(words, sheet)
+}
+
+/// Reads literals joined by `or`, up to the end of the line.
+pub fn read_alternatives(words: &mut Words, sheet: &Sheet) -> Result<Vec<Part>, Complaint> {
+    let mut parts = vec![read_part(words, sheet)?];
+    while words.take_if(Word::Name("or"))? {
+        if words.peek()? == Word::End {
+            return Err(words.expected("another alternative after `or`, on the same line"));
         }
+        parts.push(read_part(words, sheet)?);
     }
-    words.end("`or` or the end of the line")?;
+    let help = match words.peek()? {
+        Word::Name("and") => " (for `and` write a line for each)",
+        Word::Symbol(":") => " (a clock needs its weekday, such as Tue 08:00)",
+        _ => "",
+    };
+    words.end(&format!("`or` or the end of the line{help}"))?;
     Ok(parts)
-}
-
-fn read_part(words: &mut Words, names: &Names) -> Result<Part, Complaint> {
-    let spot = words.spot();
-    let rows = if words.take_if(Word::Name("not"))? {
-        let Some(number) = take_choice(words, names)? else {
-            return Err(words.expected("a declared choice's name"));
-        };
-        choice_rows(number, false)
-    } else if let Some(number) = take_choice(words, names)? {
-        choice_rows(number, true)
-    } else if is_unknown(words.peek()?, names) {
-        return Err(words.expected("a declared name, a whole number or `not`"));
-    } else {
-        read_comparison(words, names, spot)?
-    };
-    Ok(Part { rows, spot })
-}
-
-fn is_unknown(word: Word, names: &Names) -> bool {
-    matches!(word, Word::Name(name) if !names.contains_key(name))
-}
-
-fn choice_rows(number: u16, wanted: bool) -> Vec<Vec<Literal>> {
-    vec![vec![Literal::Choice { number, wanted }]]
-}
-
-fn take_choice(words: &mut Words, names: &Names) -> Result<Option<u16>, Complaint> {
-    if let Word::Name(name) = words.peek()? {
-        if let Some(Named::Choice(number)) = names.get(name) {
-            words.take()?;
-            return Ok(Some(*number));
-        }
-    }
-    Ok(None)
-}
-
-/// Reads `sum sign sum` into rows of comparisons.
-fn read_comparison(
-    words: &mut Words,
-    names: &Names,
-    spot: Spot,
-) -> Result<Vec<Vec<Literal>>, Complaint> {
-    let left = read_sum(words, names)?;
-    let rows = match words.peek()? {
-        Word::Symbol(sign) => rows_of(sign),
-        _ => None,
-    };
-    let Some(rows) = rows else {
-        return Err(words.expected("`<=`, `>=`, `<`, `>`, `=`, `!=`, `+` or `-`"));
-    };
-    words.take()?;
-    let sum = left.less(&read_sum(words, names)?);
-    if sum.terms.is_empty() {
-        let words = "expected a comparison with a number's name: here none is left";
-        return Err(Complaint::new(spot, words));
-    }
-    let turned_row = |row: &&[Turn]| row.iter().map(|turn| turned(&sum, turn, spot)).collect();
-    rows.iter().map(turned_row).collect()
-}
-
-/// "sum at most 0", its sign turned as the table of signs says.
-fn turned(sum: &Sum, turn: &Turn, spot: Spot) -> Result<Literal, Complaint> {
-    fitted::<u8>(sum.terms.len() as i64, spot, "at most three terms")?;
-    let mut terms = Vec::new();
-    for &(coefficient, variable) in &sum.terms {
-        let coefficient = turn.factor * coefficient;
-        terms.push(Term {
-            coefficient: fitted(coefficient, spot, "a coefficient from -64 to 64")?,
-            variable,
-        });
-    }
-    let limit = turn.factor * -sum.constant + turn.shift;
-    let limit = fitted(limit, spot, "a limit from -1,000,000 to 1,000,000")?;
-    Ok(Literal::Comparison(Comparison { terms, limit }))
 }
 
 /// The clauses that say what the parts joined by `or` say: one for each way to take a row from every part.

@@ -15,28 +15,53 @@ const AT_LEAST: Turn = turn(-1, 0);
 const BELOW: Turn = turn(1, -1);
 const ABOVE: Turn = turn(-1, -1);
 
-const SIGNS: [(&str, Rows); 6] = [
-    ("<=", &[&[AT_MOST]]),
-    (">=", &[&[AT_LEAST]]),
-    ("<", &[&[BELOW]]),
-    (">", &[&[ABOVE]]),
-    ("=", &[&[AT_MOST], &[AT_LEAST]]),
-    ("!=", &[&[BELOW, ABOVE]]),
+/// A sign, what it turns into, and the sign that holds exactly where it does not.
+struct Sign {
+    sign: &'static str,
+    rows: Rows,
+    negated: &'static str,
+}
+
+const SIGNS: [Sign; 6] = [
+    Sign { sign: "<=", rows: &[&[AT_MOST]], negated: ">" },
+    Sign { sign: ">=", rows: &[&[AT_LEAST]], negated: "<" },
+    Sign { sign: "<", rows: &[&[BELOW]], negated: ">=" },
+    Sign { sign: ">", rows: &[&[ABOVE]], negated: "<=" },
+    Sign { sign: "=", rows: &[&[AT_MOST], &[AT_LEAST]], negated: "!=" },
+    Sign { sign: "!=", rows: &[&[BELOW, ABOVE]], negated: "=" },
 ];
 
 const fn turn(factor: i64, shift: i64) -> Turn {
     Turn { factor, shift }
 }
 
+/// The comparison sign that a symbol is.
+pub fn sign_of(symbol: &str) -> Option<&'static str> {
+    SIGNS.iter().map(|row| row.sign).find(|sign| *sign == symbol)
+}
+
 /// What a comparison sign turns into.
-pub fn rows_of(sign: &str) -> Option<Rows> {
-    let row = SIGNS.iter().find(|row| row.0 == sign)?;
-    Some(row.1)
+pub fn rows_of(sign: &str) -> Rows {
+    row(sign).rows
+}
+
+/// The sign that holds exactly where this one does not.
+pub fn negated(sign: &str) -> &'static str {
+    row(sign).negated
+}
+
+fn row(sign: &str) -> &'static Sign {
+    SIGNS.iter().find(|row| row.sign == sign).expect("one of the six signs")
 }
 
 #[cfg(test)]
 mod tests {
     use super::*;
+
+    fn holds(sign: &str, left: i64, right: i64) -> bool {
+        let turn_holds = |turn: &Turn| turn.factor * left <= turn.factor * right + turn.shift;
+        rows_of(sign).iter().all(|row| row.iter().any(turn_holds))
+    }
 
     type Meaning = fn(&i64, &i64) -> bool;
 
@@ -53,10 +78,9 @@ mod tests {
         for (sign, meaning) in meanings {
             for sum in -4..=4 {
                 for limit in -4..=4 {
-                    let holds = |turn: &Turn| turn.factor * sum <= turn.factor * limit + turn.shift;
-                    let rows = rows_of(sign).unwrap();
-                    let all_hold = rows.iter().all(|row| row.iter().any(holds));
-                    assert_eq!(all_hold, meaning(&sum, &limit), "{sum} {sign} {limit}");
+                    let means = meaning(&sum, &limit);
+                    assert_eq!(holds(sign, sum, limit), means, "{sum} {sign} {limit}");
+                    assert_eq!(holds(negated(sign), sum, limit), !means, "{sum} {sign} {limit}");
                 }
             }
         }

@@ -1,9 +1,10 @@
-//! A model as a solution: decoded and judged by the library, and written in words.
+//! A model as a solution: decoded and judged by the library; or that there is none.
 
 use crate::blame;
-use crate::board::{Board, Setting};
+use crate::board::Setting;
 use crate::opened::Opened;
-use crate::wording::yes_or_no;
+use crate::output::put;
+use crate::trouble::{Status, Trouble};
 
 /// What a model sets the numbers and choices to, after Judge has accepted it.
 pub fn decoded(opened: &Opened, model: &[u8]) -> Result<Setting, String> {
@@ -18,14 +19,11 @@ pub fn decoded(opened: &Opened, model: &[u8]) -> Result<Setting, String> {
     Ok(setting)
 }
 
-/// Values in the form that `board show` reads.
-pub fn setting_words(board: &Board, setting: &Setting) -> String {
-    let mut text = "# a solution, decoded and judged\n".to_string();
-    for (number, value) in board.numbers.iter().zip(&setting.numbers) {
-        text += &format!("{} = {value}\n", number.name);
-    }
-    for (choice, byte) in board.choices.iter().zip(&setting.choices) {
-        text += &format!("{choice} = {}\n", yes_or_no(*byte));
-    }
-    text
+/// Prints that there is no solution, and gives the trouble that ends the program.
+pub fn no_solution(file: &str, why: &str) -> Result<Trouble, Trouble> {
+    put(b"# none: there is no solution\n")?;
+    let help = "`board why` finds lines that cannot be kept together; `board show --broken` tells which rules a plan of \
+        your own breaks.";
+    let words = format!("{file}: there is no solution: {why}.\n{help}");
+    Ok(Trouble::new(Status::NoSolution, words))
 }

@@ -1,7 +1,13 @@
 //! Tests of reading and writing boards.
 
+mod all_values;
 mod complaints;
 mod dice;
+mod drawn_jobs;
 mod folder;
+mod hours;
+mod jobs;
+mod limits;
 mod meaning;
+mod plain;
 mod round_trip;

@@ -5,8 +5,8 @@
 pub enum Status {
     /// A board, a name, a value or a reply is refused, or does not hold.
     Refused = 1,
-    /// The words after `board` are wrong.
-    WrongWords = 2,
+    /// The words after `board` are wrong, or standard output takes nothing.
+    WrongUse = 2,
     /// The solver says that there is no solution.
     NoSolution = 3,
     /// The solver says neither yes nor no.

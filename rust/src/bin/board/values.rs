@@ -1,10 +1,15 @@
 //! Values for the numbers and choices of a board, given as `name=value` words or in files of them.
 
 use crate::board::Setting;
-use crate::complaint::{fitted, Complaint};
+use crate::clock::read_value;
+use crate::complaint::Complaint;
 use crate::opened::read_text;
 use crate::sheet::{Named, Sheet};
 use crate::words::{Word, Words};
+use std::ops::RangeInclusive;
+
+/// No number of a board has bounds beyond these.
+const WIDEST: RangeInclusive<i64> = -4_096..=4_095;
 
 /// What is set so far.
 struct Given<'a> {
@@ -20,6 +25,9 @@ pub fn read_setting(arguments: &[&str], sheet: &Sheet) -> Result<Setting, String
         numbers: vec![None; sheet.board.numbers.len()],
         choices: vec![None; sheet.board.choices.len()],
     };
+    if let Some(words) = torn_apart(arguments) {
+        return Err(words);
+    }
     for argument in arguments {
         if argument.contains('=') {
             given.read("the values", argument)?;
@@ -28,6 +36,22 @@ pub fn read_setting(arguments: &[&str], sheet: &Sheet) -> Result<Setting, String
         }
     }
     given.complete()
+}
+
+/// What to write where a value was torn into several words: `x = 1`, or `mugs=Tue 08:00` without quotes.
+fn torn_apart(arguments: &[&str]) -> Option<String> {
+    let is_clock =
+        |word: &str| word.contains(':') && word.starts_with(|c: char| c.is_ascii_digit());
+    arguments.windows(2).find_map(|pair| {
+        let (one, other) = (pair[0], pair[1]);
+        if one.ends_with('=') || other.starts_with('=') {
+            let name = one.trim_end_matches('=').trim();
+            let help = format!("write {name}=VALUE, or put it in quotes: '{name} = VALUE'");
+            return Some(format!("the values: expected no blanks about `=`; {help}"));
+        }
+        let is_torn = one.contains('=') && is_clock(other);
+        is_torn.then(|| format!("the values: expected one word; put it in quotes: '{one} {other}'"))
+    })
 }
 
 impl Given<'_> {
@@ -41,13 +65,13 @@ impl Given<'_> {
 
     fn read_line(&mut self, words: &mut Words) -> Result<(), Complaint> {
         while words.peek()? != Word::End {
-            self.read_value(words)?;
+            self.read_setting(words)?;
         }
         Ok(())
     }
 
     /// Reads `kiln = 12` or `shared = yes`.
-    fn read_value(&mut self, words: &mut Words) -> Result<(), Complaint> {
+    fn read_setting(&mut self, words: &mut Words) -> Result<(), Complaint> {
         let unknown = words.expected("the name of a number or a choice of the board");
         let spot = words.spot();
         let name = words.name()?;
@@ -57,13 +81,19 @@ impl Given<'_> {
         words.symbol("=")?;
         let is_new = match named {
             Named::Number(number) => {
-                let value = fitted(words.integer()?, spot, "a value of 32 bits")?;
+                let value = read_value(words, self.sheet)?;
+                if !WIDEST.contains(&value) {
+                    let words = format!("expected a value from -4,096 to 4,095, found {value}");
+                    return Err(Complaint::new(spot, words));
+                }
+                let value = value as i32;
                 self.numbers[usize::from(number)].replace(value).is_none()
             }
             Named::Choice(number) => {
                 let value = read_yes_or_no(words)?;
                 self.choices[usize::from(number) - 1].replace(value).is_none()
             }
+            Named::Machine(_) => return Err(unknown),
         };
         if is_new {
             Ok(())

@@ -1,12 +1,15 @@
-//! A board in words: its declarations, its clauses, and sums with values put in.
+//! A board in words: its declarations and its clauses.
 
-use crate::board::{Board, Clause, Comparison, Literal, Number, Setting, Term};
+use crate::board::{Board, Clause};
+use crate::sheet::Sheet;
+use basmuthar::{Comparison, Literal, Term};
 
 /// A board as a text that reads back as the same board.
 pub fn board_words(board: &Board) -> String {
     let mut text = String::new();
     for number in &board.numbers {
-        text += &format!("number {} : {}\n", number.name, bounds_words(number));
+        let (name, lower, upper) = (&number.name, number.lower, number.upper);
+        text += &format!("number {name} : {lower} .. {upper}\n");
     }
     for choice in &board.choices {
         text += &format!("choice {choice}\n");
@@ -18,8 +21,11 @@ pub fn board_words(board: &Board) -> String {
     text
 }
 
-pub fn bounds_words(number: &Number) -> String {
-    format!("{} .. {}", number.lower, number.upper)
+/// The bounds of a number as its declaration has them.
+pub fn bounds_words(sheet: &Sheet, number: u16) -> String {
+    let declared = &sheet.board.numbers[usize::from(number)];
+    let [lower, upper] = [declared.lower, declared.upper].map(i64::from);
+    format!("{} .. {}", sheet.value_words(number, lower), sheet.value_words(number, upper))
 }
 
 fn clause_words(board: &Board, clause: &Clause) -> String {
@@ -31,7 +37,7 @@ fn clause_words(board: &Board, clause: &Clause) -> String {
     literals.join(" or ")
 }
 
-pub fn literal_words(board: &Board, literal: &Literal) -> String {
+fn literal_words(board: &Board, literal: &Literal) -> String {
     match literal {
         Literal::Choice { number, wanted } => {
             let not = if *wanted { "" } else { "not " };
@@ -43,7 +49,7 @@ pub fn literal_words(board: &Board, literal: &Literal) -> String {
     }
 }
 
-pub fn choice_name(board: &Board, number: u16) -> &str {
+fn choice_name(board: &Board, number: u16) -> &str {
     &board.choices[usize::from(number) - 1]
 }
 
@@ -56,18 +62,9 @@ pub fn yes_or_no(byte: u8) -> &'static str {
 }
 
 /// A sum with the names of its variables, such as `2*x - y`.
-pub fn sum_words(board: &Board, comparison: &Comparison) -> String {
+fn sum_words(board: &Board, comparison: &Comparison) -> String {
     let name = |term: &Term| board.numbers[usize::from(term.variable)].name.clone();
     added(comparison, name)
-}
-
-/// A sum with values in the place of its variables, such as `2*3 - (-4)`.
-pub fn sum_of_values(comparison: &Comparison, setting: &Setting) -> String {
-    let value = |term: &Term| match setting.numbers[usize::from(term.variable)] {
-        value if value < 0 => format!("({value})"),
-        value => value.to_string(),
-    };
-    added(comparison, value)
 }
 
 fn added(comparison: &Comparison, word: impl Fn(&Term) -> String) -> String {

@@ -1,12 +1,15 @@
 //! The words of a line: names, numbers and symbols, each with its place.
 
 use crate::complaint::{Complaint, Spot};
+use crate::unknown_signs::plain_form;
 
 #[derive(Debug, Clone, Copy, PartialEq, Eq)]
 pub enum Word<'a> {
     Name(&'a str),
     Number(i64),
     Symbol(&'static str),
+    /// What stands between two `"`.
+    Text(&'a str),
     /// The end of the line, or of what stands before a comment.
     End,
 }
@@ -21,8 +24,10 @@ const KEPT: [&str; 5] = ["number", "choice", "or", "not", "never"];
 const GREATEST: i64 = 1_000_000_000;
 
 /// A line's words, taken from the left.
+#[derive(Clone, Copy)]
 pub struct Words<'a> {
     line: &'a str,
+    comment: &'a str,
     number: usize,
     /// How many bytes of the line are taken.
     taken: usize,
@@ -31,9 +36,14 @@ pub struct Words<'a> {
 impl<'a> Words<'a> {
     /// The words of the line with this number.
     pub fn of(line: &'a str, number: usize) -> Words<'a> {
-        let line = line.split('#').next().unwrap_or("").trim_end();
-        let taken = 0;
-        Words { line, number, taken }
+        let (line, comment) = line.split_at(comment_start(line));
+        let comment = comment.trim_start_matches('#').trim();
+        Words { line: line.trim_end(), comment, number, taken: 0 }
+    }
+
+    /// What stands behind the `#` of the line.
+    pub fn comment(&self) -> &'a str {
+        self.comment
     }
 
     /// The place of the next word.
@@ -45,6 +55,13 @@ impl<'a> Words<'a> {
     /// The next word, which stays.
     pub fn peek(&self) -> Result<Word<'a>, Complaint> {
         Ok(self.first()?.0)
+    }
+
+    /// The word after the next, if both can be read.
+    pub fn second(&self) -> Option<Word<'a>> {
+        let mut later = *self;
+        later.take().ok()?;
+        later.peek().ok()
     }
 
     /// Takes the next word.
@@ -70,6 +87,41 @@ impl<'a> Words<'a> {
         } else {
             Err(self.expected(&format!("`{symbol}`")))
         }
+    }
+
+    /// Takes this word, or complains that it is not next.
+    pub fn word(&mut self, word: &'static str) -> Result<(), Complaint> {
+        if self.take_if(Word::Name(word))? {
+            Ok(())
+        } else {
+            Err(self.expected(&format!("`{word}`")))
+        }
+    }
+
+    /// Takes a text between two `"`, if one is next.
+    pub fn text(&mut self) -> Result<Option<&'a str>, Complaint> {
+        let Word::Text(text) = self.peek()? else {
+            return Ok(None);
+        };
+        self.take()?;
+        Ok(Some(text))
+    }
+
+    /// Takes a clock such as `08:00`, up to `24:00`, in minutes.
+    pub fn clock(&mut self) -> Result<i64, Complaint> {
+        let expected = self.expected("a clock such as 08:00");
+        let (hours, rest) = digits_of(self.rest_of_line());
+        let (minutes, _) = digits_of(rest.strip_prefix(':').unwrap_or(""));
+        let minute =
+            match (hours.len(), minutes.len(), hours.parse::<i64>(), minutes.parse::<i64>()) {
+                (1 | 2, 2, Ok(hours), Ok(minutes)) if minutes < 60 => 60 * hours + minutes,
+                _ => return Err(expected),
+            };
+        if minute > 24 * 60 {
+            return Err(expected);
+        }
+        self.taken = self.line.len() - self.rest_of_line().len() + hours.len() + 1 + minutes.len();
+        Ok(minute)
     }
 
     /// Takes a name that is free for numbers and choices.
@@ -130,12 +182,26 @@ impl<'a> Words<'a> {
             let name = leading(rest, |character| character.is_alphanumeric() || character == '_');
             return Ok((Word::Name(name), name.len()));
         }
+        if let Some(text) = rest.strip_prefix('"') {
+            return self.text_of(text);
+        }
         match SYMBOLS.iter().find(|symbol| rest.starts_with(**symbol)) {
             Some(symbol) => Ok((Word::Symbol(symbol), symbol.len())),
             None => Err(Complaint::new(
                 self.spot(),
-                format!("expected a name, a number or a sign, found `{first}`"),
+                format!(
+                    "expected a name, a number or a sign, found `{first}`{}",
+                    plain_form(first)
+                ),
             )),
+        }
+    }
+
+    /// A text whose first `"` is left off, and how many bytes it has with both.
+    fn text_of(&self, text: &'a str) -> Result<(Word<'a>, usize), Complaint> {
+        match text.split_once('"') {
+            Some((text, _)) => Ok((Word::Text(text), text.len() + 2)),
+            None => Err(Complaint::new(self.spot(), "expected a `\"` at the end of this text")),
         }
     }
 
@@ -154,4 +220,22 @@ impl<'a> Words<'a> {
 fn leading(text: &str, is_of_kind: impl Fn(char) -> bool) -> &str {
     let end = text.find(|character| !is_of_kind(character));
     &text[..end.unwrap_or(text.len())]
+}
+
+/// The digits that a text begins with, and the rest.
+fn digits_of(text: &str) -> (&str, &str) {
+    text.split_at(leading(text, |character| character.is_ascii_digit()).len())
+}
+
+/// Where the comment of a line begins: at the first `#` that is in no text between two `"`.
+fn comment_start(line: &str) -> usize {
+    let mut is_inside = false;
+    for (place, character) in line.char_indices() {
+        match character {
+            '"' => is_inside = !is_inside,
+            '#' if !is_inside => return place,
+            _ => {}
+        }
+    }
+    line.len()
 }

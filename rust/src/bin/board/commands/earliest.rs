@@ -2,12 +2,13 @@
 //!
 //! All that is printed reads as values with comments: questions, replies and the result are lines of `#`.
 
-use super::put;
 use crate::board::Setting;
 use crate::clauses::{at_most, Clauses};
 use crate::opened::Opened;
+use crate::output::put;
+use crate::placement::placement_words;
 use crate::sheet::Named;
-use crate::solution::{decoded, setting_words};
+use crate::solution::{decoded, no_solution};
 use crate::solver::{Question, Said, Solver};
 use crate::trouble::{Status, Trouble};
 use basmuthar::Stopped;
@@ -41,6 +42,7 @@ fn number_named(file: &str, opened: &Opened, name: &str) -> Result<usize, String
     let found = match opened.sheet.names.get(name) {
         Some(Named::Number(number)) => return Ok(usize::from(*number)),
         Some(Named::Choice(_)) => format!("`{name}`, which is a choice"),
+        Some(Named::Machine(_)) => format!("`{name}`, which is a machine"),
         None => format!("`{name}`"),
     };
     let numbers = &opened.sheet.board.numbers;
@@ -70,13 +72,18 @@ impl Search<'_> {
         &self.opened.sheet.board.numbers[self.number].name
     }
 
+    /// A value of the number, in words.
+    fn hour(&self, value: i32) -> String {
+        self.opened.sheet.value_words(self.number as u16, value.into())
+    }
+
     fn least_shown(&self) -> Option<i32> {
         self.shown.as_ref().map(|setting| setting.numbers[self.number])
     }
 
     /// Puts the question whether the number can be at most this, and prints it with its reply.
     fn ask(&mut self, hour: i32) -> Result<bool, Trouble> {
-        let words = format!("{} at most {hour}", self.name());
+        let words = format!("{} at most {}", self.name(), self.hour(hour));
         put(format!("# {words}?").as_bytes())?;
         let reply = self.reply(hour, words);
         let said: &[u8] = match &reply {
@@ -103,16 +110,13 @@ impl Search<'_> {
 
     /// A yes counts only if its model is a solution that keeps to the question.
     fn look_at(&mut self, model: &[u8], hour: i32, question: &Question) -> Result<(), Trouble> {
-        let wrong = |words: &str| {
-            let help = "A yes like this is no answer: look at the solver, or ask another one.";
-            self.solver.trouble(question, Status::WrongYes, words, help)
-        };
         let setting = decoded(self.opened, model)
-            .map_err(|refused| wrong(&format!("says yes, and its model is refused:\n{refused}")))?;
+            .map_err(|refused| self.solver.wrong_yes(question, &refused))?;
         let value = setting.numbers[self.number];
         if value > hour {
-            let words = format!("says yes, and its model has {} = {value}.", self.name());
-            return Err(wrong(&words));
+            let (name, value) = (self.name(), self.hour(value));
+            let words = format!("says yes, and its model has {name} = {value}.");
+            return Err(self.solver.no_answer(question, &words));
         }
         if self.least_shown().is_none_or(|least| value <= least) {
             self.shown = Some(setting);
@@ -124,7 +128,7 @@ impl Search<'_> {
     fn agree(&self, question: &Question) -> Result<(), Trouble> {
         match (self.greatest_no, self.least_shown()) {
             (Some(no), Some(value)) if value <= no => {
-                let name = self.name();
+                let (name, no, value) = (self.name(), self.hour(no), self.hour(value));
                 let words = format!(
                     "contradicts itself: it says no to {name} at most {no}, and shows a solution with \
                      {name} = {value}."
@@ -140,21 +144,20 @@ impl Search<'_> {
         let (name, questions) = (self.name(), counted(self.questions));
         match (found, &self.shown) {
             (Some(value), Some(setting)) if self.least_shown() == found => {
+                let value = self.hour(value);
                 let words = format!("# the earliest: {name} = {value}, after {questions}\n");
-                put((words + &setting_words(&self.opened.sheet.board, setting)).as_bytes())
+                put((words + &placement_words(&self.opened.sheet, setting)).as_bytes())
             }
             (Some(value), _) => {
+                let value = self.hour(value);
                 let words = format!("{file}: {name} = {value} was found, and no solution shows it");
                 Err(Trouble::new(Status::SolverFailed, words))
             }
             (None, _) => {
-                put(b"# none: there is no solution\n")?;
-                let upper = self.opened.sheet.board.numbers[self.number].upper;
-                let words = format!(
-                    "{file}: there is no solution: the solver says no to {name} at most {upper}, its upper \
-                     bound.\n`board show` tells which rules a plan of your own breaks."
-                );
-                Err(Trouble::new(Status::NoSolution, words))
+                let upper = self.hour(self.opened.sheet.board.numbers[self.number].upper.into());
+                let words =
+                    format!("the solver says no to {name} at most {upper}, its upper bound");
+                Err(no_solution(file, &words)?)
             }
         }
     }

@@ -1,10 +1,11 @@
 //! `board model`: a solver's reply as values in words, decoded and judged by the library.
 
-use super::put;
 use crate::opened::Opened;
+use crate::output::put;
+use crate::placement::placement_words;
 use crate::reply::{read_reply, Reply};
-use crate::solution::{decoded, setting_words};
-use crate::trouble::Trouble;
+use crate::solution::{decoded, no_solution};
+use crate::trouble::{Status, Trouble};
 use std::io::{self, Read};
 
 pub fn run(file: &str) -> Result<bool, Trouble> {
@@ -14,11 +15,14 @@ pub fn run(file: &str) -> Result<bool, Trouble> {
     let reply = read_reply(&text, opened.sizes.variables)
         .map_err(|unread| unread.complaint.shown("the reply", &text))?;
     match reply {
-        Reply::NoSolution => put(b"# the solver says that there is no solution\n"),
-        Reply::Unknown => Err("the reply: the solver says neither yes nor no".to_string().into()),
+        Reply::NoSolution => Err(no_solution(file, "the solver says no")?),
+        Reply::Unknown => {
+            let words = "the reply: the solver says neither yes nor no";
+            Err(Trouble::new(Status::NoVerdict, words))
+        }
         Reply::Model(model) => {
             let setting = decoded(&opened, &model)?;
-            put(setting_words(&opened.sheet.board, &setting).as_bytes())
+            put(placement_words(&opened.sheet, &setting).as_bytes())
         }
     }
 }

@@ -1,7 +1,7 @@
 //! `board record`: the record of a board.
 
-use super::put;
 use crate::opened::Opened;
+use crate::output::put;
 use crate::trouble::Trouble;
 
 pub fn run(file: &str) -> Result<bool, Trouble> {

@@ -1,101 +1,85 @@
 //! `board show`: every rule with the values put in, and whether it holds.
 
-use super::put;
 use crate::blame;
-use crate::board::{clause_holds, Board, Clause, Literal, Number, Setting};
+use crate::board::Setting;
+use crate::judging::clauses_hold;
 use crate::opened::Opened;
+use crate::output::put;
 use crate::sheet::{Rule, Sheet};
+use crate::shown::part_words;
 use crate::trouble::Trouble;
 use crate::values::read_setting;
-use crate::wording::{
-    bounds_words, choice_name, literal_words, sum_of_values, sum_words, yes_or_no,
-};
+use crate::wording::{bounds_words, yes_or_no};
 use basmuthar::Refusal;
 
-pub fn run(file: &str, arguments: &[&str]) -> Result<bool, Trouble> {
+/// With this word anywhere behind `show`, only what is broken is written.
+pub const BROKEN: &str = "--broken";
+
+pub fn run(file: &str, values: &[&str], is_brief: bool) -> Result<bool, Trouble> {
     let opened = Opened::open(file)?;
-    let setting = read_setting(arguments, &opened.sheet)?;
+    let sheet = &opened.sheet;
+    let setting = read_setting(values, sheet)?;
     let verdict = basmuthar::judge(&opened.record, &setting.numbers, &setting.choices);
-    let mut text = setting_words(&opened.sheet.board, &setting);
-    for rule in &opened.sheet.rules {
-        text += &rule_words(&opened.sheet, rule, &setting);
+    let mut text = setting_words(sheet, &setting, is_brief);
+    for rule in &sheet.rules {
+        let words = rule_words(sheet, rule, &setting, is_brief);
+        text += &words.map_err(|refusal| opened.refused(refusal, Some(rule.spot)))?;
     }
-    text += &verdict_words(&opened.sheet, verdict);
-    put(text.as_bytes())?;
+    text += &verdict_words(sheet, verdict);
+    put(text.trim_start().as_bytes())?;
     Ok(verdict.is_ok())
 }
 
-fn setting_words(board: &Board, setting: &Setting) -> String {
+/// Every value with its bounds; in brief, those that are outside.
+fn setting_words(sheet: &Sheet, setting: &Setting, is_brief: bool) -> String {
     let mut text = String::new();
-    for (number, value) in board.numbers.iter().zip(&setting.numbers) {
-        let (name, bounds) = (&number.name, bounds_words(number));
-        text += &format!("{name} = {value}, {} {bounds}\n", within(number, *value));
+    for (number, value) in (0_u16..).zip(&setting.numbers) {
+        let declared = &sheet.board.numbers[usize::from(number)];
+        let is_within = i32::from(declared.lower) <= *value && *value <= declared.upper.into();
+        if is_brief && is_within {
+            continue;
+        }
+        let within = if is_within { "within" } else { "OUTSIDE" };
+        let (value, bounds) =
+            (sheet.value_words(number, (*value).into()), bounds_words(sheet, number));
+        text += &format!("{} = {value}, {within} {bounds}\n", declared.name);
     }
-    for (choice, byte) in board.choices.iter().zip(&setting.choices) {
-        text += &format!("{choice} = {}\n", yes_or_no(*byte));
+    if !is_brief {
+        for (choice, byte) in sheet.board.choices.iter().zip(&setting.choices) {
+            text += &format!("{choice} = {}\n", yes_or_no(*byte));
+        }
     }
     text
 }
 
-fn within(number: &Number, value: i32) -> &'static str {
-    if i32::from(number.lower) <= value && value <= i32::from(number.upper) {
-        "within"
-    } else {
-        "OUTSIDE"
+/// A rule with the alternatives that make it hold, or with all of them where none does.
+fn rule_words(
+    sheet: &Sheet,
+    rule: &Rule,
+    setting: &Setting,
+    is_brief: bool,
+) -> Result<String, Refusal> {
+    let rule_holds = clauses_hold(sheet, &sheet.board.clauses[rule.clauses.clone()], setting)?;
+    if is_brief && rule_holds {
+        return Ok(String::new());
     }
-}
-
-fn rule_words(sheet: &Sheet, rule: &Rule, setting: &Setting) -> String {
-    let clauses = &sheet.board.clauses[rule.clauses.clone()];
-    let all_hold = clauses.iter().all(|clause| clause_holds(clause, setting));
-    let (line, holds) = (rule.spot.line, holds_words(all_hold));
-    let mut text = format!("\nline {line} {holds}: {}\n", rule.text);
-    for (index, clause) in clauses.iter().enumerate() {
-        if clauses.len() > 1 {
-            let holds = holds_words(clause_holds(clause, setting));
-            text += &format!("  part {} of {} {holds}\n", index + 1, clauses.len());
-        }
-        text += &clause_words(&sheet.board, clause, setting);
-    }
-    text
-}
-
-fn clause_words(board: &Board, clause: &Clause, setting: &Setting) -> String {
-    if clause.is_empty() {
-        return "    nothing can make this hold\n".to_string();
-    }
-    let lines = clause.iter().map(|literal| {
-        let words = literal_with_values(board, literal, setting);
-        format!("    {words}: {}\n", holds_words(literal.holds(setting)))
-    });
-    lines.collect()
-}
-
-/// `2*x - y = 2*3 - 4 = 2, limit 5`, or `not shared, with shared = no`.
-fn literal_with_values(board: &Board, literal: &Literal, setting: &Setting) -> String {
-    match literal {
-        Literal::Choice { number, .. } => {
-            let byte = setting.choices[usize::from(*number) - 1];
-            let (words, name) = (literal_words(board, literal), choice_name(board, *number));
-            format!("{words}, with {name} = {}", yes_or_no(byte))
-        }
-        Literal::Comparison(comparison) => {
-            let names = sum_words(board, comparison);
-            let values = sum_of_values(comparison, setting);
-            let (sum, limit) = (comparison.sum(setting).to_string(), comparison.limit);
-            let is_alone = values.trim_matches(['(', ')']) == sum;
-            let values = if is_alone { String::new() } else { format!("{values} = ") };
-            format!("{names} = {values}{sum}, limit {limit}")
+    let made_for = rule.made_for.as_ref().map_or(String::new(), |words| format!(" ({words})"));
+    let holds = if rule_holds { "holds" } else { "does not hold" };
+    let comment = match &rule.comment[..] {
+        "" => String::new(),
+        comment => format!("  # {comment}"),
+    };
+    let mut text = format!("\nline {}{made_for} {holds}: {}{comment}\n", rule.spot.line, rule.text);
+    for part in &rule.parts {
+        let part_holds = clauses_hold(sheet, &part.rows, setting)?;
+        if part_holds || !rule_holds {
+            text += &format!("    {}\n", part_words(sheet, part, setting, part_holds));
         }
     }
-}
-
-fn holds_words(holds: bool) -> &'static str {
-    if holds {
-        "holds"
-    } else {
-        "does not hold"
+    if rule.parts.is_empty() {
+        text += "    nothing can make this hold\n";
     }
+    Ok(text)
 }
 
 /// The library's own verdict on the whole.

@@ -1,13 +1,13 @@
 //! `board text`: a record as a readable board.
 
-use super::put;
+use crate::opened::read_record;
+use crate::output::put;
 use crate::reading::board_of;
 use crate::trouble::Trouble;
 use crate::wording::board_words;
-use std::fs;
 
 pub fn run(file: &str) -> Result<bool, Trouble> {
-    let record = fs::read(file).map_err(|error| format!("{file}: {error}"))?;
+    let record = read_record(file)?;
     basmuthar::size(&record).map_err(|refusal| format!("{file}: {refusal}"))?;
     put(board_words(&board_of(&record)).as_bytes())
 }

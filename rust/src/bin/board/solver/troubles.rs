@@ -18,6 +18,17 @@ impl Solver<'_> {
         self.trouble(question, Status::SolverFailed, words, help)
     }
 
+    /// A yes whose model is refused in these words.
+    pub fn wrong_yes(&self, question: &Question, refused: &str) -> Trouble {
+        self.no_answer(question, &format!("says yes, and its model is refused:\n{refused}"))
+    }
+
+    /// A yes that its model does not bear out.
+    pub fn no_answer(&self, question: &Question, words: &str) -> Trouble {
+        let help = "A yes like this is no answer: look at the solver, or ask another one.";
+        self.trouble(question, Status::WrongYes, words, help)
+    }
+
     pub(super) fn not_started(&self, question: &Question, error: io::Error) -> Trouble {
         let help = "Install it, or write the path of a program that may be run after `--`.";
         let words = format!("cannot be started: {error}.");

@@ -20,7 +20,11 @@ const ROWS: [(&str, usize, &str); 24] = [
     ("a", 2, "expected `<=`, `>=`, `<`, `>`, `=`, `!=`, `+` or `-`, found the end of the line"),
     ("a * 2 <= 3", 3, "expected `<=`, `>=`, `<`, `>`, `=`, `!=`, `+` or `-`, found `*`"),
     ("a <= b <= 3", 8, "expected `or` or the end of the line, found `<=`"),
-    ("s or", 5, "expected a whole number, or a declared number's name, found the end of the line"),
+    (
+        "s or",
+        5,
+        "expected another alternative after `or`, on the same line, found the end of the line",
+    ),
     ("  not a", 7, "expected a declared choice's name, found `a`"),
     ("s <= 3", 3, "expected `or` or the end of the line, found `<=`"),
     ("never s", 7, "expected the end of the line, found `s`"),

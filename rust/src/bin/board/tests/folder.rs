@@ -5,12 +5,11 @@
 use crate::board::Board;
 use crate::reading::board_of;
 use crate::sheet::{read_sheet, Sheet};
-use crate::writing::written;
 use std::path::{Path, PathBuf};
 use std::{env, fs};
 
 /// All files of boards/ and boards/refused/ with this ending.
-fn files(ending: &str) -> Vec<PathBuf> {
+pub fn files(ending: &str) -> Vec<PathBuf> {
     let boards = Path::new(env!("CARGO_MANIFEST_DIR")).join("../boards");
     let folders = [boards.join("refused"), boards];
     let entries = folders.iter().flat_map(|folder| fs::read_dir(folder).unwrap());
@@ -20,7 +19,7 @@ fn files(ending: &str) -> Vec<PathBuf> {
     files
 }
 
-fn sheet_of(file: &Path) -> Sheet {
+pub fn sheet_of(file: &Path) -> Sheet {
     let text = fs::read_to_string(file).unwrap();
     read_sheet(&text).unwrap_or_else(|complaint| {
         panic!("{}", complaint.shown(&file.display().to_string(), &text))
@@ -43,7 +42,7 @@ fn every_text_gives_the_record_beside_it() {
     let files = files("board");
     assert!(files.len() >= 24);
     for file in files {
-        let record = written(&sheet_of(&file).board).record;
+        let record = sheet_of(&file).board.builder().record();
         let beside = file.with_extension("record");
         if env::var_os("BASMUTHAR_WRITE_RECORDS").is_some() {
             fs::write(&beside, &record).unwrap();
@@ -57,7 +56,7 @@ fn every_text_gives_the_record_beside_it() {
 fn every_sound_record_reads_back_as_its_board() {
     for file in files("board") {
         let board = sheet_of(&file).board;
-        let record = written(&board).record;
+        let record = board.builder().record();
         if basmuthar::size(&record).is_ok() {
             assert_eq!(board_of(&record), renamed(board), "{}", file.display());
         }
@@ -72,11 +71,11 @@ fn a_refusal_is_shown_at_the_line_that_the_note_beside_it_says() {
             continue;
         };
         let sheet = sheet_of(&file);
-        let written = written(&sheet.board);
-        let Err(refusal) = basmuthar::size(&written.record) else {
+        let builder = sheet.board.builder();
+        let Err(refusal) = basmuthar::size(&builder.record()) else {
             continue;
         };
-        let (spot, _) = blame::of_record(&sheet, &written, refusal).unwrap();
+        let spot = blame::of_record(&sheet, &builder, refusal).unwrap().spot;
         let line = format!("line {}, column {}", spot.line, spot.column);
         assert_eq!(note.lines().last(), Some(line.as_str()), "{}", file.display());
     }

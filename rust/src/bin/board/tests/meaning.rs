@@ -1,7 +1,8 @@
 //! What a rule says in the text is what its clauses say: drawn rules, tried at all values.
 
 use super::dice::Dice;
-use crate::board::{clause_holds, Setting};
+use crate::board::Setting;
+use crate::judging::clauses_hold;
 use crate::sheet::read_sheet;
 
 const DECLARED: &str = "number a, b, c : -2 .. 2\nchoice s, t\n";
@@ -99,29 +100,51 @@ fn settings() -> Vec<Setting> {
     (0..500).map(digits).map(setting).collect()
 }
 
+fn part(dice: &mut Dice) -> Part {
+    if dice.between(0, 2) == 0 {
+        choice(dice)
+    } else {
+        comparison(dice)
+    }
+}
+
+fn parts(dice: &mut Dice) -> Vec<Part> {
+    (0..dice.between(1, 3)).map(|_| part(dice)).collect()
+}
+
+fn joined(parts: &[Part], word: &str) -> String {
+    parts.iter().map(|part| part.text.as_str()).collect::<Vec<_>>().join(word)
+}
+
+/// The clauses of a rule's text say what it means, at all values.
+fn says(rule: &str, settings: &[Setting], means: impl Fn(&Setting) -> bool) {
+    let sheet = read_sheet(&format!("{DECLARED}{rule}\n")).unwrap();
+    for setting in settings {
+        let holds = clauses_hold(&sheet, &sheet.board.clauses, setting);
+        assert_eq!(holds, Ok(means(setting)), "{rule} at {setting:?}");
+    }
+}
+
 #[test]
 fn clauses_say_what_the_rule_says() {
-    let mut dice = Dice::new(1);
-    let settings = settings();
+    let (mut dice, settings) = (Dice::new(1), settings());
     for _ in 0..2_000 {
-        let parts: Vec<Part> =
-            (0..dice.between(1, 3))
-                .map(|_| {
-                    if dice.between(0, 2) == 0 {
-                        choice(&mut dice)
-                    } else {
-                        comparison(&mut dice)
-                    }
-                })
-                .collect();
-        let texts: Vec<&str> = parts.iter().map(|part| part.text.as_str()).collect();
-        let rule = texts.join(" or ");
-        let sheet = read_sheet(&format!("{DECLARED}{rule}\n")).unwrap();
-        for setting in &settings {
-            let means = parts.iter().any(|part| (part.means)(setting));
-            let clauses = sheet.board.clauses.iter();
-            let holds = clauses.into_iter().all(|clause| clause_holds(clause, setting));
-            assert_eq!(holds, means, "{rule} at {setting:?}");
-        }
+        let parts = parts(&mut dice);
+        let means = |setting: &Setting| parts.iter().any(|part| (part.means)(setting));
+        says(&joined(&parts, " or "), &settings, means);
+    }
+}
+
+#[test]
+fn clauses_say_what_a_condition_says() {
+    let (mut dice, settings) = (Dice::new(4), settings());
+    for _ in 0..1_000 {
+        let (conditions, parts) = (parts(&mut dice), parts(&mut dice));
+        let rule = format!("if {} then {}", joined(&conditions, " and "), joined(&parts, " or "));
+        let means = |setting: &Setting| {
+            !conditions.iter().all(|part| (part.means)(setting))
+                || parts.iter().any(|part| (part.means)(setting))
+        };
+        says(&rule, &settings, means);
     }
 }

@@ -1,11 +1,11 @@
 //! Drawn boards: their words read back as the same board, and their records too.
 
 use super::dice::Dice;
-use crate::board::{Board, Clause, Comparison, Literal, Number, Term};
+use crate::board::{Board, Clause, Number};
 use crate::reading::board_of;
 use crate::sheet::read_sheet;
 use crate::wording::board_words;
-use crate::writing::written;
+use basmuthar::{Comparison, Literal, Term};
 
 fn drawn(dice: &mut Dice) -> Board {
     let numbers = dice.between(0, 5);
@@ -57,6 +57,6 @@ fn words_and_records_read_back() {
         let board = drawn(&mut dice);
         let words = board_words(&board);
         assert_eq!(read_sheet(&words).unwrap().board, board, "{words}");
-        assert_eq!(board_of(&written(&board).record), board, "{words}");
+        assert_eq!(board_of(&board.builder().record()), board, "{words}");
     }
 }
