@@ -12,6 +12,8 @@ own Proof.antt, or left open by the kit's `search`. A function that only waits f
 without it. An edit of anything else (a contract, a constant, a definition) is made alone, and is refused if a function's need or
 a named fact fails outside of the files edited. An edit after which a proof misses names of the code is bad: it is refused for
 its shape, and may be right.
+
+What is refused need not be wrong: a proof may not follow code of the same meaning. So an edit has to be read by its author.
 """
 import concurrent.futures
 import os
