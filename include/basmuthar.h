@@ -25,9 +25,10 @@
  *   variables before x, upper - lower + 2.
  *
  * WHAT A CALLER OWES
- *   Every pointer points to as many places as the length beside it says, `answer` to four, and `hours` to three. No
- *   pointer is NULL, also where its length is 0. `answer` overlaps nothing, and a list that is written no other list of
- *   the call; `hours` is such a list.
+ *   Every pointer points to as many places as the length beside it says, `answer` to four, and `hours` to three. A list
+ *   of length 0 may be NULL, as data() of an empty C++ vector may be: nothing is read or written through it. That is
+ *   tested, not proved: no contract speaks of NULL. `answer` and `hours` are never NULL. `answer` overlaps nothing, and
+ *   a list that is written no other list of the call; `hours` is such a list.
  *   What the lists hold is free: every content has an answer.
  *
  * THE ANSWER

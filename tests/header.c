@@ -1,4 +1,4 @@
-/* Calls the six functions as a C or C++ program does: cases 12, 13 and 14 of 01, a driver of Closing, and some refusals. */
+/* Calls the six functions as a C or C++ program does: cases 12, 13 and 14 of 01, a driver of Closing, some refusals, and no lists. */
 
 #include "basmuthar.h"
 
@@ -110,10 +110,46 @@ static void closing_ends(void) {
     expect("and all of them leave the hours", hours[0] == 77 && hours[1] == 78 && hours[2] == 79);
 }
 
+/* A list of length 0 may be NULL: refused with the record, refused for its length, and accepted. */
+static void nothing_lent(void) {
+    static const uint8_t EMPTY[11] = {1, 0, 0, 0, 6, 0, 0, 0, 0, 0, 0};
+    uint64_t answer[4] = {7, 7, 7, 7};
+    int32_t hours[3] = {77, 77, 77};
+    basmuthar_size(NULL, 0, answer);
+    expect("size: no record is refused with 2", answers(answer, 2, 0, 0, 0));
+    basmuthar_compile(NULL, 0, NULL, 0, answer);
+    expect("compile: no record is refused with 2", answers(answer, 2, 0, 0, 0));
+    basmuthar_compile(RECORD, sizeof RECORD, NULL, 0, answer);
+    expect("compile: no list is refused with 10, 53", answers(answer, 10, 53, 0, 0));
+    basmuthar_compile(EMPTY, sizeof EMPTY, NULL, 0, answer);
+    expect("compile: no list is enough for no clause", answers(answer, 0, 0, 0, 0));
+    basmuthar_decode(NULL, 0, NULL, 0, NULL, 0, NULL, 0, answer);
+    expect("decode: no record is refused with 2", answers(answer, 2, 0, 0, 0));
+    basmuthar_decode(RECORD, sizeof RECORD, NULL, 0, NULL, 0, NULL, 0, answer);
+    expect("decode: no model is refused with 11, 10", answers(answer, 11, 10, 0, 0));
+    basmuthar_decode(EMPTY, sizeof EMPTY, NULL, 0, NULL, 0, NULL, 0, answer);
+    expect("decode: the model of no variable is accepted", answers(answer, 0, 0, 0, 0));
+    basmuthar_judge(NULL, 0, NULL, 0, NULL, 0, answer);
+    expect("judge: no record is refused with 2", answers(answer, 2, 0, 0, 0));
+    basmuthar_judge(RECORD, sizeof RECORD, NULL, 0, NULL, 0, answer);
+    expect("judge: no values are refused with 11, 2", answers(answer, 11, 2, 0, 0));
+    basmuthar_judge(EMPTY, sizeof EMPTY, NULL, 0, NULL, 0, answer);
+    expect("judge: no value is a solution of nothing", answers(answer, 0, 0, 0, 0));
+    basmuthar_image(NULL, 0, NULL, 0, NULL, 0, NULL, 0, answer);
+    expect("image: no record is refused with 2", answers(answer, 2, 0, 0, 0));
+    basmuthar_image(EMPTY, sizeof EMPTY, NULL, 0, NULL, 0, NULL, 0, answer);
+    expect("image: no value has the model of nothing", answers(answer, 0, 0, 0, 0));
+    basmuthar_closing(NULL, 0, 0, NULL, 0, hours, answer);
+    expect("closing: no record is refused with 2", answers(answer, 2, 0, 0, 0) && hours[0] == 77);
+    basmuthar_closing(LATE, sizeof LATE, 0, NULL, 0, hours, answer);
+    expect("closing: no reply is unfinished", answers(answer, 0, BASMUTHAR_UNFINISHED, 0, 0) && hours[2] == 3);
+}
+
 int main(void) {
     size_and_compile();
     decode_judge_and_image();
     closing_driven();
     closing_ends();
+    nothing_lent();
     return failures != 0;
 }

@@ -42,6 +42,16 @@ MUTANTS = [
         ("decode/src/search.rt", "    let mut number = from;", "    let mut number = from;\n    let mut last = Found::Nothing;"),
         ("decode/src/search.rt", "break 'search Found::At(number);", "last = Found::At(number);"),
         ("decode/src/search.rt", "break 'search Found::Nothing;", "break 'search last;")]),
+    ("the clauses tested before the bytes", [
+        ("decode/src/lib.rt", "    match first_bad_byte(model) {", "    match search_clauses(bytes, model, header) {"),
+        ("decode/src/lib.rt", "Refusal::ByteWrong { index: index }", "Refusal::ClauseFails { number: index }"),
+        ("decode/src/lib.rt", "        Found::Nothing => match search_clauses(bytes, model, header) {", "        Found::Nothing => match first_bad_byte(model) {"),
+        ("decode/src/lib.rt", "Refusal::ClauseFails { number: number }", "Refusal::ByteWrong { index: number }")]),
+    ("the values written before the clauses are tested", [
+        ("decode/src/lib.rt", "    write_values(bytes, model, header, values);", ""),
+        ("decode/src/lib.rt",
+         "    let checked = check_model(bytes, model, header);",
+         "    write_values(bytes, model, header, values);\n    let checked = check_model(bytes, model, header);")]),
     ("a value outside its bounds told before a byte that is not 0 or 1", [
         ("judge/src/checks.rt", "match first_bad_byte(booleans) {", "match first_outside(bytes, values) {"),
         ("judge/src/checks.rt", "Refusal::ByteWrong { index: index }", "Refusal::ValueOutside { index: index, }"),
