@@ -17,7 +17,6 @@ use Rattle.definitions.specs.declared.Hour.{Hour}
 use Rattle.definitions.proofs.Hour.{the-type}
 use Rattle.laws.specs.Whole.{whole}
 use Rattle.laws.specs.Halving.{half-law, isOpen, isEmpty, isOne, stands, tells-open, tells-none, tells-found, after-end, after-one}
-use Rattle.laws.specs.Admitted.{GoodBounds}
 use Rattle.laws.specs.Readings.{same, never}
 use Rattle.slots.specs.declared.Bounds.{Bounds}
 use Rattle.slots.specs.Variables.{boundsRead}
@@ -52,14 +51,9 @@ is-standing (Hour.Unfinished low high question) e k = same k
 is-standing (Hour.Refused r) e k = never k
 
 -- before the first reply
-pub begins : (replies : List ℕ) (b : Bounds) → GoodBounds (boundsRead b)
-    → Going replies (Hour.Unfinished (b .lower) (b .upper) (b .upper)) (Hour.Unfinished (b .lower) (b .upper) (b .upper)) 0
-begins replies b g = record {
-  is = refl;
-  sound = record { least = g .lowest; from = g .ordered; to = omega whole; most = g .highest };
-  inside = omega arith;
-  answers = refl;
-}
+pub begins : (replies : List ℕ) (b : Bounds) (h : ℤ) → Asked (boundsRead b) h
+    → Going replies (Hour.Unfinished (b .lower) (b .upper) h) (Hour.Unfinished (b .lower) (b .upper) h) 0
+begins replies b h a = record { is = refl; sound = a; inside = omega arith; answers = refl }
 
 module _ {replies : List ℕ} {start hour : Hour} {i : ℕ} (g : Going replies start hour i) where
   pub ends : length replies ≤ i → saidHour hour ≡ after (standing start) replies

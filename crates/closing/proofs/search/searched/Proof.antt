@@ -5,6 +5,7 @@ use mir.Syntax.{w32}
 use mir.Val.{SFits}
 use mir.Facts.{toZ-ofZ}
 use borrow.Author.Needs.{needs}
+use Rattle.laws.specs.Whole.{whole}
 use Rattle.slots.specs.Variables.{lower-fits, upper-fits}
 use Rattle.closing.specs.Ranges.{Going}
 use Rattle.closing.proofs.Going.{begins, asks, goes-on, ends, leaves-over}
@@ -22,7 +23,8 @@ loop-holds c =
     let s = c .before .before in
     let low = lower-fits (s .args .range) (s .pre) in
     let high = upper-fits (s .args .range) (s .pre) in
-    simp toZ-ofZ (begins (s .args .replies .now) (s .args .range) (s .pre))
+    let g = s .pre in
+    simp toZ-ofZ (begins (s .args .replies .now) (s .args .range) _ (record { least = g .lowest; from = omega (whole, g .ordered); to = omega (whole, g .ordered); most = g .highest }))
 
 enum-known-hour : tie.Need-enum-known-hour Inv-loop μ-loop
 enum-known-hour c = search needs
