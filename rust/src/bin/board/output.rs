@@ -52,6 +52,22 @@ pub fn put_by(write: impl FnOnce(&mut dyn Write) -> io::Result<()>) -> Result<bo
     }
 }
 
+/// Prints a question before it is asked, and the reply behind it, as a comment of a placement.
+pub fn put_asked(
+    words: &str,
+    ask: impl FnOnce() -> Result<bool, Trouble>,
+) -> Result<bool, Trouble> {
+    put(format!("# {words}?").as_bytes())?;
+    let reply = ask();
+    let said: &[u8] = match &reply {
+        Ok(true) => b" yes\n",
+        Ok(false) => b" no\n",
+        Err(_) => b" no answer\n",
+    };
+    put(said)?;
+    reply
+}
+
 fn nothing_written(why: &str) -> Trouble {
     let help = "Let it go to a file, a pipe or a screen that has room.";
     Trouble::new(Status::WrongUse, format!("standard output: {why}.\n{help}"))

@@ -5,7 +5,7 @@
 use crate::board::Setting;
 use crate::clauses::{at_most, Clauses};
 use crate::opened::Opened;
-use crate::output::put;
+use crate::output::{put, put_asked};
 use crate::placement::placement_words;
 use crate::sheet::Named;
 use crate::solution::{decoded, no_solution};
@@ -84,15 +84,7 @@ impl Search<'_> {
     /// Puts the question whether the number can be at most this, and prints it with its reply.
     fn ask(&mut self, hour: i32) -> Result<bool, Trouble> {
         let words = format!("{} at most {}", self.name(), self.hour(hour));
-        put(format!("# {words}?").as_bytes())?;
-        let reply = self.reply(hour, words);
-        let said: &[u8] = match &reply {
-            Ok(true) => b" yes\n",
-            Ok(false) => b" no\n",
-            Err(_) => b" no answer\n",
-        };
-        put(said)?;
-        reply
+        put_asked(&words, || self.reply(hour, words.clone()))
     }
 
     fn reply(&mut self, hour: i32, words: String) -> Result<bool, Trouble> {

@@ -5,7 +5,7 @@
 use crate::clauses::Clauses;
 use crate::jobs::Job;
 use crate::opened::Opened;
-use crate::output::put;
+use crate::output::{put, put_asked};
 use crate::sheet::{Rule, Sheet};
 use crate::solution::decoded;
 use crate::solver::{Question, Said, Solver};
@@ -66,15 +66,7 @@ fn has_solution(
     lines: &Lines,
     words: &str,
 ) -> Result<bool, Trouble> {
-    put(format!("# a solution {words}?").as_bytes())?;
-    let reply = reply(opened, solver, lines, words);
-    let said: &[u8] = match &reply {
-        Ok(true) => b" yes\n",
-        Ok(false) => b" no\n",
-        Err(_) => b" no answer\n",
-    };
-    put(said)?;
-    reply
+    put_asked(&format!("a solution {words}"), || reply(opened, solver, lines, words))
 }
 
 fn reply(opened: &Opened, solver: &Solver, lines: &Lines, words: &str) -> Result<bool, Trouble> {
