@@ -69,7 +69,7 @@ mod tests {
     #[test]
     fn minisat_is_given_a_reply_file() {
         assert_eq!(called("minisat", &["-verb=0"]), ("-verb=0 t/c t/r".to_string(), true));
-        assert_eq!(called("/opt/minisat_static", &["{cnf}"]), ("t/c t/r".to_string(), true));
+        assert_eq!(called("bin/minisat_static", &["{cnf}"]), ("t/c t/r".to_string(), true));
         assert_eq!(called("minisat", &["{cnf}", "{reply}"]), ("t/c t/r".to_string(), true));
         assert_eq!(called("minisat/other", &[]), ("t/c".to_string(), false));
     }
