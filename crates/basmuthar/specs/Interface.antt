@@ -1,4 +1,4 @@
--- The four numbers of an answer, as a C caller is given them (include/basmuthar.h). Assumes nothing.
+-- The four numbers of an answer, and Closing's three hours, as a C caller is given them (include/basmuthar.h). Assumes nothing.
 use mathlib.Core.List.{List, [], _∷_}
 use Prim.Native.Nat.{ℕ}
 use lib.IntN.{ℤ}

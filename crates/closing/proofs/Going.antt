@@ -9,9 +9,8 @@ use lib.Seq.{drop-cons}
 use types.Run.{OneOf, miss}
 use denote.Enum.Declared.{tagOf}
 use lib.IntN.{ℤ}
-use Rattle.definitions.specs.Board as board
 use Rattle.definitions.specs.Result.{done, refused}
-use Rattle.definitions.specs.Closing.{Earliest, unfinished, narrowed, tells, after}
+use Rattle.definitions.specs.Closing.{Earliest, unfinished, tells, after}
 use Rattle.definitions.specs.Answers.{saidHour}
 use Rattle.definitions.specs.declared.Hour.{Hour}
 use Rattle.definitions.proofs.Hour.{the-type}

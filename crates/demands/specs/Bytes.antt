@@ -28,7 +28,7 @@ on-bit zero h = refl
 on-bit (suc zero) h = refl
 on-bit (suc (suc n)) h = absurd (omega arith)
 
-bit-most : (b : Bool) → bit b ≤ 1
+pub bit-most : (b : Bool) → bit b ≤ 1
 bit-most true = omega arith
 bit-most false = omega arith
 

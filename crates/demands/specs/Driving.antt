@@ -13,16 +13,12 @@ use Rattle.definitions.specs.Board.{Bounds}
 use Rattle.definitions.specs.Result.{Result, done, refused}
 use Rattle.definitions.specs.Closing.{Earliest, found, none, unfinished, narrowed, tells, after}
 use Rattle.laws.specs.Readings.{same}
-use Rattle.demands.specs.Bytes.{bit}
+use Rattle.demands.specs.Bytes.{bit, bit-most}
 use Rattle.demands.specs.Bisection.{Finished, Ends, AtMost, True}
 
 bit-says : (t : Bool) → (bit t ≡ 1) ↔ T t
 bit-says true = ((λ e. tt), (λ e. refl))
 bit-says false = ((λ e. omega arith), (λ e. absurd e))
-
-bit-small : (t : Bool) → bit t ≤ 1
-bit-small true = omega arith
-bit-small false = omega arith
 
 -- an answer that ends a search
 pub record Ended (answer : Result Earliest) : Type 0 where
@@ -75,7 +71,7 @@ module _ (f : ℤ → Bool) where
   ahead-bits zero e = tt
   ahead-bits (suc n) (found v) = tt
   ahead-bits (suc n) none = tt
-  ahead-bits (suc n) (unfinished r h) = (bit-small (f h), ahead-bits n (tells (narrowed r h (bit (f h)))))
+  ahead-bits (suc n) (unfinished r h) = (bit-most (f h), ahead-bits n (tells (narrowed r h (bit (f h)))))
 
   ahead-ends : (n : ℕ) (e : Earliest) → Ends n e → Ended (after e (ahead n e))
   unfolding after
