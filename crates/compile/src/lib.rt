@@ -15,7 +15,8 @@ use opening::Header;
 use opening::context_of;
 use size::Measured;
 use size::measure;
-use slots::variables::first_number;
+use slots::variables::first_in;
+use slots::variables::put_firsts;
 
 pub mod pieces; // pieces.rt: the clauses of the rules, piece by piece
 pub mod variables; // variables.rt: the axioms of all variables
@@ -27,12 +28,15 @@ fn put_list(bytes: &[u8], header: Header, list: &mut [i32]) -> usize
 {
     let known = context_of(header);
     let tail = header.rules;
-    let selectors = first_number(bytes, header.bools, header.ints);
+    let mut firsts = [0u32; 1025];
+    put_firsts(bytes, header.bools, header.ints, &mut firsts);
+    let selectors = first_in(&firsts, header.ints);
     let at = put_variables(bytes, header.ints, header.bools, list);
     at
         + put_pieces(
             bytes,
             known,
+            &firsts,
             &bytes[tail..],
             header.clauses,
             selectors,

@@ -9,13 +9,13 @@ ghost use Rattle.laws.specs.Written.{written};
 ghost use Rattle.reader.specs.Said.{contextOf};
 ghost use Rattle.rules.specs.Cursors.{Held, saidPiece, selectorsTo};
 ghost use Rattle.size.specs.Shares.{Known};
+ghost use Rattle.slots.specs.Variables.{FirstsOf};
 ghost use Rattle.compile.specs.Lists.{pieceNumbers, piecesNumbers};
 use reader::Context;
 use rules::Piece;
 use rules::Stepped;
 use rules::start;
 use rules::step;
-use slots::Numbers;
 use slots::comparisons::ready;
 use writing::comparisons::put_comparison;
 use writing::lines::put_line;
@@ -24,16 +24,15 @@ use writing::lines::put_line;
 fn put_piece(
     bytes: &[u8],
     known: Context,
+    firsts: &[u32],
     rules: &[u8],
     selectors: u32,
     piece: Piece,
     list: &mut [i32],
 ) -> usize
-    requires { ⌜ Known (now bytes) known (now rules) × (selectors ≡ first (boardOf (now bytes)) (length (boardOf (now bytes) .bounds))) × Held (contextOf known) (now rules) piece × (selectorsTo (contextOf known) (now rules) piece ≤ 300000) × (length (pieceNumbers (boardOf (now bytes)) (saidPiece (contextOf known) (now rules) piece)) ≤ length (now list)) ⌝ }
+    requires { ⌜ Known (now bytes) known (now rules) × FirstsOf (boardOf (now bytes)) (now firsts) × (selectors ≡ first (boardOf (now bytes)) (length (boardOf (now bytes) .bounds))) × Held (contextOf known) (now rules) piece × (selectorsTo (contextOf known) (now rules) piece ≤ 300000) × (length (pieceNumbers (boardOf (now bytes)) (saidPiece (contextOf known) (now rules) piece)) ≤ length (now list)) ⌝ }
     ensures { λ r. ⌜ (r ≡ length (pieceNumbers (boardOf (now (bytes .entry))) (saidPiece (contextOf known) (now (rules .entry)) piece))) × (now (list .exit) ≡ written (pieceNumbers (boardOf (now (bytes .entry))) (saidPiece (contextOf known) (now (rules .entry)) piece)) (now (list .entry))) ⌝ }
 {
-    let bools = known.bools as usize;
-    let numbers = Numbers::Wanted { bools: bools };
     match piece {
         Piece::Line {
             place,
@@ -48,7 +47,7 @@ fn put_piece(
             list,
         ),
         Piece::Lone { place, constant } => put_comparison(
-            ready(bytes, numbers, rules, place, constant),
+            ready(bytes, firsts, rules, place, constant),
             0,
             list,
         ),
@@ -59,7 +58,7 @@ fn put_piece(
         } => {
             let number = selectors + selector as u32;
             put_comparison(
-                ready(bytes, numbers, rules, place, constant),
+                ready(bytes, firsts, rules, place, constant),
                 -(number as i32),
                 list,
             )
@@ -70,12 +69,13 @@ fn put_piece(
 pub fn put_pieces(
     bytes: &[u8],
     known: Context,
+    firsts: &[u32],
     rules: &[u8],
     clauses: usize,
     selectors: u32,
     list: &mut [i32],
 ) -> usize
-    requires { ⌜ Known (now bytes) known (now rules) × (clauses ≡ length (boardOf (now bytes) .clauses)) × (selectors ≡ first (boardOf (now bytes)) (length (boardOf (now bytes) .bounds))) × (length (piecesNumbers (boardOf (now bytes)) (piecesFrom 0 (boardOf (now bytes) .clauses))) ≤ length (now list)) ⌝ }
+    requires { ⌜ Known (now bytes) known (now rules) × FirstsOf (boardOf (now bytes)) (now firsts) × (clauses ≡ length (boardOf (now bytes) .clauses)) × (selectors ≡ first (boardOf (now bytes)) (length (boardOf (now bytes) .bounds))) × (length (piecesNumbers (boardOf (now bytes)) (piecesFrom 0 (boardOf (now bytes) .clauses))) ≤ length (now list)) ⌝ }
     ensures { λ r. ⌜ (r ≡ length (piecesNumbers (boardOf (now (bytes .entry))) (piecesFrom 0 (boardOf (now (bytes .entry)) .clauses)))) × (now (list .exit) ≡ written (piecesNumbers (boardOf (now (bytes .entry))) (piecesFrom 0 (boardOf (now (bytes .entry)) .clauses))) (now (list .entry))) ⌝ }
 {
     let mut at: usize = 0;
@@ -83,7 +83,15 @@ pub fn put_pieces(
     loop {
         match step(rules, known, cursor) {
             Stepped::Met(piece, next) => {
-                at += put_piece(bytes, known, rules, selectors, piece, &mut list[at..]);
+                at += put_piece(
+                    bytes,
+                    known,
+                    firsts,
+                    rules,
+                    selectors,
+                    piece,
+                    &mut list[at..],
+                );
                 cursor = next;
             }
             Stepped::Passed(next) => {

@@ -5,7 +5,7 @@ use opening::context_of;
 use reader::Literal;
 use reader::LiteralRead;
 use reader::clauses::literal_at;
-use slots::variables::first_number;
+use slots::variables::first_in;
 ghost use mathlib.Core.Path.{_≡_};
 ghost use Prim.Native.Nat.{_+_, _≤_, _<_};
 ghost use lib.ListN.{length};
@@ -17,6 +17,7 @@ ghost use Rattle.laws.specs.Boards.{boardOf};
 ghost use Rattle.laws.specs.Reread.{contextOf};
 ghost use Rattle.laws.specs.Pieces.{lineFrom};
 ghost use Rattle.laws.specs.Mentions.{Mentions};
+ghost use Rattle.slots.specs.Variables.{FirstsOf};
 ghost use Rattle.decode.specs.Given.{Given};
 ghost use Rattle.decode.specs.Truth.{trueClause};
 ghost use Rattle.decode.specs.Lines.{numberIn, signed, selectorAfter};
@@ -54,6 +55,7 @@ fn selector_after(literal: Literal, j: usize) -> usize
 // Whether some literal of a line holds: it has n literals, from the place `at` on, and selectors from `selector` on.
 pub fn line_holds(
     bytes: &[u8],
+    firsts: &[u32],
     rules: &[u8],
     model: &[u8],
     header: Header,
@@ -61,11 +63,11 @@ pub fn line_holds(
     at: usize,
     selector: usize,
 ) -> bool
-    requires { ⌜ Given (now bytes) (now model) header × (times n (readLiteral (contextOf (boardOf (now bytes)))) (now rules) at ≡ done (literalsAt (contextOf (boardOf (now bytes))) (now rules) n at)) × All (Mentions (boardOf (now bytes))) (lineFrom selector (literalsAt (contextOf (boardOf (now bytes))) (now rules) n at .value)) ⌝ }
+    requires { ⌜ Given (now bytes) (now model) header × FirstsOf (boardOf (now bytes)) (now firsts) × (times n (readLiteral (contextOf (boardOf (now bytes)))) (now rules) at ≡ done (literalsAt (contextOf (boardOf (now bytes))) (now rules) n at)) × All (Mentions (boardOf (now bytes))) (lineFrom selector (literalsAt (contextOf (boardOf (now bytes))) (now rules) n at .value)) ⌝ }
     ensures { λ r. ⌜ r ≡ trueClause (boardOf (now (bytes .entry))) (now (model .entry)) (lineFrom selector (literalsAt (contextOf (boardOf (now (bytes .entry)))) (now (rules .entry)) n at .value)) ⌝ }
 {
     let known = context_of(header);
-    let selectors = first_number(bytes, header.bools, header.ints) as usize;
+    let selectors = first_in(firsts, header.ints) as usize;
     let mut j = selector;
     let mut place = at;
     let mut left = n;

@@ -4,9 +4,8 @@ use crate::truth::holds;
 use lent::is_on;
 use opening::Header;
 use rules::Piece;
-use slots::Numbers;
 use slots::comparisons::ready;
-use slots::variables::first_number;
+use slots::variables::first_in;
 use walk::At;
 use walk::Comparison;
 use walk::Slot;
@@ -17,19 +16,26 @@ ghost use mathlib.Core.Path.{_≡_};
 ghost use Prim.Native.Nat.{_+_, _<_};
 ghost use lib.ListN.{length};
 ghost use Rattle.definitions.specs.Tools.{All};
-ghost use Rattle.laws.specs.Boards.{boardOf};
+ghost use Rattle.laws.specs.Boards.{Opens, boardOf};
 ghost use Rattle.laws.specs.Reread.{comparisonAt, contextOf};
 ghost use Rattle.laws.specs.Mentions.{InList, Sound};
 ghost use Rattle.rules.specs.Cursors.{saidPiece, Held, Stands};
 ghost use Rattle.walk.specs.Comparisons.{FairComparison, Walking, present};
-ghost use Rattle.opening.specs.Headers.{Opened};
+ghost use Rattle.slots.specs.Variables.{FirstsOf};
 ghost use Rattle.decode.specs.Given.{Given};
 ghost use Rattle.decode.specs.Truth.{trueClause};
 ghost use Rattle.decode.specs.Tails.{clauseTest, leadOf, Tails, Single, TailsOf};
 
 // Whether the piece's lead holds: of a line, some literal; of a comparison, its negated selector.
-pub fn lead_holds(bytes: &[u8], rules: &[u8], model: &[u8], header: Header, piece: Piece) -> bool
-    requires { ⌜ Given (now bytes) (now model) header × Held (contextOf (boardOf (now bytes))) (now rules) piece × Sound (boardOf (now bytes)) (saidPiece (contextOf (boardOf (now bytes))) (now rules) piece) ⌝ }
+pub fn lead_holds(
+    bytes: &[u8],
+    firsts: &[u32],
+    rules: &[u8],
+    model: &[u8],
+    header: Header,
+    piece: Piece,
+) -> bool
+    requires { ⌜ Given (now bytes) (now model) header × FirstsOf (boardOf (now bytes)) (now firsts) × Held (contextOf (boardOf (now bytes))) (now rules) piece × Sound (boardOf (now bytes)) (saidPiece (contextOf (boardOf (now bytes))) (now rules) piece) ⌝ }
     ensures { λ r. ⌜ r ≡ trueClause (boardOf (now (bytes .entry))) (now (model .entry)) (leadOf (saidPiece (contextOf (boardOf (now (bytes .entry)))) (now (rules .entry)) piece)) ⌝ }
 {
     match piece {
@@ -37,7 +43,16 @@ pub fn lead_holds(bytes: &[u8], rules: &[u8], model: &[u8], header: Header, piec
             place,
             literals,
             selector,
-        } => line_holds(bytes, rules, model, header, literals, place, selector),
+        } => line_holds(
+            bytes,
+            firsts,
+            rules,
+            model,
+            header,
+            literals,
+            place,
+            selector,
+        ),
         Piece::Lone {
             place: _,
             constant: _,
@@ -47,7 +62,7 @@ pub fn lead_holds(bytes: &[u8], rules: &[u8], model: &[u8], header: Header, piec
             place: _,
             constant: _,
         } => {
-            let first = first_number(bytes, header.bools, header.ints) as usize;
+            let first = first_in(firsts, header.ints) as usize;
             !is_on(model, first + selector)
         }
     }
@@ -70,14 +85,11 @@ fn single() -> Comparison
 }
 
 // The comparison at a place, or a single clause where its constant is below the least sum.
-fn tails_at(bytes: &[u8], rules: &[u8], header: Header, place: usize, constant: i32) -> Comparison
-    requires { ⌜ Opened (now bytes) header × Stands (contextOf (boardOf (now bytes))) (now rules) place constant ⌝ }
+fn tails_at(bytes: &[u8], firsts: &[u32], rules: &[u8], place: usize, constant: i32) -> Comparison
+    requires { ⌜ Opens (now bytes) × FirstsOf (boardOf (now bytes)) (now firsts) × Stands (contextOf (boardOf (now bytes))) (now rules) place constant ⌝ }
     ensures { λ r. ⌜ TailsOf (boardOf (now (bytes .entry))) (comparisonAt (now (rules .entry)) place constant) r ⌝ }
 {
-    let numbers = Numbers::Wanted {
-        bools: header.bools,
-    };
-    let c = ready(bytes, numbers, rules, place, constant);
+    let c = ready(bytes, firsts, rules, place, constant);
     if constant < least(c) {
         return single();
     }
@@ -85,8 +97,8 @@ fn tails_at(bytes: &[u8], rules: &[u8], header: Header, place: usize, constant: 
 }
 
 // What is walked for the clauses of a piece: each tuple gives what stands behind the lead.
-pub fn tails_of(bytes: &[u8], rules: &[u8], header: Header, piece: Piece) -> Comparison
-    requires { ⌜ Opened (now bytes) header × Held (contextOf (boardOf (now bytes))) (now rules) piece ⌝ }
+pub fn tails_of(bytes: &[u8], firsts: &[u32], rules: &[u8], piece: Piece) -> Comparison
+    requires { ⌜ Opens (now bytes) × FirstsOf (boardOf (now bytes)) (now firsts) × Held (contextOf (boardOf (now bytes))) (now rules) piece ⌝ }
     ensures { λ r. ⌜ Tails (boardOf (now (bytes .entry))) (saidPiece (contextOf (boardOf (now (bytes .entry)))) (now (rules .entry)) piece) r ⌝ }
 {
     match piece {
@@ -95,12 +107,12 @@ pub fn tails_of(bytes: &[u8], rules: &[u8], header: Header, piece: Piece) -> Com
             literals: _,
             selector: _,
         } => single(),
-        Piece::Lone { place, constant } => tails_at(bytes, rules, header, place, constant),
+        Piece::Lone { place, constant } => tails_at(bytes, firsts, rules, place, constant),
         Piece::Led {
             selector: _,
             place,
             constant,
-        } => tails_at(bytes, rules, header, place, constant),
+        } => tails_at(bytes, firsts, rules, place, constant),
     }
 }
 

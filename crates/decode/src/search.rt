@@ -13,6 +13,7 @@ use rules::Cursor;
 use rules::Stepped;
 use rules::start;
 use rules::step;
+use slots::variables::put_firsts;
 use walk::At;
 use walk::tuples::first;
 use walk::tuples::next;
@@ -26,6 +27,7 @@ ghost use Rattle.laws.specs.Reread.{tableEnd};
 ghost use Rattle.reader.specs.Said.{contextOf};
 ghost use Rattle.lent.specs.Said.{saidFound};
 ghost use Rattle.rules.specs.Cursors.{Sound};
+ghost use Rattle.slots.specs.Variables.{FirstsOf};
 ghost use Rattle.decode.specs.Given.{Given};
 ghost use Rattle.decode.specs.Truth.{tests};
 ghost use Rattle.decode.specs.Next.{Came};
@@ -53,8 +55,15 @@ fn next_piece(rules: &[u8], known: Context, cursor: Cursor) -> Ahead
 }
 
 // The clauses of the rules, which are counted from `from` on: piece by piece, and in each piece tuple by tuple.
-fn search_rules(bytes: &[u8], rules: &[u8], model: &[u8], header: Header, from: usize) -> Found
-    requires { ⌜ Given (now bytes) (now model) header × (now rules ≡ drop (tableEnd (boardOf (now bytes))) (now bytes)) × (from + length (ruleTests (boardOf (now bytes)) (now model)) < 9223372036854775808) ⌝ }
+fn search_rules(
+    bytes: &[u8],
+    firsts: &[u32],
+    rules: &[u8],
+    model: &[u8],
+    header: Header,
+    from: usize,
+) -> Found
+    requires { ⌜ Given (now bytes) (now model) header × FirstsOf (boardOf (now bytes)) (now firsts) × (now rules ≡ drop (tableEnd (boardOf (now bytes))) (now bytes)) × (from + length (ruleTests (boardOf (now bytes)) (now model)) < 9223372036854775808) ⌝ }
     ensures { λ r. ⌜ saidFound 13 r ≡ each 13 from (ruleTests (boardOf (now (bytes .entry))) (now (model .entry))) ⌝ }
 {
     let known = context_of(header);
@@ -64,8 +73,8 @@ fn search_rules(bytes: &[u8], rules: &[u8], model: &[u8], header: Header, from: 
         let Ahead::Met(piece, behind) = next_piece(rules, known, cursor) else {
             break 'search Found::Nothing;
         };
-        let lead = lead_holds(bytes, rules, model, header, piece);
-        let tails = tails_of(bytes, rules, header, piece);
+        let lead = lead_holds(bytes, firsts, rules, model, header, piece);
+        let tails = tails_of(bytes, firsts, rules, piece);
         let mut here = first(tails);
         loop {
             let At::Tuple(tuple) = here else {
@@ -91,7 +100,9 @@ pub fn search_clauses(bytes: &[u8], model: &[u8], header: Header) -> Found
         Checked::Fails(number) => Found::At(number),
         Checked::Hold(number) => {
             let place = header.rules;
-            search_rules(bytes, &bytes[place..], model, header, number)
+            let mut firsts = [0u32; 1025];
+            put_firsts(bytes, header.bools, header.ints, &mut firsts);
+            search_rules(bytes, &firsts, &bytes[place..], model, header, number)
         }
     }
 }

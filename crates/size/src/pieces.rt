@@ -2,7 +2,6 @@
 use crate::Share;
 use crate::count::tuples_of;
 use rules::Piece;
-use slots::Numbers;
 use slots::comparisons::ready;
 use walk::tuples::least;
 ghost use Prim.Native.Nat.{_≤_, _<_, _^_};
@@ -18,7 +17,9 @@ fn comparison_share(bytes: &[u8], rules: &[u8], lead: u64, place: usize, constan
     requires { ⌜ Opens (now bytes) × Stands (contextOf (boardOf (now bytes))) (now rules) place constant × (lead ≤ 1) ⌝ }
     ensures { λ r. ⌜ ShareUnder (boundsOf (boardOf (now (bytes .entry)))) lead (comparisonAt (now (rules .entry)) place constant) r ⌝ }
 {
-    let c = ready(bytes, Numbers::Unwanted, rules, place, constant);
+    // counting needs no first numbers
+    let unnumbered = [0u32; 0];
+    let c = ready(bytes, &unnumbered, rules, place, constant);
     if constant < least(c) {
         return Share {
             clauses: 1,

@@ -1,6 +1,7 @@
 -- A comparison made ready to walk. Assumes nothing.
 use mathlib.Core.Path.{_≡_, sym, ap, _∙_}
-use Prim.Native.Nat.{ℕ, _≤_}
+use mathlib.Core.List.{List}
+use Prim.Native.Nat.{ℕ, _≤_, _<_}
 use native.Mathlib.Omega.{arith}
 use lib.ListN.{length, length-map}
 use lib.IntN.{pos}
@@ -8,24 +9,18 @@ use Rattle.definitions.specs.Board.{Board, boundsOf}
 use Rattle.definitions.specs.Board as board
 use Rattle.definitions.specs.Encoding.{first}
 use Rattle.laws.specs.Whole.{whole, abs-le, abs-law, ne-in}
-use Rattle.laws.specs.Lists.{all-map, all-impl}
+use Rattle.laws.specs.Lists.{all-map, all-impl, map-same}
 use Rattle.laws.specs.Admitted.{Admitted, GoodTerm, GoodComparison}
 use Rattle.laws.specs.Terms.{good-bounds}
 use Rattle.laws.specs.Fits.{first-most}
 use Rattle.walk.specs.declared.Comparison.{Comparison}
 use Rattle.walk.specs.Slots.{FairSlot, slotOf}
 use Rattle.walk.specs.Comparisons.{ShowsBy, FairComparison}
-use Rattle.slots.specs.declared.Numbers.{Numbers}
+use Rattle.slots.specs.Variables.{numbered, FirstsOf}
 
--- what is said of the numbers is true of the board
-abbrev pub Told : Board → Numbers → Type 0
-Told B (Numbers.Wanted bools) = bools ≡ B .bools
-Told B Numbers.Unwanted = Unit {0}
-
--- the number that a variable gets as its first: the board's where it is wanted
-abbrev pub firstBy : Board → Numbers → ℕ → ℕ
-firstBy B (Numbers.Wanted bools) = first B
-firstBy B Numbers.Unwanted = λ x. 0
+-- a table gives no variable too large a number to walk with
+abbrev pub Small : Board → List ℕ → Type 0
+Small B firsts = (x : ℕ) → x < length (B .bounds) → numbered firsts x ≤ 10000000
 
 -- the board's comparison q, ready to walk, where f numbers the variables
 pub record ReadyBy (B : Board) (f : ℕ → ℕ) (q : board.Comparison) (c : Comparison) : Type 0 where
@@ -37,11 +32,10 @@ abbrev pub ReadyFor : Board → board.Comparison → Comparison → Type 0
 ReadyFor B = ReadyBy B (first B)
 
 module _ (B : Board) (g : Admitted B) where
-  pub numbers-small : (numbers : Numbers) (x : ℕ) → firstBy B numbers x ≤ 10000000
-  numbers-small (Numbers.Wanted bools) x = first-most B g x
-  numbers-small Numbers.Unwanted x = omega arith
+  pub firsts-small : (firsts : List ℕ) → FirstsOf B firsts → Small B firsts
+  firsts-small firsts e x h = omega (arith, e x (omega arith), first-most B g x)
 
-  module _ (f : ℕ → ℕ) (small : (x : ℕ) → f x ≤ 10000000) where
+  module _ (f : ℕ → ℕ) (small : (x : ℕ) → x < length (B .bounds) → f x ≤ 10000000) where
     slot-fair : (t : board.Term) → GoodTerm (length (B .bounds)) t → FairSlot (slotOf B f t)
     unfolding slotOf
     slot-fair t h =
@@ -52,7 +46,7 @@ module _ (B : Board) (g : Admitted B) where
           lowest = abs-le (boundsOf B (t .var) .lo) (omega (whole, b .lowest, b .ordered, b .highest));
           highest = abs-le (boundsOf B (t .var) .hi) (omega (whole, b .lowest, b .ordered, b .highest));
           ordered = b .ordered;
-          numbered = small (t .var);
+          numbered = small (t .var) (h .known);
         }
 
     pub shows-ready : (q : board.Comparison) (c : Comparison) → GoodComparison (length (B .bounds)) q → ShowsBy B f q c → ReadyBy B f q c
@@ -65,3 +59,11 @@ module _ (B : Board) (g : Admitted B) where
         near = rw (e .constant) (abs-le (q .constant) (omega (whole, h .least, h .most)));
       };
     }
+
+-- a comparison numbered by such a table is numbered by the board
+pub firsts-ready : (B : Board) (firsts : List ℕ) → FirstsOf B firsts → (q : board.Comparison) (c : Comparison) → GoodComparison (length (B .bounds)) q → ReadyBy B (numbered firsts) q c → ReadyFor B q c
+unfolding slotOf
+firsts-ready B firsts e q c h r =
+    let same : (t : board.Term) → GoodTerm (length (B .bounds)) t → slotOf B (numbered firsts) t ≡ slotOf B (first B) t = λ t k. rw (e (t .var) (omega (arith, k .known))) in
+    let terms = map-same (slotOf B (numbered firsts)) (slotOf B (first B)) (q .terms) (all-impl _ _ same (q .terms) (h .terms)) in
+    record { shows = record { counted = r .shows .counted; terms = r .shows .terms ∙ terms; constant = r .shows .constant }; fair = r .fair }

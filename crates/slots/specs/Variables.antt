@@ -1,11 +1,13 @@
 -- The variables of an accepted record: where their bounds stand, and their numbers one after another. Assumes nothing.
-use mathlib.Core.Path.{_≡_}
+use mathlib.Core.Path.{_≡_, _∙_}
 use mathlib.Core.List.{List}
 use Prim.Native.Nat.{ℕ, _+_, _*_, _≤_, _<_}
 use native.Mathlib.Numerals.{add-one}
+use native.Mathlib.Decide.{decLe}
 use native.Mathlib.Omega.{arith}
-use lib.ListN.{length}
+use lib.ListN.{length, getD, set}
 use lib.IntN.{ℤ}
+use lib.Seq.{getD-set-same, getD-set-other}
 use mir.Syntax.{w32}
 use mir.Val.{SFits}
 use Rattle.definitions.specs.Board.{Board, boundsOf}
@@ -58,3 +60,21 @@ first-none B = omega arith
 
 pub first-more : (B : Board) (x : ℕ) (b : Bounds) → x < length (B .bounds) → BoundsOf B x b → first B x + width (boundsRead b) ≡ first B (x + 1)
 first-more B x b h e = rw (add-one, first-next B x h, bounds-same B x b e)
+
+-- the number that a table of first numbers gives a variable: 0 where it has none
+abbrev pub numbered : List ℕ → ℕ → ℕ
+numbered firsts x = getD firsts x 0
+
+-- the first n numbers of a table are a board's
+abbrev pub FirstsTo : Board → ℕ → List ℕ → Type 0
+FirstsTo B n firsts = (x : ℕ) → x < n → numbered firsts x ≡ first B x
+
+-- the table has the first numbers of all variables, and behind them the first selector's
+abbrev pub FirstsOf : Board → List ℕ → Type 0
+FirstsOf B = FirstsTo B (length (B .bounds) + 1)
+
+pub firsts-more : (B : Board) (i n : ℕ) (firsts : List ℕ) → n ≡ first B i → i < length firsts → FirstsTo B i firsts → FirstsTo B (i + 1) (set firsts i n)
+firsts-more B i n firsts e h t x l = elim (decLe (x + 1) i) [
+  | yes k ↦ getD-set-other firsts i x n 0 (omega arith) ∙ t x (omega arith)
+  | no k ↦ let z : x ≡ i = omega arith in rw z (getD-set-same firsts i n 0 h ∙ e)
+]

@@ -1,9 +1,8 @@
 // A comparison of an accepted record: its terms, and the comparison made ready to walk.
-use crate::Numbers;
 use crate::Term;
 use crate::Terms;
 use crate::variables::bounds_of;
-use crate::variables::first_number;
+use crate::variables::first_in;
 use fields::plain;
 use fields::plain_signed;
 use walk::Comparison;
@@ -15,7 +14,8 @@ ghost use Rattle.laws.specs.Admitted.{GoodTerm, GoodComparison};
 ghost use Rattle.laws.specs.Boards.{Opens, boardOf};
 ghost use Rattle.laws.specs.Reread.{termAt, termsAt, comparisonAt};
 ghost use Rattle.walk.specs.Slots.{slotOf};
-ghost use Rattle.slots.specs.Ready.{Told, firstBy, ReadyBy};
+ghost use Rattle.slots.specs.Variables.{numbered};
+ghost use Rattle.slots.specs.Ready.{Small, ReadyBy};
 ghost use Rattle.slots.specs.Terms.{termRead, TermsOf, TermsStand};
 
 fn term_at(rules: &[u8], at: usize) -> Term
@@ -46,21 +46,10 @@ pub fn terms_at(rules: &[u8], place: usize) -> Terms
     Terms { n: n, terms: terms }
 }
 
-// The variable's first number where it is wanted.
-fn first_of(bytes: &[u8], numbers: Numbers, x: usize) -> u32
-    requires { ⌜ Opens (now bytes) × Told (boardOf (now bytes)) numbers × (x < length (boardOf (now bytes) .bounds)) ⌝ }
-    ensures { λ r. ⌜ r ≡ firstBy (boardOf (now (bytes .entry))) numbers x ⌝ }
-{
-    match numbers {
-        Numbers::Wanted { bools } => first_number(bytes, bools, x),
-        Numbers::Unwanted => 0,
-    }
-}
-
 // The term with its variable's bounds and first number.
-fn slot_of(bytes: &[u8], numbers: Numbers, term: Term) -> Slot
-    requires { ⌜ Opens (now bytes) × Told (boardOf (now bytes)) numbers × GoodTerm (length (boardOf (now bytes) .bounds)) (termRead term) ⌝ }
-    ensures { λ r. ⌜ r ≡ slotOf (boardOf (now (bytes .entry))) (firstBy (boardOf (now (bytes .entry))) numbers) (termRead term) ⌝ }
+fn slot_of(bytes: &[u8], firsts: &[u32], term: Term) -> Slot
+    requires { ⌜ Opens (now bytes) × GoodTerm (length (boardOf (now bytes) .bounds)) (termRead term) ⌝ }
+    ensures { λ r. ⌜ r ≡ slotOf (boardOf (now (bytes .entry))) (numbered (now (firsts .entry))) (termRead term) ⌝ }
 {
     let x = term.variable;
     let bounds = bounds_of(bytes, x);
@@ -68,20 +57,14 @@ fn slot_of(bytes: &[u8], numbers: Numbers, term: Term) -> Slot
         coefficient: term.coefficient,
         lower: bounds.lower,
         upper: bounds.upper,
-        first: first_of(bytes, numbers, x),
+        first: first_in(firsts, x),
     }
 }
 
-// The comparison whose term count stands at a place of the rules.
-pub fn ready(
-    bytes: &[u8],
-    numbers: Numbers,
-    rules: &[u8],
-    place: usize,
-    constant: i32,
-) -> Comparison
-    requires { ⌜ Opens (now bytes) × Told (boardOf (now bytes)) numbers × TermsStand (now rules) place × GoodComparison (length (boardOf (now bytes) .bounds)) (comparisonAt (now rules) place constant) ⌝ }
-    ensures { λ r. ⌜ ReadyBy (boardOf (now (bytes .entry))) (firstBy (boardOf (now (bytes .entry))) numbers) (comparisonAt (now (rules .entry)) place constant) r ⌝ }
+// The comparison whose term count stands at a place of the rules; a table gives the first numbers, and those that it lacks are 0.
+pub fn ready(bytes: &[u8], firsts: &[u32], rules: &[u8], place: usize, constant: i32) -> Comparison
+    requires { ⌜ Opens (now bytes) × Small (boardOf (now bytes)) (now firsts) × TermsStand (now rules) place × GoodComparison (length (boardOf (now bytes) .bounds)) (comparisonAt (now rules) place constant) ⌝ }
+    ensures { λ r. ⌜ ReadyBy (boardOf (now (bytes .entry))) (numbered (now (firsts .entry))) (comparisonAt (now (rules .entry)) place constant) r ⌝ }
 {
     let read = terms_at(rules, place);
     let n = read.n;
@@ -95,7 +78,7 @@ pub fn ready(
     let mut i: usize = 0;
     while i < n {
         let term = terms[i];
-        slots[i] = slot_of(bytes, numbers, term);
+        slots[i] = slot_of(bytes, firsts, term);
         i += 1;
     }
     Comparison {

@@ -11,12 +11,6 @@ pub struct Term {
     pub variable: usize,
 }
 
-// Whether a comparison's variables get their first numbers: each takes a pass over the variables before it, and counting needs none.
-pub enum Numbers {
-    Wanted { bools: usize },
-    Unwanted,
-}
-
 // A comparison's terms are the first n.
 pub struct Terms {
     pub n: usize,

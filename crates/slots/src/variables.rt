@@ -7,7 +7,7 @@ ghost use lib.ListN.{length};
 ghost use Rattle.definitions.specs.Encoding.{width, first};
 ghost use Rattle.laws.specs.Admitted.{GoodBounds};
 ghost use Rattle.laws.specs.Boards.{Opens, boardOf};
-ghost use Rattle.slots.specs.Variables.{boundsRead, BoundsOf};
+ghost use Rattle.slots.specs.Variables.{boundsRead, BoundsOf, numbered, FirstsOf};
 
 // Where the variable table begins.
 const TABLE: usize = 11;
@@ -43,4 +43,26 @@ pub fn first_number(bytes: &[u8], bools: usize, x: usize) -> u32
         y += 1;
     }
     number
+}
+
+// The first numbers of all variables, and behind them the first selector's, into a table: added up once, and looked up for each term.
+pub fn put_firsts(bytes: &[u8], bools: usize, ints: usize, firsts: &mut [u32])
+    requires { ⌜ Opens (now bytes) × (bools ≡ boardOf (now bytes) .bools) × (ints ≡ length (boardOf (now bytes) .bounds)) × (ints < length (now firsts)) ⌝ }
+    ensures { λ _. ⌜ FirstsOf (boardOf (now (bytes .entry))) (now (firsts .exit)) ⌝ }
+{
+    let mut number = bools as u32 + 1;
+    let mut x: usize = 0;
+    while x < ints {
+        firsts[x] = number;
+        number += width_of(bounds_of(bytes, x));
+        x += 1;
+    }
+    firsts[ints] = number;
+}
+
+// A variable's entry of such a table, and 0 where it has none.
+pub fn first_in(firsts: &[u32], x: usize) -> u32
+    ensures { λ r. ⌜ r ≡ numbered (now (firsts .entry)) x ⌝ }
+{
+    if x < firsts.len() { firsts[x] } else { 0 }
 }

@@ -5,3 +5,5 @@ pub mod Moves
 pub mod Padding
 pub mod Sums
 pub mod Starts
+pub mod Steps
+pub mod Runs

@@ -34,7 +34,7 @@ zip-read f d e g (x ∷ l) (y ∷ m) (suc i) h k = zip-read f d e g l m i (omega
 abbrev pub no-slot : Slot
 no-slot = record { coefficient = pos 0; lower = pos 0; upper = pos 0; first = 0 }
 
-abbrev no-place : Place
+abbrev pub no-place : Place
 no-place = record { lo = pos 0; k = 0; w = 0 }
 
 module _ (c : Comparison) (f : FairComparison c) where
@@ -70,17 +70,17 @@ padded-length c f =
 
 -- ---- the present tuple
 module _ (c : Comparison) (f : FairComparison c) (w : Walk) (o : Walking c (Tuple w)) (i : ℕ) (h : i < c .n) where
-  abbrev s : Slot
+  abbrev pub s : Slot
   s = getD (c .slots) i no-slot
 
-  abbrev p : Place
+  abbrev pub p : Place
   p = getD (places w) (i + 3 - c .n) no-place
 
   pub place-fine : Fine p
   unfolding Walking Over
   place-fine = all-at Fine no-place (places w) (o .0) (i + 3 - c .n) (omega (arith, f .few))
 
-  place-range : blank p ≡ placed (slotBounds s)
+  pub place-range : blank p ≡ placed (slotBounds s)
   unfolding Walking Over
   place-range =
       let j = i + 3 - c .n in
@@ -91,10 +91,10 @@ module _ (c : Comparison) (f : FairComparison c) (w : Walk) (o : Walking c (Tupl
       ∙ map-read placed no-term (blank no-place) (paddedRanges c) j (omega (arith, padded-length c f))
       ∙ ap placed (range-read c f j (omega (arith, f .few)) below ∙ ap (λ k. slotBounds (getD (c .slots) k no-slot)) i-is)
 
-  low-is : p .lo ≡ slotBounds s .lo
+  pub low-is : p .lo ≡ slotBounds s .lo
   low-is = ap (λ q. q .lo) place-range
 
-  width-is : p .w ≡ size (slotBounds s .hi -ℤ slotBounds s .lo)
+  pub width-is : p .w ≡ size (slotBounds s .hi -ℤ slotBounds s .lo)
   width-is = ap (λ q. q .w) place-range
 
   pub bound-inside : (b : ℤ) → b ≡ p .lo +ℤ pos (p .k) → (slotBounds s .lo ≤ℤ b) × (b ≤ℤ slotBounds s .hi)

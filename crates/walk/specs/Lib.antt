@@ -1,3 +1,4 @@
 pub mod Slots
 pub mod Walks
 pub mod Comparisons
+pub mod Rows

@@ -35,6 +35,14 @@ pub struct Walk {
     pub c: Place,
 }
 
+// A term's literal at an offset, and how far it is from there to the next multiple of d, the coefficient's magnitude: behind that
+// offset the literal rises by 1.
+pub struct Spot {
+    pub d: u32,
+    pub r: u32,
+    pub literal: i32,
+}
+
 // Where a walk stands: at a tuple, or behind the last.
 pub enum At {
     Tuple(Walk),
@@ -42,5 +50,6 @@ pub enum At {
 }
 
 pub mod division; // division.rt: signed division, rounded down and up
+pub mod rows; // rows.rt: tuples that differ in the last two places alone
 pub mod terms; // terms.rt: a term's bounds, and its literal at each
 pub mod tuples; // tuples.rt: the first tuple, the next, their literals

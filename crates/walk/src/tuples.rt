@@ -23,7 +23,7 @@ fn less(a: u32, b: u32) -> u32
 }
 
 // How far a place can move up while the places after it hold `after` in all.
-fn room(p: Place, after: u32) -> u32
+pub fn room(p: Place, after: u32) -> u32
     requires { ⌜ p .k ≤ p .w ⌝ }
     ensures { λ r. ⌜ r ≡ min (p .w - p .k) after ⌝ }
 {

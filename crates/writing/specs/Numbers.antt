@@ -13,6 +13,7 @@ use Rattle.definitions.specs.Encoding.{SatClause, least, tuplesOf, sharp, claus
 use Rattle.laws.specs.Whole.{lt-test, ge-test, le-test, gt-test}
 use Rattle.laws.specs.Lists.{flatten-append, all-every, map-same}
 use Rattle.walk.specs.declared.Comparison.{Comparison}
+use Rattle.walk.specs.declared.Spot.{Spot}
 use Rattle.walk.specs.Comparisons.{leastOf, literalsOf, Shows, shows-least, shows-literals}
 
 -- a clause is its literals and then 0
@@ -33,6 +34,10 @@ leadOf lead = if ltZ lead (pos 0) then lead ∷ [] else []
 -- the clauses of literals ls under a lead
 abbrev pub led : ℤ → List (List ℤ) → List ℤ
 led lead cs = flat (map (λ ls. leadOf lead ++ ls) cs)
+
+-- a literal that moves with each offset
+abbrev pub unit : ℤ → Spot
+unit l = record { d = 1; r = 0; literal = l }
 
 -- a comparison's clauses under a lead
 unfoldable pub underLead : ℤ → Comparison → List ℤ

@@ -1,20 +1,24 @@
 // A comparison's clauses, each led by the same literal: a negated selector's number, or none (0).
 ghost use mathlib.Core.Path.{_≡_};
 ghost use Prim.Native.Nat.{_≤_};
-ghost use mathlib.Core.List.{_++_};
+ghost use mathlib.Core.List.{_++_, map};
 ghost use lib.ListN.{length};
 ghost use Rattle.laws.specs.Written.{written};
 ghost use Rattle.walk.specs.Comparisons.{FairComparison, Walking, literalsOf, present};
+ghost use Rattle.walk.specs.Rows.{rowOf};
 ghost use Rattle.writing.specs.Numbers.{clause, leadOf, led, underLead};
+use crate::rows::put_row;
 use walk::At;
 use walk::Comparison;
 use walk::Walk;
+use walk::rows::after_row;
+use walk::rows::row_length;
+use walk::rows::spot_at;
 use walk::tuples::first;
 use walk::tuples::least;
 use walk::tuples::literal_at;
-use walk::tuples::next;
 
-fn put_lead(lead: i32, list: &mut [i32]) -> usize
+pub fn put_lead(lead: i32, list: &mut [i32]) -> usize
     requires { ⌜ length (leadOf lead) ≤ length (now list) ⌝ }
     ensures { λ r. ⌜ (r ≡ length (leadOf lead)) × (now (list .exit) ≡ written (leadOf lead) (now (list .entry))) ⌝ }
 {
@@ -47,7 +51,23 @@ fn put_tuple(c: Comparison, lead: i32, w: Walk, list: &mut [i32]) -> usize
     at + put_literals(c, w, &mut list[at..])
 }
 
-// A clause for each tuple.
+// A clause for each tuple of the present one's row.
+fn put_run(c: Comparison, lead: i32, w: Walk, list: &mut [i32]) -> usize
+    requires { ⌜ FairComparison c × Walking c (At.Tuple w) × (length (led lead (map (present c) (rowOf w))) ≤ length (now list)) ⌝ }
+    ensures { λ r. ⌜ (r ≡ length (led lead (map (present c) (rowOf w)))) × (now (list .exit) ≡ written (led lead (map (present c) (rowOf w))) (now (list .entry))) ⌝ }
+{
+    let n = c.n;
+    if n < 2 {
+        return put_tuple(c, lead, w, list);
+    }
+    let front = literal_at(c, w, 0);
+    let y = spot_at(c, w, n - 2);
+    let z = spot_at(c, w, n - 1);
+    let count = row_length(w);
+    put_row(lead, n - 2, front, y, z, count, list)
+}
+
+// A clause for each tuple, row by row.
 fn put_tuples(c: Comparison, lead: i32, list: &mut [i32]) -> usize
     requires { ⌜ FairComparison c × (length (led lead (literalsOf c)) ≤ length (now list)) ⌝ }
     ensures { λ r. ⌜ (r ≡ length (led lead (literalsOf c))) × (now (list .exit) ≡ written (led lead (literalsOf c)) (now (list .entry))) ⌝ }
@@ -58,8 +78,9 @@ fn put_tuples(c: Comparison, lead: i32, list: &mut [i32]) -> usize
         let At::Tuple(w) = tuple else {
             break;
         };
-        at += put_tuple(c, lead, w, &mut list[at..]);
-        tuple = next(w);
+        let onward = after_row(w);
+        at += put_run(c, lead, w, &mut list[at..]);
+        tuple = onward;
     }
     at
 }

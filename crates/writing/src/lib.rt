@@ -2,3 +2,4 @@
 pub mod axioms; // axioms.rt: a variable's axioms
 pub mod comparisons; // comparisons.rt: a comparison's clauses
 pub mod lines; // lines.rt: the line of a clause's Boolean literals and selectors
+pub mod rows; // rows.rt: a row of a comparison's clauses

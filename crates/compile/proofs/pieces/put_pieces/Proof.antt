@@ -17,18 +17,18 @@ use Rattle.compile.proofs.pieces.put_pieces.Statement.{statement}
 use Rattle.compile.proofs.pieces.put_pieces.Tie as tie
 
 abbrev Inv-loop : tie.InvT-loop
-Inv-loop bytes known rules clauses selectors list₀ at₀ cursor₀ list at cursor =
+Inv-loop bytes known firsts rules clauses selectors list₀ at₀ cursor₀ list at cursor =
     Sound (contextOf known) rules cursor × Filling (piecesNumbers (boardOf bytes) (piecesFrom 0 (boardOf bytes .clauses))) (piecesNumbers (boardOf bytes) (comingAt (contextOf known) rules cursor)) list₀ list at
 
 abbrev μ-loop : tie.MeasureT-loop
-μ-loop bytes known rules clauses selectors list₀ at₀ cursor₀ list at cursor = todo (contextOf known) rules cursor
+μ-loop bytes known firsts rules clauses selectors list₀ at₀ cursor₀ list at cursor = todo (contextOf known) rules cursor
 
 start-requires : tie.Need-start-requires Inv-loop μ-loop
 start-requires c κs = search needs
 
 loop-holds : tie.Need-loop-holds Inv-loop μ-loop
 loop-holds c =
-    rw (c .start .ensures, c .before .before .before .pre .1) (start-sound _ _ (opens-admitted _ (c .before .before .before .pre .0 .opens)) (opens-board _ (c .before .before .before .pre .0 .opens)) _ _ (c .before .before .before .pre .0 .context) (c .before .before .before .pre .0 .tail), begin _ _ _ (ap (piecesNumbers (boardOf (c .before .before .before .args .bytes .now))) (start-coming _ _ (opens-admitted _ (c .before .before .before .pre .0 .opens)) (opens-board _ (c .before .before .before .pre .0 .opens)) _ _ (c .before .before .before .pre .0 .context) (c .before .before .before .pre .0 .tail))) (c .before .before .before .pre .3))
+    rw (c .start .ensures, c .before .before .before .before .pre .2) (start-sound _ _ (opens-admitted _ (c .before .before .before .before .pre .0 .opens)) (opens-board _ (c .before .before .before .before .pre .0 .opens)) _ _ (c .before .before .before .before .pre .0 .context) (c .before .before .before .before .pre .0 .tail), begin _ _ _ (ap (piecesNumbers (boardOf (c .before .before .before .before .args .bytes .now))) (start-coming _ _ (opens-admitted _ (c .before .before .before .before .pre .0 .opens)) (opens-board _ (c .before .before .before .before .pre .0 .opens)) _ _ (c .before .before .before .before .pre .0 .context) (c .before .before .before .before .pre .0 .tail))) (c .before .before .before .before .pre .4))
 
 step-requires : tie.Need-step-requires Inv-loop μ-loop
 step-requires c κs = c .loop .inv .0
@@ -38,7 +38,7 @@ enum-known-piece c = search needs
 
 mul-put-piece : tie.Need-mul-put-piece Inv-loop μ-loop
 mul-put-piece c =
-    let h : c .before .before .before .before .loop .at ≤ length (c .before .before .before .before .before .before .before .before .args .list .now) = omega (arith, room-before (c .before .before .before .before .loop .inv .1)) in search needs
+    let h : c .before .before .before .before .loop .at ≤ length (c .before .before .before .before .before .before .before .before .before .args .list .now) = omega (arith, room-before (c .before .before .before .before .loop .inv .1)) in search needs
 
 sub-put-piece : tie.Need-sub-put-piece Inv-loop μ-loop
 sub-put-piece c =
@@ -53,30 +53,30 @@ part-put-piece-end c = search needs
 
 put-piece-requires : tie.Need-put-piece-requires Inv-loop μ-loop
 put-piece-requires c κs =
-    let w = (meets (boardOf (c .before .before .before .before .before .before .before .before .before .args .bytes .now)) (contextOf (c .before .before .before .before .before .before .before .before .before .args .known)) (c .before .before .before .before .before .before .before .before .before .args .rules .now) (c .before .before .before .before .before .loop .cursor) (c .before .before .piece .given .0 .0) (c .before .before .piece .given .0 .1 .0) (rw (c .before .before .piece .given .1) at (c .before .before .before .before .step .ensures))) in (c .before .before .before .before .before .before .before .before .before .pre .0, c .before .before .before .before .before .before .before .before .before .pre .2, w .held, w .few, omega (arith, rest-length (c .before .before .before .before .before .loop .list) (c .before .before .before .before .before .loop .at), room-for (c .before .before .before .before .before .loop .inv .1) (pieceNumbers (boardOf (c .before .before .before .before .before .before .before .before .before .args .bytes .now)) (saidPiece (contextOf (c .before .before .before .before .before .before .before .before .before .args .known)) (c .before .before .before .before .before .before .before .before .before .args .rules .now) (c .before .before .piece .given .0 .0))) (piecesNumbers (boardOf (c .before .before .before .before .before .before .before .before .before .args .bytes .now)) (comingAt (contextOf (c .before .before .before .before .before .before .before .before .before .args .known)) (c .before .before .before .before .before .before .before .before .before .args .rules .now) (c .before .before .piece .given .0 .1 .0))) (w .more)))
+    let w = (meets (boardOf (c .before .before .before .before .before .before .before .before .before .before .args .bytes .now)) (contextOf (c .before .before .before .before .before .before .before .before .before .before .args .known)) (c .before .before .before .before .before .before .before .before .before .before .args .rules .now) (c .before .before .before .before .before .loop .cursor) (c .before .before .piece .given .0 .0) (c .before .before .piece .given .0 .1 .0) (rw (c .before .before .piece .given .1) at (c .before .before .before .before .step .ensures))) in (c .before .before .before .before .before .before .before .before .before .before .pre .0, c .before .before .before .before .before .before .before .before .before .before .pre .1, c .before .before .before .before .before .before .before .before .before .before .pre .3, w .held, w .few, omega (arith, rest-length (c .before .before .before .before .before .loop .list) (c .before .before .before .before .before .loop .at), room-for (c .before .before .before .before .before .loop .inv .1) (pieceNumbers (boardOf (c .before .before .before .before .before .before .before .before .before .before .args .bytes .now)) (saidPiece (contextOf (c .before .before .before .before .before .before .before .before .before .before .args .known)) (c .before .before .before .before .before .before .before .before .before .before .args .rules .now) (c .before .before .piece .given .0 .0))) (piecesNumbers (boardOf (c .before .before .before .before .before .before .before .before .before .before .args .bytes .now)) (comingAt (contextOf (c .before .before .before .before .before .before .before .before .before .before .args .known)) (c .before .before .before .before .before .before .before .before .before .before .args .rules .now) (c .before .before .piece .given .0 .1 .0))) (w .more)))
 
 add-at : tie.Need-add-at Inv-loop μ-loop
 add-at c =
-    let h : c .before .before .before .before .before .before .before .loop .at + c .before .put-piece .result ≤ length (c .before .before .before .before .before .before .before .before .before .before .before .args .list .now) = let w = (meets (boardOf (c .before .before .before .before .before .before .before .before .before .before .before .args .bytes .now)) (contextOf (c .before .before .before .before .before .before .before .before .before .before .before .args .known)) (c .before .before .before .before .before .before .before .before .before .before .before .args .rules .now) (c .before .before .before .before .before .before .before .loop .cursor) (c .before .before .before .before .piece .given .0 .0) (c .before .before .before .before .piece .given .0 .1 .0) (rw (c .before .before .before .before .piece .given .1) at (c .before .before .before .before .before .before .step .ensures))) in omega (arith, c .before .put-piece .ensures .0, c .before .before .before .before .before .before .before .loop .inv .1 .long, room-for (c .before .before .before .before .before .before .before .loop .inv .1) (pieceNumbers (boardOf (c .before .before .before .before .before .before .before .before .before .before .before .args .bytes .now)) (saidPiece (contextOf (c .before .before .before .before .before .before .before .before .before .before .before .args .known)) (c .before .before .before .before .before .before .before .before .before .before .before .args .rules .now) (c .before .before .before .before .piece .given .0 .0))) (piecesNumbers (boardOf (c .before .before .before .before .before .before .before .before .before .before .before .args .bytes .now)) (comingAt (contextOf (c .before .before .before .before .before .before .before .before .before .before .before .args .known)) (c .before .before .before .before .before .before .before .before .before .before .before .args .rules .now) (c .before .before .before .before .piece .given .0 .1 .0))) (w .more)) in search (needs, c .before .before .before .before .before .before .before .before .before .before .before .good .1 .1 .1 .1 .1 .0)
+    let h : c .before .before .before .before .before .before .before .loop .at + c .before .put-piece .result ≤ length (c .before .before .before .before .before .before .before .before .before .before .before .before .args .list .now) = let w = (meets (boardOf (c .before .before .before .before .before .before .before .before .before .before .before .before .args .bytes .now)) (contextOf (c .before .before .before .before .before .before .before .before .before .before .before .before .args .known)) (c .before .before .before .before .before .before .before .before .before .before .before .before .args .rules .now) (c .before .before .before .before .before .before .before .loop .cursor) (c .before .before .before .before .piece .given .0 .0) (c .before .before .before .before .piece .given .0 .1 .0) (rw (c .before .before .before .before .piece .given .1) at (c .before .before .before .before .before .before .step .ensures))) in omega (arith, c .before .put-piece .ensures .0, c .before .before .before .before .before .before .before .loop .inv .1 .long, room-for (c .before .before .before .before .before .before .before .loop .inv .1) (pieceNumbers (boardOf (c .before .before .before .before .before .before .before .before .before .before .before .before .args .bytes .now)) (saidPiece (contextOf (c .before .before .before .before .before .before .before .before .before .before .before .before .args .known)) (c .before .before .before .before .before .before .before .before .before .before .before .before .args .rules .now) (c .before .before .before .before .piece .given .0 .0))) (piecesNumbers (boardOf (c .before .before .before .before .before .before .before .before .before .before .before .before .args .bytes .now)) (comingAt (contextOf (c .before .before .before .before .before .before .before .before .before .before .before .before .args .known)) (c .before .before .before .before .before .before .before .before .before .before .before .before .args .rules .now) (c .before .before .before .before .piece .given .0 .1 .0))) (w .more)) in search (needs, c .before .before .before .before .before .before .before .before .before .before .before .before .good .1 .1 .1 .1 .1 .1 .0)
 
 loop-less : tie.Need-loop-less Inv-loop μ-loop
 loop-less c =
-    (meets (boardOf (c .before .before .before .before .before .before .before .before .before .before .before .args .bytes .now)) (contextOf (c .before .before .before .before .before .before .before .before .before .before .before .args .known)) (c .before .before .before .before .before .before .before .before .before .before .before .args .rules .now) (c .before .before .before .before .before .before .before .loop .cursor) (c .before .before .before .before .piece .given .0 .0) (c .before .before .before .before .piece .given .0 .1 .0) (rw (c .before .before .before .before .piece .given .1) at (c .before .before .before .before .before .before .step .ensures))) .onward .less
+    (meets (boardOf (c .before .before .before .before .before .before .before .before .before .before .before .before .args .bytes .now)) (contextOf (c .before .before .before .before .before .before .before .before .before .before .before .before .args .known)) (c .before .before .before .before .before .before .before .before .before .before .before .before .args .rules .now) (c .before .before .before .before .before .before .before .loop .cursor) (c .before .before .before .before .piece .given .0 .0) (c .before .before .before .before .piece .given .0 .1 .0) (rw (c .before .before .before .before .piece .given .1) at (c .before .before .before .before .before .before .step .ensures))) .onward .less
 
 loop-again : tie.Need-loop-again Inv-loop μ-loop
 loop-again c =
-    let w = (meets (boardOf (c .before .before .before .before .before .before .before .before .before .before .before .args .bytes .now)) (contextOf (c .before .before .before .before .before .before .before .before .before .before .before .args .known)) (c .before .before .before .before .before .before .before .before .before .before .before .args .rules .now) (c .before .before .before .before .before .before .before .loop .cursor) (c .before .before .before .before .piece .given .0 .0) (c .before .before .before .before .piece .given .0 .1 .0) (rw (c .before .before .before .before .piece .given .1) at (c .before .before .before .before .before .before .step .ensures))) in (w .onward .sound, part (c .before .before .before .before .before .before .before .loop .inv .1) _ _ (w .more) _ _ (c .before .put-piece .ensures .0) (c .before .put-piece .ensures .1))
+    let w = (meets (boardOf (c .before .before .before .before .before .before .before .before .before .before .before .before .args .bytes .now)) (contextOf (c .before .before .before .before .before .before .before .before .before .before .before .before .args .known)) (c .before .before .before .before .before .before .before .before .before .before .before .before .args .rules .now) (c .before .before .before .before .before .before .before .loop .cursor) (c .before .before .before .before .piece .given .0 .0) (c .before .before .before .before .piece .given .0 .1 .0) (rw (c .before .before .before .before .piece .given .1) at (c .before .before .before .before .before .before .step .ensures))) in (w .onward .sound, part (c .before .before .before .before .before .before .before .loop .inv .1) _ _ (w .more) _ _ (c .before .put-piece .ensures .0) (c .before .put-piece .ensures .1))
 
 enum-known-next : tie.Need-enum-known-next Inv-loop μ-loop
 enum-known-next c = search needs
 
 loop-less-2 : tie.Need-loop-less-2 Inv-loop μ-loop
 loop-less-2 c =
-    (passes (boardOf (c .before .before .before .before .before .before .before .before .args .bytes .now)) (contextOf (c .before .before .before .before .before .before .before .before .args .known)) (c .before .before .before .before .before .before .before .before .args .rules .now) (c .before .before .before .before .loop .cursor) (c .before .next .given .0 .0) (rw (c .before .next .given .1) at (c .before .before .before .step .ensures))) .1 .less
+    (passes (boardOf (c .before .before .before .before .before .before .before .before .before .args .bytes .now)) (contextOf (c .before .before .before .before .before .before .before .before .before .args .known)) (c .before .before .before .before .before .before .before .before .before .args .rules .now) (c .before .before .before .before .loop .cursor) (c .before .next .given .0 .0) (rw (c .before .next .given .1) at (c .before .before .before .step .ensures))) .1 .less
 
 loop-again-2 : tie.Need-loop-again-2 Inv-loop μ-loop
 loop-again-2 c =
-    let w = (passes (boardOf (c .before .before .before .before .before .before .before .before .args .bytes .now)) (contextOf (c .before .before .before .before .before .before .before .before .args .known)) (c .before .before .before .before .before .before .before .before .args .rules .now) (c .before .before .before .before .loop .cursor) (c .before .next .given .0 .0) (rw (c .before .next .given .1) at (c .before .before .before .step .ensures))) in (w .1 .sound, next (c .before .before .before .before .loop .inv .1) (w .0))
+    let w = (passes (boardOf (c .before .before .before .before .before .before .before .before .before .args .bytes .now)) (contextOf (c .before .before .before .before .before .before .before .before .before .args .known)) (c .before .before .before .before .before .before .before .before .before .args .rules .now) (c .before .before .before .before .loop .cursor) (c .before .next .given .0 .0) (rw (c .before .next .given .1) at (c .before .before .before .step .ensures))) in (w .1 .sound, next (c .before .before .before .before .loop .inv .1) (w .0))
 
 enum-told : tie.Need-enum-told Inv-loop μ-loop
 enum-told c = search needs
@@ -86,7 +86,7 @@ same-length c = c .before .before .before .loop .inv .1 .long
 
 returns : tie.Need-returns Inv-loop μ-loop
 returns c =
-    ended (c .before .before .before .loop .inv .1) (ends (boardOf (c .before .before .before .before .before .before .before .args .bytes .now)) (contextOf (c .before .before .before .before .before .before .before .args .known)) (c .before .before .before .before .before .before .before .args .rules .now) (c .before .before .before .loop .cursor) (rw (c .enum-told .given .1) at (c .before .before .step .ensures)))
+    ended (c .before .before .before .loop .inv .1) (ends (boardOf (c .before .before .before .before .before .before .before .before .args .bytes .now)) (contextOf (c .before .before .before .before .before .before .before .before .args .known)) (c .before .before .before .before .before .before .before .before .args .rules .now) (c .before .before .before .loop .cursor) (rw (c .enum-told .given .1) at (c .before .before .step .ensures)))
 
 pub put-pieces-spec : {M : Type 1} → statement M
 put-pieces-spec =

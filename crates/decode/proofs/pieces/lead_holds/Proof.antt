@@ -7,7 +7,7 @@ use lib.ListN.{length}
 use Rattle.definitions.specs.Board.{Board}
 use Rattle.definitions.specs.Meaning.{on}
 use Rattle.laws.specs.Boards.{boardOf}
-use Rattle.opening.specs.Headers.{ints-is, bools-is}
+use Rattle.opening.specs.Headers.{ints-is}
 use Rattle.decode.specs.Given.{selectors-are, short}
 use Rattle.decode.specs.Truth.{selectorNumber}
 use Rattle.decode.specs.Tails.{negated-true, selector-numbered}
@@ -16,22 +16,22 @@ use Rattle.decode.proofs.pieces.lead_holds.Statement.{statement}
 use Rattle.decode.proofs.pieces.lead_holds.Tie as tie
 
 -- the first selector's number was found: that of this piece's
-module _ (c : tie.After-first-number) where
+module _ (c : tie.After-first-in) where
   abbrev B : Board
-  B = boardOf (c .before .before .before .before .before .before .before .args .bytes .now)
+  B = boardOf (c .before .before .before .before .before .before .before .before .args .bytes .now)
 
-  number-is : c .first-number .result + c .before .before .piece2 .given .0 .0 ≡ selectorNumber B (c .before .before .piece2 .given .0 .0)
-  number-is = ap (λ n. n + c .before .before .piece2 .given .0 .0) (c .first-number .ensures ∙ selectors-are (c .before .before .before .before .before .before .before .pre .0 .opened))
+  number-is : c .first-in .result + c .before .before .piece2 .given .0 .0 ≡ selectorNumber B (c .before .before .piece2 .given .0 .0)
+  number-is = ap (λ n. n + c .before .before .piece2 .given .0 .0) (c .first-in .ensures ∙ c .before .before .before .before .before .before .before .before .pre .1 (c .before .before .before .before .before .before .before .before .args .header .ints) (omega (arith, ints-is (c .before .before .before .before .before .before .before .before .pre .0 .opened))) ∙ selectors-are (c .before .before .before .before .before .before .before .before .pre .0 .opened))
 
-  numbered : (1 ≤ c .first-number .result + c .before .before .piece2 .given .0 .0) × (c .first-number .result + c .before .before .piece2 .given .0 .0 ≤ length (c .before .before .before .before .before .before .before .args .model .now))
-  numbered = rw number-is (selector-numbered B (c .before .before .before .before .before .before .before .args .model .now) (c .before .before .piece2 .given .0 .0) (c .before .before .before .before .before .before .before .pre .0 .long) ((rw (c .before .before .piece2 .given .1) at (c .before .before .before .before .before .before .before .pre .2)) .1 .0))
+  numbered : (1 ≤ c .first-in .result + c .before .before .piece2 .given .0 .0) × (c .first-in .result + c .before .before .piece2 .given .0 .0 ≤ length (c .before .before .before .before .before .before .before .before .args .model .now))
+  numbered = rw number-is (selector-numbered B (c .before .before .before .before .before .before .before .before .args .model .now) (c .before .before .piece2 .given .0 .0) (c .before .before .before .before .before .before .before .before .pre .0 .long) ((rw (c .before .before .piece2 .given .1) at (c .before .before .before .before .before .before .before .before .pre .3)) .1 .0))
 
 enum-known-piece : tie.Need-enum-known-piece
 enum-known-piece c = search needs
 
 line-holds-requires : tie.Need-line-holds-requires
 line-holds-requires c κs =
-    (c .before .before .before .before .before .before .pre .0, rw (c .before .piece .given .1) at (c .before .before .before .before .before .before .pre .1), (rw (c .before .piece .given .1) at (c .before .before .before .before .before .before .pre .2)) .1)
+    (c .before .before .before .before .before .before .before .pre .0, c .before .before .before .before .before .before .before .pre .1, rw (c .before .piece .given .1) at (c .before .before .before .before .before .before .before .pre .2), (rw (c .before .piece .given .1) at (c .before .before .before .before .before .before .before .pre .3)) .1)
 
 enum-told : tie.Need-enum-told
 enum-told c = search needs
@@ -39,14 +39,14 @@ enum-told c = search needs
 enum-known-piece-2 : tie.Need-enum-known-piece-2
 enum-known-piece-2 c = search needs
 
-first-number-requires : tie.Need-first-number-requires
-first-number-requires c κs = let o = c .before .before .before .before .before .before .pre .0 .opened in (o .opens, bools-is o, omega (arith, ints-is o))
+first-in-requires : tie.Need-first-in-requires
+first-in-requires c κs = search needs
 
 cast-first : tie.Need-cast-first
 cast-first c = search needs
 
 add-is-on : tie.Need-add-is-on
-add-is-on c = omega (arith, numbered c, short (c .before .before .before .before .before .before .before .pre .0))
+add-is-on c = omega (arith, numbered c, short (c .before .before .before .before .before .before .before .before .pre .0))
 
 is-on-requires : tie.Need-is-on-requires
 is-on-requires c κs = numbered c
@@ -60,7 +60,7 @@ returns-2 c = rw (c .enum-told .given .1)
 returns-3 : tie.Need-returns-3
 returns-3 c =
     let f = c .before in
-    rw (c .before .before .before .piece2 .given .1) (ap not (c .is-on .ensures ∙ ap (on (c .before .before .before .before .before .before .before .before .args .model .now)) (number-is f)) ∙ sym (negated-true (B f) (c .before .before .before .before .before .before .before .before .args .model .now) (c .before .before .before .piece2 .given .0 .0)))
+    rw (c .before .before .before .piece2 .given .1) (ap not (c .is-on .ensures ∙ ap (on (c .before .before .before .before .before .before .before .before .before .args .model .now)) (number-is f)) ∙ sym (negated-true (B f) (c .before .before .before .before .before .before .before .before .before .args .model .now) (c .before .before .before .piece2 .given .0 .0)))
 
 pub lead-holds-spec : {M : Type 1} → statement M
 lead-holds-spec =
@@ -70,7 +70,7 @@ lead-holds-spec =
     line-holds-requires
     enum-told
     enum-known-piece-2
-    first-number-requires
+    first-in-requires
     cast-first
     add-is-on
     is-on-requires

@@ -8,11 +8,10 @@ use Rattle.definitions.specs.Board.{Board, boundsOf}
 use Rattle.definitions.specs.Board as board
 use Rattle.definitions.specs.Encoding.{least}
 use Rattle.laws.specs.Whole.{whole, back}
-use Rattle.laws.specs.Boards.{boardOf}
+use Rattle.laws.specs.Boards.{boardOf, opens-admitted}
 use Rattle.laws.specs.Reread.{comparisonAt}
-use Rattle.slots.specs.Ready.{ReadyFor}
+use Rattle.slots.specs.Ready.{ReadyFor, firsts-small, firsts-ready}
 use Rattle.walk.specs.Comparisons.{shows-least}
-use Rattle.opening.specs.Headers.{bools-is}
 use Rattle.decode.specs.Tails.{below-tails, above-tails}
 use Rattle.decode.proofs.pieces.tails_at.Statement.{statement}
 use Rattle.decode.proofs.pieces.tails_at.Tie as tie
@@ -20,13 +19,13 @@ use Rattle.decode.proofs.pieces.tails_at.Tie as tie
 -- the comparison was made ready and its least sum found
 module _ (c : tie.After-least) where
   abbrev B : Board
-  B = boardOf (c .before .before .before .before .args .bytes .now)
+  B = boardOf (c .before .before .before .before .before .args .bytes .now)
 
   abbrev q : board.Comparison
-  q = comparisonAt (c .before .before .before .before .args .rules .now) (c .before .before .before .before .args .place) (c .before .before .before .before .args .constant)
+  q = comparisonAt (c .before .before .before .before .before .args .rules .now) (c .before .before .before .before .before .args .place) (c .before .before .before .before .before .args .constant)
 
   is-ready : ReadyFor B q (c .before .ready .result)
-  is-ready = let f = c .before .before .before .before .fits .constant in simp toZ-ofZ at (c .before .ready .ensures)
+  is-ready = let f = c .before .before .before .before .before .fits .constant in firsts-ready B (c .before .before .before .before .before .args .firsts .now) (c .before .before .before .before .before .pre .1) q _ (c .before .before .before .before .before .pre .2 .good) (simp toZ-ofZ at (c .before .ready .ensures))
 
   least-is : c .least .result ≡ least (boundsOf B) (q .terms)
   least-is = c .least .ensures ∙ shows-least B q _ (is-ready .shows)
@@ -36,9 +35,9 @@ module _ (c : tie.After-least) where
 
 ready-requires : tie.Need-ready-requires
 ready-requires c κs =
-    let f = c .before .before .fits .constant in
-    let d = c .before .before .pre .1 in
-    simp toZ-ofZ (c .before .before .pre .0 .opens, bools-is (c .before .before .pre .0), record { few = d .few; room = d .room }, d .good)
+    let f = c .before .before .before .fits .constant in
+    let d = c .before .before .before .pre .2 in
+    simp toZ-ofZ (c .before .before .before .pre .0, firsts-small (boardOf (c .before .before .before .args .bytes .now)) (opens-admitted _ (c .before .before .before .pre .0)) (c .before .before .before .args .firsts .now) (c .before .before .before .pre .1), record { few = d .few; room = d .room }, d .good)
 
 least-requires : tie.Need-least-requires
 least-requires c κs = c .ready .ensures .fair
@@ -49,12 +48,12 @@ single-requires c κs = search needs
 returns : tie.Need-returns
 returns c =
     let l = c .before .before in
-    λ lead. below-tails (B l) lead (q l) _ (omega (whole, least-is l, back (c .before .before .before .before .before .before .fits .constant), back (least-fits l))) (c .single .ensures)
+    λ lead. below-tails (B l) lead (q l) _ (omega (whole, least-is l, back (c .before .before .before .before .before .before .before .fits .constant), back (least-fits l))) (c .single .ensures)
 
 returns-2 : tie.Need-returns-2
 returns-2 c =
     let l = c .before in
-    λ lead. above-tails (B l) lead (q l) _ (omega (whole, least-is l, back (c .before .before .before .before .before .fits .constant), back (least-fits l))) (is-ready l)
+    λ lead. above-tails (B l) lead (q l) _ (omega (whole, least-is l, back (c .before .before .before .before .before .before .fits .constant), back (least-fits l))) (is-ready l)
 
 pub tails-at-spec : {M : Type 1} → statement M
 tails-at-spec =

@@ -12,11 +12,11 @@ use Rattle.decode.proofs.pieces.tails_of.Statement.{statement}
 use Rattle.decode.proofs.pieces.tails_of.Tie as tie
 
 -- the comparison of the piece: alone, and under a selector
-lone : (c : tie.After-piece) → Stands (contextOf (boardOf (c .before .before .before .before .args .bytes .now))) (c .before .before .before .before .args .rules .now) (c .piece .given .0 .0) (c .piece .given .0 .1 .0)
-lone c = rw (c .piece .given .1) at (c .before .before .before .before .pre .1)
+lone : (c : tie.After-piece) → Stands (contextOf (boardOf (c .before .before .before .before .before .args .bytes .now))) (c .before .before .before .before .before .args .rules .now) (c .piece .given .0 .0) (c .piece .given .0 .1 .0)
+lone c = rw (c .piece .given .1) at (c .before .before .before .before .before .pre .2)
 
-led : (c : tie.After-piece2) → Stands (contextOf (boardOf (c .before .before .before .before .args .bytes .now))) (c .before .before .before .before .args .rules .now) (c .piece2 .given .0 .1 .0) (c .piece2 .given .0 .1 .1 .0)
-led c = rw (c .piece2 .given .1) at (c .before .before .before .before .pre .1)
+led : (c : tie.After-piece2) → Stands (contextOf (boardOf (c .before .before .before .before .before .args .bytes .now))) (c .before .before .before .before .before .args .rules .now) (c .piece2 .given .0 .1 .0) (c .piece2 .given .0 .1 .1 .0)
+led c = rw (c .piece2 .given .1) at (c .before .before .before .before .before .pre .2)
 
 enum-told : tie.Need-enum-told
 enum-told c = search needs
@@ -30,7 +30,7 @@ enum-known-piece c = search needs
 tails-at-requires : tie.Need-tails-at-requires
 tails-at-requires c κs =
     let h = lone (c .before) in
-    let f = constant-fits _ _ h in simp toZ-ofZ (c .before .before .before .before .before .pre .0, h)
+    let f = constant-fits _ _ h in simp toZ-ofZ (c .before .before .before .before .before .before .pre .0, c .before .before .before .before .before .before .pre .1, h)
 
 enum-known-piece-2 : tie.Need-enum-known-piece-2
 enum-known-piece-2 c = search needs
@@ -38,10 +38,10 @@ enum-known-piece-2 c = search needs
 tails-at-requires-2 : tie.Need-tails-at-requires-2
 tails-at-requires-2 c κs =
     let h = led (c .before) in
-    let f = constant-fits _ _ h in simp toZ-ofZ (c .before .before .before .before .before .pre .0, h)
+    let f = constant-fits _ _ h in simp toZ-ofZ (c .before .before .before .before .before .before .pre .0, c .before .before .before .before .before .before .pre .1, h)
 
 returns : tie.Need-returns
-returns c = rw (c .before .enum-told .given .1) (line-tails (boardOf (c .before .before .before .before .before .args .bytes .now)) _ _ (c .single .ensures))
+returns c = rw (c .before .enum-told .given .1) (line-tails (boardOf (c .before .before .before .before .before .before .args .bytes .now)) _ _ (c .single .ensures))
 
 returns-2 : tie.Need-returns-2
 returns-2 c =

@@ -6,7 +6,7 @@ use native.Mathlib.Omega.{arith}
 use Rattle.definitions.specs.Board.{Board}
 use Rattle.definitions.specs.Encoding.{clauses}
 use Rattle.laws.specs.Boards.{boardOf}
-use Rattle.opening.specs.Headers.{admitted, rules-inside, tail-is}
+use Rattle.opening.specs.Headers.{admitted, ints-is, bools-is, counts-small, rules-inside, tail-is}
 use Rattle.decode.specs.declared.Checked.{Checked}
 use Rattle.decode.specs.Truth.{tests}
 use Rattle.decode.specs.Goes.{Goes, goes-start, goes-part, goes-fails}
@@ -33,26 +33,36 @@ enum-known-number c = search needs
 enum-known-number-2 : tie.Need-enum-known-number-2
 enum-known-number-2 c = search needs
 
+slice-aggregate-put-firsts : tie.Need-slice-aggregate-put-firsts
+slice-aggregate-put-firsts c = search needs
+
+put-firsts-requires : tie.Need-put-firsts-requires
+put-firsts-requires c κs =
+    let o = c .before .before .before .before .before .before .before .pre .opened in (o .opens, bools-is o, ints-is o, omega (arith, counts-small o))
+
+slice-aggregate-search-rules : tie.Need-slice-aggregate-search-rules
+slice-aggregate-search-rules c = search needs
+
 sub-search-rules : tie.Need-sub-search-rules
-sub-search-rules c = rules-inside (c .before .before .before .before .before .before .pre .opened)
+sub-search-rules c = rules-inside (c .before .before .before .before .before .before .before .before .before .before .pre .opened)
 
 part-search-rules-start : tie.Need-part-search-rules-start
-part-search-rules-start c = let h = rules-inside (c .before .before .before .before .before .before .pre .opened) in search needs
+part-search-rules-start c = let h = rules-inside (c .before .before .before .before .before .before .before .before .before .before .pre .opened) in search needs
 
 part-search-rules-end : tie.Need-part-search-rules-end
 part-search-rules-end c = search needs
 
 search-rules-requires : tie.Need-search-rules-requires
 search-rules-requires c κs =
-    let s = c .before .before .before .before .before .before .before in
-    (s .pre, tail-is (s .pre .opened), omega (arith, rules-left (c .before .before .before .before) _ (c .before .before .number2 .given .1) .count, clauses-fit (B s) (s .args .model .now) (admitted (s .pre .opened))))
+    let s = c .before .before .before .before .before .before .before .before .before .before .before in
+    (s .pre, c .before .before .before .put-firsts .ensures, tail-is (s .pre .opened), omega (arith, rules-left (c .before .before .before .before .before .before .before .before) _ (c .before .before .before .before .before .before .number2 .given .1) .count, clauses-fit (B s) (s .args .model .now) (admitted (s .pre .opened))))
 
 returns : tie.Need-returns
 returns c =
     goes-fails (goes-start 0 _) _ _ (clauses-split (B (c .before .before .before .before .before .before)) (c .before .before .before .before .before .before .args .model .now)) _ (c .before .before .before .search-axioms .ensures) (c .before .number .given .1)
 
 returns-2 : tie.Need-returns-2
-returns-2 c = c .search-rules .ensures ∙ rules-left (c .before .before .before .before .before) _ (c .before .before .before .number2 .given .1) .same
+returns-2 c = c .search-rules .ensures ∙ rules-left (c .before .before .before .before .before .before .before .before .before) _ (c .before .before .before .before .before .before .before .number2 .given .1) .same
 
 pub search-clauses-spec : {M : Type 1} → statement M
 search-clauses-spec =
@@ -61,6 +71,9 @@ search-clauses-spec =
     search-axioms-requires
     enum-known-number
     enum-known-number-2
+    slice-aggregate-put-firsts
+    put-firsts-requires
+    slice-aggregate-search-rules
     sub-search-rules
     part-search-rules-start
     part-search-rules-end

@@ -10,61 +10,65 @@ use borrow.Author.Needs.{needs}
 use Rattle.size.proofs.pieces.comparison_share.Statement.{statement}
 use Rattle.size.proofs.pieces.comparison_share.Tie as tie
 
+slice-aggregate-ready : tie.Need-slice-aggregate-ready
+slice-aggregate-ready c = search needs
+
 ready-requires : tie.Need-ready-requires
 ready-requires c κs =
-    let d = c .before .before .pre .1 in
-    (c .before .before .pre .0, tt, record { few = d .few; room = d .room }, rw (toZ-ofZ (c .before .before .fits .constant)) (d .good))
+    let d = c .before .before .before .pre .1 in
+    (c .before .before .before .pre .0, λ x h. omega arith, record { few = d .few; room = d .room }, rw (toZ-ofZ (c .before .before .before .fits .constant)) (d .good))
 
 least-requires : tie.Need-least-requires
 least-requires c κs = c .ready .ensures .fair
 
-add-t11 : tie.Need-add-t11
-add-t11 c = search needs
+add-t13 : tie.Need-add-t13
+add-t13 c = search needs
 
 returns : tie.Need-returns
 returns c =
-    let f = c .before .before .before .before .before .fits .constant in
+    let f = c .before .before .before .before .before .before .fits .constant in
     let l : SFits w32 (c .before .least .result) = record { sfits = c .before .least .ok } in
     let r = rw (toZ-ofZ f) at (c .before .before .ready .ensures) in
-    share-below _ (opens-admitted _ (c .before .before .before .before .before .pre .0)) _ (c .before .before .before .before .before .pre .1 .good) _ r (omega (whole, back f, back l, c .before .least .ensures, r .shows .constant)) _
+    share-below _ (opens-admitted _ (c .before .before .before .before .before .before .pre .0)) _ (c .before .before .before .before .before .before .pre .1 .good) _ r (omega (whole, back f, back l, c .before .least .ensures, r .shows .constant)) _
 
 tuples-of-requires : tie.Need-tuples-of-requires
 tuples-of-requires c κs =
-    let f = c .before .before .before .before .before .fits .constant in
+    let f = c .before .before .before .before .before .before .fits .constant in
     let l : SFits w32 (c .before .least .result) = record { sfits = c .before .least .ok } in
     let r = rw (toZ-ofZ f) at (c .before .before .ready .ensures) in
     (r .fair, omega (whole, back f, back l, c .before .least .ensures, r .shows .constant))
 
-add-t13 : tie.Need-add-t13
-add-t13 c = search needs
+add-t15 : tie.Need-add-t15
+add-t15 c = search needs
 
-add-t14 : tie.Need-add-t14
-add-t14 c = search needs
+add-t16 : tie.Need-add-t16
+add-t16 c = search needs
 
-mul-t15 : tie.Need-mul-t15
-mul-t15 c =
-    let f = c .before .before .before .before .before .before .fits .constant in
+mul-t17 : tie.Need-mul-t17
+mul-t17 c =
+    let f = c .before .before .before .before .before .before .before .fits .constant in
     let l : SFits w32 (c .before .before .least .result) = record { sfits = c .before .before .least .ok } in
     let r = rw (toZ-ofZ f) at (c .before .before .before .ready .ensures) in
-    omega (arith, share-fits _ (opens-admitted _ (c .before .before .before .before .before .before .pre .0)) _ (c .before .before .before .before .before .before .pre .1 .good) _ r (omega (whole, back f, back l, c .before .before .least .ensures, r .shows .constant)) _ _ (c .before .before .before .before .before .before .pre .2) (c .tuples-of .ensures))
+    omega (arith, share-fits _ (opens-admitted _ (c .before .before .before .before .before .before .before .pre .0)) _ (c .before .before .before .before .before .before .before .pre .1 .good) _ r (omega (whole, back f, back l, c .before .before .least .ensures, r .shows .constant)) _ _ (c .before .before .before .before .before .before .before .pre .2) (c .tuples-of .ensures))
 
 returns-2 : tie.Need-returns-2
 returns-2 c =
-    let f = c .before .before .before .before .before .before .fits .constant in
+    let f = c .before .before .before .before .before .before .before .fits .constant in
     let l : SFits w32 (c .before .before .least .result) = record { sfits = c .before .before .least .ok } in
     let r = rw (toZ-ofZ f) at (c .before .before .before .ready .ensures) in
-    share-reached _ (opens-admitted _ (c .before .before .before .before .before .before .pre .0)) _ (c .before .before .before .before .before .before .pre .1 .good) _ r (omega (whole, back f, back l, c .before .before .least .ensures, r .shows .constant)) _ _ (c .tuples-of .ensures)
+    share-reached _ (opens-admitted _ (c .before .before .before .before .before .before .before .pre .0)) _ (c .before .before .before .before .before .before .before .pre .1 .good) _ r (omega (whole, back f, back l, c .before .before .least .ensures, r .shows .constant)) _ _ (c .tuples-of .ensures)
 
 pub comparison-share-spec : {M : Type 1} → statement M
 comparison-share-spec =
     tie.close
     (tie.spec
+    slice-aggregate-ready
     ready-requires
     least-requires
-    add-t11
+    add-t13
     returns
     tuples-of-requires
-    add-t13
-    add-t14
-    mul-t15
+    add-t15
+    add-t16
+    mul-t17
     returns-2)

@@ -15,7 +15,8 @@ use Rattle.walk.specs.Slots.{slotOf}
 use Rattle.slots.specs.declared.Term.{Term}
 use Rattle.slots.specs.declared.Terms.{Terms}
 use Rattle.slots.specs.Terms.{termRead, TermsOf, term-of, term-good}
-use Rattle.slots.specs.Ready.{firstBy, numbers-small, shows-ready}
+use Rattle.slots.specs.Variables.{numbered}
+use Rattle.slots.specs.Ready.{shows-ready}
 use Rattle.slots.proofs.Arrays.{filled-more, filled-all}
 use Rattle.slots.proofs.comparisons.ready.Statement.{statement}
 use Rattle.slots.proofs.comparisons.ready.Tie as tie
@@ -30,11 +31,11 @@ module _ (B : Board) (f : ℕ → ℕ) (ts : List board.Term) (r : Terms) (h : T
   all k = rw (← k) (filled-all slots (map (slotOf B f) ts) i e (k ∙ h .counted ∙ sym (length-map ts (slotOf B f))))
 
 abbrev Inv-loop : tie.InvT-loop
-Inv-loop bytes numbers rules place constant n terms slots₀ i₀ slots i =
-    (i ≤ n) × (length slots ≡ 3) × (take i slots ≡ take i (map (slotOf (boardOf bytes) (firstBy (boardOf bytes) numbers)) (termsAt rules place)))
+Inv-loop bytes firsts rules place constant n terms slots₀ i₀ slots i =
+    (i ≤ n) × (length slots ≡ 3) × (take i slots ≡ take i (map (slotOf (boardOf bytes) (numbered firsts)) (termsAt rules place)))
 
 abbrev μ-loop : tie.MeasureT-loop
-μ-loop bytes numbers rules place constant n terms slots₀ i₀ slots i = n - i
+μ-loop bytes firsts rules place constant n terms slots₀ i₀ slots i = n - i
 
 terms-at-requires : tie.Need-terms-at-requires Inv-loop μ-loop
 terms-at-requires c κs = search needs
@@ -50,7 +51,7 @@ array-copy-out-term c = search needs
 
 slot-of-requires : tie.Need-slot-of-requires Inv-loop μ-loop
 slot-of-requires c κs =
-    (c .before .before .before .before .before .before .before .pre .0, c .before .before .before .before .before .before .before .pre .1, term-good _ _ _ _ _ (c .before .before .before .before .terms-at .ensures) (c .before .before .before .before .before .before .before .pre .3 .terms) (c .before .loop-test .taken))
+    (c .before .before .before .before .before .before .before .before .pre .0, term-good _ _ _ _ _ (c .before .before .before .before .terms-at .ensures) (c .before .before .before .before .before .before .before .before .pre .3 .terms) (c .before .loop-test .taken))
 
 mul-slots : tie.Need-mul-slots Inv-loop μ-loop
 mul-slots c = search needs
@@ -66,14 +67,14 @@ loop-less c = search needs
 
 loop-again : tie.Need-loop-again Inv-loop μ-loop
 loop-again c =
-    (omega arith, rw length-set (c .before .before .before .loop .inv .1), more _ _ _ _ (c .before .before .before .before .before .terms-at .ensures) _ _ (c .before .before .before .loop .inv .2) _ _ (c .before .before .loop-test .taken) (omega (arith, c .before .before .before .before .before .terms-at .ensures .counted, c .before .before .before .before .before .before .before .before .pre .3 .few)) (c .slot-of .ensures))
+    (omega arith, rw length-set (c .before .before .before .loop .inv .1), more _ _ _ _ (c .before .before .before .before .before .terms-at .ensures) _ _ (c .before .before .before .loop .inv .2) _ _ (c .before .before .loop-test .taken) (omega (arith, c .before .before .before .before .before .terms-at .ensures .counted, c .before .before .before .before .before .before .before .before .before .pre .3 .few)) (c .slot-of .ensures))
 
 returns : tie.Need-returns Inv-loop μ-loop
 returns c =
-    shows-ready _ (opens-admitted _ (c .before .before .before .before .before .before .pre .0)) _ (numbers-small _ (opens-admitted _ (c .before .before .before .before .before .before .pre .0)) (c .before .before .before .before .before .before .args .numbers)) _ _ (c .before .before .before .before .before .before .pre .3) (record {
+    shows-ready _ (opens-admitted _ (c .before .before .before .before .before .before .before .pre .0)) _ (c .before .before .before .before .before .before .before .pre .1) _ _ (c .before .before .before .before .before .before .before .pre .3) (record {
       counted = c .before .before .before .terms-at .ensures .counted;
       terms = all _ _ _ _ (c .before .before .before .terms-at .ensures) (c .before .loop .slots) (c .before .loop .i) (c .before .loop .inv .2) (omega arith);
-      constant = toZ-ofZ (c .before .before .before .before .before .before .fits .constant);
+      constant = toZ-ofZ (c .before .before .before .before .before .before .before .fits .constant);
     })
 
 pub ready-spec : {M : Type 1} → statement M

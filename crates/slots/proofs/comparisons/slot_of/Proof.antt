@@ -10,14 +10,14 @@ use Rattle.slots.proofs.comparisons.slot_of.Tie as tie
 bounds-of-requires : tie.Need-bounds-of-requires
 bounds-of-requires c κs = search needs
 
-first-of-requires : tie.Need-first-of-requires
-first-of-requires c κs = search needs
+first-in-requires : tie.Need-first-in-requires
+first-in-requires c κs = search needs
 
 returns : tie.Need-returns
 unfolding slotOf
 returns c =
     let b = c .before .before .before .bounds-of .ensures in
-    rw (toZ-ofZ (coefficient-fits _ (c .before .before .before .before .before .args .term) (c .before .before .before .before .before .pre .2)), toZ-ofZ (lower-fits (c .before .before .before .bounds-of .result) (b .good)), toZ-ofZ (upper-fits (c .before .before .before .bounds-of .result) (b .good)), b .lower, b .upper, c .before .before .first-of .ensures)
+    rw (toZ-ofZ (coefficient-fits _ (c .before .before .before .before .before .before .args .term) (c .before .before .before .before .before .before .pre .1)), toZ-ofZ (lower-fits (c .before .before .before .bounds-of .result) (b .good)), toZ-ofZ (upper-fits (c .before .before .before .bounds-of .result) (b .good)), b .lower, b .upper, c .before .before .first-in .ensures)
 
 pub slot-of-spec : {M : Type 1} → statement M
-slot-of-spec = tie.close (tie.spec bounds-of-requires first-of-requires returns)
+slot-of-spec = tie.close (tie.spec bounds-of-requires first-in-requires returns)

@@ -1,19 +1,20 @@
 -- `writing::comparisons::put_tuples` meets its contract.
 use borrow.Author.Needs.{needs}
 use mathlib.Core.Path.{ap, subst}
-use mathlib.Core.List.{_++_}
+use mathlib.Core.List.{map}
 use Prim.Native.Nat.{_+_, _≤_}
 use native.Mathlib.Omega.{arith}
-use lib.ListN.{length, drop, length-append}
+use lib.ListN.{length, length-append}
 use mir.Syntax.{w32}
 use mir.Val.{toZ, ofZ}
 use mir.Facts.{toZ-ofZ}
 use Rattle.laws.specs.Written.{rest-length}
-use Rattle.walk.specs.declared.At.the-variants.{Tuple}
-use Rattle.walk.specs.Comparisons.{Walking, literalsOf, present, toCome, walking-fine, stepped}
-use Rattle.writing.specs.Numbers.{clause, leadOf, led}
-use Rattle.laws.specs.Filling.{Filling, begin, room-before, room, part, ended}
-use Rattle.writing.proofs.Parts.{led-end, led-on, led-first}
+use Rattle.walk.specs.Comparisons.{Walking, literalsOf, present, toCome, walking-fine}
+use Rattle.walk.specs.Rows.{rowOf}
+use Rattle.walk.proofs.Runs.{rowed, row-some}
+use Rattle.writing.specs.Numbers.{led}
+use Rattle.laws.specs.Filling.{Filling, begin, room-before, room, room-for, part, ended}
+use Rattle.writing.proofs.Parts.{led-end, led-on}
 use Rattle.writing.proofs.comparisons.put_tuples.Statement.{statement}
 use Rattle.writing.proofs.comparisons.put_tuples.Tie as tie
 
@@ -37,43 +38,48 @@ enum-known-tuple c = search needs
 enum-told : tie.Need-enum-told Inv-loop μ-loop
 enum-told c = search needs
 
-mul-put-tuple : tie.Need-mul-put-tuple Inv-loop μ-loop
-mul-put-tuple c =
-    let h : c .before .before .before .loop .at ≤ length (c .before .before .before .before .before .args .list .now) = omega (arith, room-before (c .before .before .before .loop .inv .0)) in search needs
+after-row-requires : tie.Need-after-row-requires Inv-loop μ-loop
+after-row-requires c κs =
+    walking-fine (c .before .before .before .before .before .args .c) (c .before .tuple .given .0 .0) (subst (Walking (c .before .before .before .before .before .args .c)) (c .before .tuple .given .1) (c .before .before .before .loop .inv .1))
 
-sub-put-tuple : tie.Need-sub-put-tuple Inv-loop μ-loop
-sub-put-tuple c =
-    omega (arith, room (c .before .before .before .loop .inv .0))
+mul-put-run : tie.Need-mul-put-run Inv-loop μ-loop
+mul-put-run c =
+    let h : c .before .before .before .before .loop .at ≤ length (c .before .before .before .before .before .before .args .list .now) = omega (arith, room-before (c .before .before .before .before .loop .inv .0)) in search needs
 
-part-put-tuple-start : tie.Need-part-put-tuple-start Inv-loop μ-loop
-part-put-tuple-start c =
-    let h : c .before .before .before .loop .at ≤ length (c .before .before .before .loop .list) = omega (arith, room (c .before .before .before .loop .inv .0)) in search needs
+sub-put-run : tie.Need-sub-put-run Inv-loop μ-loop
+sub-put-run c =
+    omega (arith, room (c .before .before .before .before .loop .inv .0))
 
-part-put-tuple-end : tie.Need-part-put-tuple-end Inv-loop μ-loop
-part-put-tuple-end c = search needs
+part-put-run-start : tie.Need-part-put-run-start Inv-loop μ-loop
+part-put-run-start c =
+    let h : c .before .before .before .before .loop .at ≤ length (c .before .before .before .before .loop .list) = omega (arith, room (c .before .before .before .before .loop .inv .0)) in search needs
 
-put-tuple-requires : tie.Need-put-tuple-requires Inv-loop μ-loop
-put-tuple-requires c κs =
-    (c .before .before .before .before .before .before .pre .0, (subst (Walking (c .before .before .before .before .before .before .args .c)) (c .before .before .tuple .given .1) (c .before .before .before .before .loop .inv .1)), omega (arith, rest-length (c .before .before .before .before .loop .list) (c .before .before .before .before .loop .at), room (c .before .before .before .before .loop .inv .0), ap length (led-first (c .before .before .before .before .before .before .args .c) (toZ w32 (ofZ w32 (c .before .before .before .before .before .before .args .lead))) (c .before .before .before .before .loop .tuple) (c .before .before .tuple .given .0 .0) (c .before .before .tuple .given .1)), length-append (clause (leadOf (toZ w32 (ofZ w32 (c .before .before .before .before .before .before .args .lead))) ++ present (c .before .before .before .before .before .before .args .c) (c .before .before .tuple .given .0 .0))) (led (toZ w32 (ofZ w32 (c .before .before .before .before .before .before .args .lead))) (drop 1 (toCome (c .before .before .before .before .before .before .args .c) (Tuple (c .before .before .tuple .given .0 .0)))))))
+part-put-run-end : tie.Need-part-put-run-end Inv-loop μ-loop
+part-put-run-end c = search needs
+
+put-run-requires : tie.Need-put-run-requires Inv-loop μ-loop
+put-run-requires c κs =
+    let o = subst (Walking (c .before .before .before .before .before .before .before .args .c)) (c .before .before .before .tuple .given .1) (c .before .before .before .before .before .loop .inv .1) in let w = c .before .before .before .tuple .given .0 .0 in let l = toZ w32 (ofZ w32 (c .before .before .before .before .before .before .before .args .lead)) in
+    let k = rowed (c .before .before .before .before .before .before .before .args .c) w (c .before .after-row .result) o (c .before .after-row .ensures) in
+    (c .before .before .before .before .before .before .before .pre .0, o, omega (arith, rest-length (c .before .before .before .before .before .loop .list) (c .before .before .before .before .before .loop .at), room-for (c .before .before .before .before .before .loop .inv .0) (led l (map (present (c .before .before .before .before .before .before .before .args .c)) (rowOf w))) (led l (toCome (c .before .before .before .before .before .before .before .args .c) (c .before .after-row .result))) (led-on (c .before .before .before .before .before .before .before .args .c) l (c .before .before .before .before .before .loop .tuple) w (c .before .before .before .tuple .given .1) _ (k .1))))
 
 add-at : tie.Need-add-at Inv-loop μ-loop
 add-at c =
-    let e = c .before .put-tuple .ensures in let h : c .before .before .before .before .before .before .loop .at + c .before .put-tuple .result ≤ length (c .before .before .before .before .before .before .before .before .args .list .now) = omega (arith, e .0, room-before (c .before .before .before .before .before .before .loop .inv .0), ap length (led-first (c .before .before .before .before .before .before .before .before .args .c) (toZ w32 (ofZ w32 (c .before .before .before .before .before .before .before .before .args .lead))) (c .before .before .before .before .before .before .loop .tuple) (c .before .before .before .before .tuple .given .0 .0) (c .before .before .before .before .tuple .given .1)), length-append (clause (leadOf (toZ w32 (ofZ w32 (c .before .before .before .before .before .before .before .before .args .lead))) ++ present (c .before .before .before .before .before .before .before .before .args .c) (c .before .before .before .before .tuple .given .0 .0))) (led (toZ w32 (ofZ w32 (c .before .before .before .before .before .before .before .before .args .lead))) (drop 1 (toCome (c .before .before .before .before .before .before .before .before .args .c) (Tuple (c .before .before .before .before .tuple .given .0 .0)))))) in search needs
-
-next-requires : tie.Need-next-requires Inv-loop μ-loop
-next-requires c κs =
-    walking-fine (c .before .before .before .before .before .before .before .before .args .c) (c .before .before .before .before .tuple .given .0 .0) (subst (Walking (c .before .before .before .before .before .before .before .before .args .c)) (c .before .before .before .before .tuple .given .1) (c .before .before .before .before .before .before .loop .inv .1))
+    let o = subst (Walking (c .before .before .before .before .before .before .before .before .before .args .c)) (c .before .before .before .before .before .tuple .given .1) (c .before .before .before .before .before .before .before .loop .inv .1) in let w = c .before .before .before .before .before .tuple .given .0 .0 in let l = toZ w32 (ofZ w32 (c .before .before .before .before .before .before .before .before .before .args .lead)) in
+    let k = rowed (c .before .before .before .before .before .before .before .before .before .args .c) w (c .before .before .before .after-row .result) o (c .before .before .before .after-row .ensures) in
+    let h : c .before .before .before .before .before .before .before .loop .at + c .before .put-run .result ≤ length (c .before .before .before .before .before .before .before .before .before .args .list .now) = omega (arith, c .before .put-run .ensures .0, c .before .before .before .before .before .before .before .loop .inv .0 .long, room-for (c .before .before .before .before .before .before .before .loop .inv .0) (led l (map (present (c .before .before .before .before .before .before .before .before .before .args .c)) (rowOf w))) (led l (toCome (c .before .before .before .before .before .before .before .before .before .args .c) (c .before .before .before .after-row .result))) (led-on (c .before .before .before .before .before .before .before .before .before .args .c) l (c .before .before .before .before .before .before .before .loop .tuple) w (c .before .before .before .before .before .tuple .given .1) _ (k .1))) in search needs
 
 loop-less : tie.Need-loop-less Inv-loop μ-loop
 loop-less c =
-    let k = stepped (c .before .before .before .before .before .before .before .before .before .args .c) (c .before .before .before .before .before .tuple .given .0 .0) (c .next .result) (subst (Walking (c .before .before .before .before .before .before .before .before .before .args .c)) (c .before .before .before .before .before .tuple .given .1) (c .before .before .before .before .before .before .before .loop .inv .1)) (c .next .ensures) in
-    omega (arith, ap (λ z. length (toCome (c .before .before .before .before .before .before .before .before .before .args .c) z)) (c .before .before .before .before .before .tuple .given .1), ap length (k .1))
+    let o = subst (Walking (c .before .before .before .before .before .before .before .before .before .args .c)) (c .before .before .before .before .before .tuple .given .1) (c .before .before .before .before .before .before .before .loop .inv .1) in let w = c .before .before .before .before .before .tuple .given .0 .0 in
+    let k = rowed (c .before .before .before .before .before .before .before .before .before .args .c) w (c .before .before .before .after-row .result) o (c .before .before .before .after-row .ensures) in
+    omega (arith, ap (λ z. length (toCome (c .before .before .before .before .before .before .before .before .before .args .c) z)) (c .before .before .before .before .before .tuple .given .1), ap length (k .1), length-append (map (present (c .before .before .before .before .before .before .before .before .before .args .c)) (rowOf w)) (toCome (c .before .before .before .before .before .before .before .before .before .args .c) (c .before .before .before .after-row .result)), row-some (c .before .before .before .before .before .before .before .before .before .args .c) w)
 
 loop-again : tie.Need-loop-again Inv-loop μ-loop
 loop-again c =
-    let e = c .before .before .put-tuple .ensures in
-    let k = stepped (c .before .before .before .before .before .before .before .before .before .args .c) (c .before .before .before .before .before .tuple .given .0 .0) (c .next .result) (subst (Walking (c .before .before .before .before .before .before .before .before .before .args .c)) (c .before .before .before .before .before .tuple .given .1) (c .before .before .before .before .before .before .before .loop .inv .1)) (c .next .ensures) in
-    (part (c .before .before .before .before .before .before .before .loop .inv .0) _ _ (led-on (c .before .before .before .before .before .before .before .before .before .args .c) (toZ w32 (ofZ w32 (c .before .before .before .before .before .before .before .before .before .args .lead))) (c .before .before .before .before .before .before .before .loop .tuple) (c .before .before .before .before .before .tuple .given .0 .0) (c .before .before .before .before .before .tuple .given .1) _ (k .1)) _ _ (e .0) (e .1), k .0)
+    let o = subst (Walking (c .before .before .before .before .before .before .before .before .before .args .c)) (c .before .before .before .before .before .tuple .given .1) (c .before .before .before .before .before .before .before .loop .inv .1) in let w = c .before .before .before .before .before .tuple .given .0 .0 in let l = toZ w32 (ofZ w32 (c .before .before .before .before .before .before .before .before .before .args .lead)) in
+    let k = rowed (c .before .before .before .before .before .before .before .before .before .args .c) w (c .before .before .before .after-row .result) o (c .before .before .before .after-row .ensures) in
+    (part (c .before .before .before .before .before .before .before .loop .inv .0) (led l (map (present (c .before .before .before .before .before .before .before .before .before .args .c)) (rowOf w))) (led l (toCome (c .before .before .before .before .before .before .before .before .before .args .c) (c .before .before .before .after-row .result))) (led-on (c .before .before .before .before .before .before .before .before .before .args .c) l (c .before .before .before .before .before .before .before .loop .tuple) w (c .before .before .before .before .before .tuple .given .1) _ (k .1)) _ _ (c .before .put-run .ensures .0) (c .before .put-run .ensures .1), k .0)
 
 same-length : tie.Need-same-length Inv-loop μ-loop
 same-length c = c .before .before .loop .inv .0 .long
@@ -92,13 +98,13 @@ put-tuples-spec =
     loop-holds
     enum-known-tuple
     enum-told
-    mul-put-tuple
-    sub-put-tuple
-    part-put-tuple-start
-    part-put-tuple-end
-    put-tuple-requires
+    after-row-requires
+    mul-put-run
+    sub-put-run
+    part-put-run-start
+    part-put-run-end
+    put-run-requires
     add-at
-    next-requires
     loop-less
     loop-again
     same-length

@@ -1,0 +1,229 @@
+-- The tuples of a row, and their literals. Assumes nothing.
+use mathlib.Core.Path.{_≡_, refl, sym, ap, ap₂, _∙_, subst}
+use mathlib.Core.Logic.{⊎-elim}
+use mathlib.Core.List.{List, [], _∷_, _++_, map, map-map, map-append}
+use Prim.Native.Nat.{ℕ, zero, suc, min, _+_, _-_, _≤_, _<_}
+use native.Mathlib.Omega.{arith}
+use native.Mathlib.Decide.{decLe}
+use lib.ListN.{length, getD}
+use lib.IntN.{ℤ, pos, natAbs, _+ℤ_, _-ℤ_}
+use lib.Signed.{_≤ℤ_, _<ℤ_}
+use Rattle.definitions.specs.Tools.{All, floor, ceil}
+use Rattle.laws.specs.Whole.{whole, add-law, abs-law, part-law, abs-neg, abs-add, abs-sub, le-or-lt}
+use Rattle.laws.specs.Lists.{map-read}
+use Rattle.laws.specs.Tuples.{no-term}
+use Rattle.walk.specs.declared.Slot.{Slot}
+use Rattle.walk.specs.declared.Spot.{Spot}
+use Rattle.walk.specs.declared.Comparison.{Comparison}
+use Rattle.walk.specs.declared.Walk.{Walk}
+use Rattle.walk.specs.declared.At.{At}
+use Rattle.walk.specs.declared.At.the-variants.{Tuple, End}
+use Rattle.walk.specs.Slots.{FairSlot, slotBounds, orderNumber, slotLiteral}
+use Rattle.walk.specs.Walks.{places, moved, blank, seen, left, Fine, Over}
+use Rattle.walk.specs.Comparisons.{slotsOf, FairComparison, Walking, paddedRanges, placed, present, present-length, literalsAt, toCome}
+use Rattle.walk.specs.Rows.{along, run, rowLength, rowOf, slotAt, offsetAt, Holds, Steady, raised, lowered, rowFrom, frontOf}
+use Rattle.walk.proofs.Moves.{move-second}
+use Rattle.walk.proofs.Slots.{floor-inside, ceil-inside, number-small, literal-rising, literal-falling}
+use Rattle.walk.proofs.Padding.{no-place, slot-fair, range-none, padded-length, low-is, bound-inside, literal-read}
+use Rattle.walk.proofs.Steps.{bound, raise-at, raise-on, lower-at, lower-on, holds-up, holds-down}
+
+-- ---- tuples
+pub along-none : (w : Walk) → along w 0 ≡ w
+along-none w =
+    let e : w .b .k + 0 ≡ w .b .k = omega arith in
+    let f : w .c .k - 0 ≡ w .c .k = omega arith in
+    ap₂ (λ j k. record { a = w .a; b = moved (w .b) j; c = moved (w .c) k }) e f
+
+-- it can move up once more
+more-room : (bw bk ck i : ℕ) → i < min (bw - bk) ck → 0 < min (bw - (bk + i)) (ck - i)
+more-room bw bk ck i h = omega (arith, h)
+
+module _ (w : Walk) (f : All Fine (places w)) where
+  pub along-fine : (i : ℕ) → i ≤ min (w .b .w - w .b .k) (w .c .k) → All Fine (places (along w i))
+  along-fine i h = (
+    f .0,
+    (
+      record { near = f .1 .0 .near; inside = omega (arith, f .1 .0 .inside); narrow = f .1 .0 .narrow },
+      (record { near = f .1 .1 .0 .near; inside = omega (arith, f .1 .1 .0 .inside); narrow = f .1 .1 .0 .narrow }, tt),
+    ),
+  )
+
+  along-more : (i : ℕ) → i < min (w .b .w - w .b .k) (w .c .k) → left (Tuple (along w i)) ≡ seen (along w i) ∷ left (Tuple (along w (suc i)))
+  along-more i h =
+      let e : w .b .k + i + 1 ≡ w .b .k + suc i = omega arith in
+      let g : w .c .k - i - 1 ≡ w .c .k - suc i = omega arith in
+      move-second (along w i) (along-fine i (omega arith)) (more-room (w .b .w) (w .b .k) (w .c .k) i h) .1
+      ∙ ap₂ (λ j k. seen (along w i) ∷ left (Tuple (record { a = w .a; b = moved (w .b) j; c = moved (w .c) k }))) e g
+
+  -- r comes after the last
+  run-left : (i n : ℕ) (r : At) → i + n ≡ min (w .b .w - w .b .k) (w .c .k) → left (Tuple (along w (i + n))) ≡ seen (along w (i + n)) ∷ left r
+      → left (Tuple (along w i)) ≡ map seen (run w i (suc n)) ++ left r
+  unfolding run
+  run-left i zero r e l = let z : i + 0 ≡ i = omega arith in rw z at l
+  run-left i (suc n) r e l =
+      let z : i + suc n ≡ suc i + n = omega arith in
+      along-more i (omega arith) ∙ ap (λ t. seen (along w i) ∷ t) (run-left (suc i) n r (omega arith) (rw z at l))
+
+  pub row-left : (r : At) → left (Tuple (along w (min (w .b .w - w .b .k) (w .c .k)))) ≡ seen (along w (min (w .b .w - w .b .k) (w .c .k))) ∷ left r → left (Tuple w) ≡ map seen (rowOf w) ++ left r
+  row-left r l =
+      let m = min (w .b .w - w .b .k) (w .c .k) in
+      let z : 0 + m ≡ m = omega arith in
+      ap (λ v. left (Tuple v)) (sym (along-none w)) ∙ run-left 0 m r z (rw (← z) at l)
+
+-- a walk from there is one from here
+pub over-along : (w : Walk) (i : ℕ) (r : At) → Over (places (along w i)) r → Over (places w) r
+unfolding Over
+over-along w i (Tuple v) o = o
+over-along w i End o = tt
+
+-- ---- literals
+one-left : (b c i : ℕ) → suc i ≤ min b c → 1 ≤ c - i
+one-left b c i h = omega (arith, h)
+
+-- two or three of them
+parts : (l : List ℤ) (n : ℕ) → length l ≡ n → 2 ≤ n → n ≤ 3 → l ≡ frontOf (n - 2) (getD l 0 (pos 0)) ++ (getD l (n - 2) (pos 0) ∷ getD l (n - 1) (pos 0) ∷ [])
+parts [] n e h k = absurd (omega arith)
+parts (x ∷ []) n e h k = absurd (omega arith)
+parts (x ∷ y ∷ []) n e h k = let q : n ≡ 2 = omega arith in rw q refl
+parts (x ∷ y ∷ z ∷ []) n e h k = let q : n ≡ 3 = omega arith in rw q refl
+parts (x ∷ y ∷ z ∷ v ∷ l) n e h k = absurd (omega arith)
+
+module _ (c : Comparison) (f : FairComparison c) (two : 2 ≤ c .n) where
+  module _ (w : Walk) (o : Walking c (Tuple w)) where
+    in-b : c .n - 2 + 3 - c .n ≡ 1
+    in-b = omega (arith, two)
+
+    in-c : c .n - 1 + 3 - c .n ≡ 2
+    in-c = omega (arith, two)
+
+    pub offset-b : offsetAt c w (c .n - 2) ≡ w .b .k
+    offset-b = ap (λ j. getD (places w) j no-place .k) in-b
+
+    pub offset-c : offsetAt c w (c .n - 1) ≡ w .c .k
+    offset-c = ap (λ j. getD (places w) j no-place .k) in-c
+
+    at-term : (i : ℕ) → i < c .n → getD (present c w) i (pos 0) ≡ slotLiteral (slotAt c i) (bound (slotAt c i) (offsetAt c w i))
+    at-term i h = literal-read c f w o i h ∙ ap (λ z. slotLiteral (slotAt c i) (z +ℤ pos (offsetAt c w i))) (low-is c f w o i h)
+
+    pub top-term : (i : ℕ) → i < c .n → bound (slotAt c i) (offsetAt c w i) ≤ℤ slotBounds (slotAt c i) .hi
+    top-term i h = bound-inside c f w o i h (bound (slotAt c i) (offsetAt c w i)) (ap (λ z. z +ℤ pos (offsetAt c w i)) (sym (low-is c f w o i h))) .1
+
+    abbrev pub fixed : List ℤ
+    fixed = frontOf (c .n - 2) (getD (present c w) 0 (pos 0))
+
+    -- the present tuple's literals
+    present-is : (y z : Spot) → Holds (slotAt c (c .n - 2)) (w .b .k) y → Holds (slotAt c (c .n - 1)) (w .c .k) z → present c w ≡ fixed ++ (y .literal ∷ z .literal ∷ [])
+    present-is y z hy hz =
+        let ey : getD (present c w) (c .n - 2) (pos 0) ≡ y .literal = at-term (c .n - 2) (omega (arith, two)) ∙ ap (λ k. slotLiteral (slotAt c (c .n - 2)) (bound (slotAt c (c .n - 2)) k)) offset-b ∙ sym (hy .literal) in
+        let ez : getD (present c w) (c .n - 1) (pos 0) ≡ z .literal = at-term (c .n - 1) (omega (arith, two)) ∙ ap (λ k. slotLiteral (slotAt c (c .n - 1)) (bound (slotAt c (c .n - 1)) k)) offset-c ∙ sym (hz .literal) in
+        parts (present c w) (c .n) (present-length c w f) two (f .few) ∙ ap₂ (λ p q. fixed ++ (p ∷ q ∷ [])) ey ez
+
+    pub top-b : bound (slotAt c (c .n - 2)) (w .b .k) ≤ℤ slotBounds (slotAt c (c .n - 2)) .hi
+    top-b = subst (λ k. bound (slotAt c (c .n - 2)) k ≤ℤ slotBounds (slotAt c (c .n - 2)) .hi) offset-b (top-term (c .n - 2) (omega (arith, two)))
+
+    pub top-c : bound (slotAt c (c .n - 1)) (w .c .k) ≤ℤ slotBounds (slotAt c (c .n - 1)) .hi
+    top-c = subst (λ k. bound (slotAt c (c .n - 1)) k ≤ℤ slotBounds (slotAt c (c .n - 1)) .hi) offset-c (top-term (c .n - 1) (omega (arith, two)))
+
+    pub walking-along : (i : ℕ) → i ≤ min (w .b .w - w .b .k) (w .c .k) → Walking c (Tuple (along w i))
+    unfolding Walking Over
+    walking-along i h = (along-fine w (o .0) i h, o .1)
+
+  -- the first of three terms stays
+  fixed-along : (w : Walk) (o : Walking c (Tuple w)) (i : ℕ) (h : i ≤ min (w .b .w - w .b .k) (w .c .k)) → fixed (along w i) (walking-along w o i h) ≡ fixed w o
+  fixed-along w o i h = elim (decLe 3 (c .n)) [
+    | yes k ↦
+        let q : 0 + 3 - c .n ≡ 0 = omega (arith, f .few) in
+        let at : (v : Walk) → Walking c (Tuple v) → getD (present c v) 0 (pos 0) ≡ slotLiteral (slotAt c 0) (v .a .lo +ℤ pos (v .a .k)) =
+        λ v p. literal-read c f v p 0 (omega (arith, two)) ∙ ap (λ j. slotLiteral (slotAt c 0) (getD (places v) j no-place .lo +ℤ pos (getD (places v) j no-place .k))) q in
+        ap (frontOf (c .n - 2)) (at (along w i) (walking-along w o i h) ∙ sym (at w o))
+    | no k ↦ let q : c .n - 2 ≡ 0 = omega arith in rw q refl
+  ]
+
+  first-is : (w : Walk) (o : Walking c (Tuple w)) (i : ℕ) (y z : Spot) → i ≤ min (w .b .w - w .b .k) (w .c .k)
+      → Holds (slotAt c (c .n - 2)) (w .b .k + i) y → Holds (slotAt c (c .n - 1)) (w .c .k - i) z
+      → present c (along w i) ≡ fixed w o ++ (y .literal ∷ z .literal ∷ [])
+  first-is w o i y z h hy hz =
+      present-is (along w i) (walking-along w o i h) y z hy hz ∙ ap (λ l. l ++ (y .literal ∷ z .literal ∷ [])) (fixed-along w o i h)
+
+  run-literals : (w : Walk) (o : Walking c (Tuple w)) (i n : ℕ) (y z : Spot) → i + n ≤ min (w .b .w - w .b .k) (w .c .k)
+      → Holds (slotAt c (c .n - 2)) (w .b .k + i) y → Holds (slotAt c (c .n - 1)) (w .c .k - i) z
+      → map (present c) (run w i (suc n)) ≡ rowFrom (fixed w o) y z (suc n)
+  unfolding run rowFrom
+  run-literals w o i zero y z h hy hz = ap (λ l. l ∷ []) (first-is w o i y z (omega (arith, h)) hy hz)
+  run-literals w o i (suc n) y z h hy hz =
+      let here : i ≤ min (w .b .w - w .b .k) (w .c .k) = omega (arith, h) in
+      let next : suc i ≤ min (w .b .w - w .b .k) (w .c .k) = omega (arith, h) in
+      let eb : w .b .k + i + 1 ≡ w .b .k + suc i = omega arith in
+      let ec : w .c .k - i - 1 ≡ w .c .k - suc i = omega arith in
+      let sy = slot-fair c f (c .n - 2) (omega (arith, two)) in
+      let sz = slot-fair c f (c .n - 1) (omega (arith, two)) in
+      let top = subst (λ k. bound (slotAt c (c .n - 2)) k ≤ℤ slotBounds (slotAt c (c .n - 2)) .hi) (sym eb) (top-b (along w (suc i)) (walking-along w o (suc i) next)) in
+      let hy′ = subst (λ k. Holds (slotAt c (c .n - 2)) k (raised y)) eb (holds-up (slotAt c (c .n - 2)) sy (w .b .k + i) y hy top) in
+      let hz′ = subst (λ k. Holds (slotAt c (c .n - 1)) k (lowered z)) ec (holds-down (slotAt c (c .n - 1)) sz (w .c .k - i) z hz (one-left (w .b .w - w .b .k) (w .c .k) i next) (top-c (along w i) (walking-along w o i here))) in
+      ap₂ _∷_ (first-is w o i y z here hy hz) (run-literals w o (suc i) n (raised y) (lowered z) (omega (arith, h)) hy′ hz′)
+
+  -- the row of the present tuple, from what is said of its last two terms
+  pub row-literals : (w : Walk) → Walking c (Tuple w) → (y z : Spot) → Holds (slotAt c (c .n - 2)) (offsetAt c w (c .n - 2)) y → Holds (slotAt c (c .n - 1)) (offsetAt c w (c .n - 1)) z
+      → map (present c) (rowOf w) ≡ rowFrom (frontOf (c .n - 2) (getD (present c w) 0 (pos 0))) y z (rowLength w)
+  row-literals w o y z hy hz =
+      let m = min (w .b .w - w .b .k) (w .c .k) in
+      let eb : w .b .k + 0 ≡ w .b .k = omega arith in
+      let ec : w .c .k - 0 ≡ w .c .k = omega arith in
+      run-literals w o 0 m y z (omega arith)
+      (subst (λ k. Holds (slotAt c (c .n - 2)) k y) (offset-b w o ∙ sym eb) hy)
+      (subst (λ k. Holds (slotAt c (c .n - 1)) k z) (offset-c w o ∙ sym ec) hz)
+
+-- with fewer than two terms a row has one tuple
+pub row-single : (c : Comparison) → FairComparison c → (w : Walk) → Walking c (Tuple w) → c .n < 2 → map (present c) (rowOf w) ≡ present c w ∷ []
+unfolding run Walking Over
+row-single c f w o h =
+    let none : w .b .w ≡ 0 =
+    ap (λ l. getD l 1 (blank no-place) .w) (o .1 ∙ map-map blank placed (paddedRanges c))
+    ∙ ap (λ q. q .w) (map-read placed no-term (blank no-place) (paddedRanges c) 1 (omega (arith, padded-length c f)))
+    ∙ ap (λ r. placed r .w) (range-none c 1 (omega arith)) in
+    let m : min (w .b .w - w .b .k) (w .c .k) ≡ 0 = omega (arith, none) in
+    ap (λ n. map (present c) (run w 0 (suc n))) m ∙ ap (λ v. present c v ∷ []) (along-none w)
+
+-- from what `after_row` ensures
+pub rowed : (c : Comparison) (w : Walk) (r : At) → Walking c (Tuple w) → Over (places w) r × (left (Tuple w) ≡ map seen (rowOf w) ++ left r)
+    → Walking c r × (toCome c (Tuple w) ≡ map (present c) (rowOf w) ++ toCome c r)
+unfolding Walking Over toCome present
+rowed c w r o n = (onward r (n .0), ap (map (literalsAt c)) (n .1) ∙ map-append (literalsAt c) (map seen (rowOf w)) (left r) ∙ ap (λ l. l ++ map (literalsAt c) (left r)) (map-map (literalsAt c) seen (rowOf w)))
+  where
+    onward : (r : At) → Over (places w) r → Walking c r
+    onward (Tuple v) k = (k .0, k .1 ∙ o .1)
+    onward End k = tt
+
+pub row-some : (c : Comparison) (w : Walk) → 0 < length (map (present c) (rowOf w))
+unfolding run
+row-some c w = omega arith
+
+-- ---- what the code computes with
+pub holds-steady : (s : Slot) → FairSlot s → (k : ℕ) (p : Spot) → Holds s k p → Steady p
+holds-steady s f k p h = record { short = h .rest .short; few = omega (arith, h .size, f .few) }
+
+pub raised-steady : (p : Spot) → Steady p → Steady (raised p) × (natAbs (raised p .literal) ≤ natAbs (p .literal) + 1)
+raised-steady p h = elim (decLe 1 (p .r)) [
+  | yes l ↦ rw (raise-on p l) (record { short = omega (arith, h .short); few = h .few }, omega arith)
+  | no l ↦ rw (raise-at p (omega arith)) (record { short = omega (arith, h .short); few = h .few }, omega (arith, abs-add (p .literal) (pos 1)))
+]
+
+pub lowered-steady : (p : Spot) → Steady p → Steady (lowered p) × (natAbs (lowered p .literal) ≤ natAbs (p .literal) + 1)
+lowered-steady p h = elim (decLe (p .r + 2) (p .d)) [
+  | yes l ↦ rw (lower-on p (omega arith)) (record { short = omega arith; few = h .few }, omega arith)
+  | no l ↦ rw (lower-at p (omega arith)) (record { short = omega (arith, h .short); few = h .few }, omega (arith, abs-sub (p .literal) (pos 1)))
+]
+
+literal-near : (s : Slot) → FairSlot s → (b : ℤ) → slotBounds s .lo ≤ℤ b → b ≤ℤ slotBounds s .hi → natAbs (slotLiteral s b) ≤ 20000000
+literal-near s f b low high = ⊎-elim (λ g.
+    let h : s .coefficient <ℤ pos 0 = omega (whole, g, f .some, abs-law (s .coefficient), part-law (s .coefficient)) in
+    let i = ceil-inside s b f low high (ceil b (s .coefficient)) refl h in
+    let c = ceil b (s .coefficient) -ℤ pos 1 in
+    omega (arith, ap natAbs (literal-falling s b h), abs-neg (pos (orderNumber s c)), number-small s c f (i .0) (i .1))) (λ h.
+    let i = floor-inside s b f low high (floor b (s .coefficient)) refl h in
+    omega (arith, ap natAbs (literal-rising s b h), number-small s (floor b (s .coefficient)) f (i .0) (i .1))) (le-or-lt (s .coefficient) (pos 0))
+
+pub spot-near : (c : Comparison) (f : FairComparison c) → 2 ≤ c .n → (w : Walk) → Walking c (Tuple w) → (i : ℕ) → i < c .n → (p : Spot) → Holds (slotAt c i) (offsetAt c w i) p → natAbs (p .literal) ≤ 20000000
+spot-near c f two w o i h p e =
+    let s = slotAt c i in
+    omega (arith, ap natAbs (e .literal), literal-near s (slot-fair c f i h) (bound s (offsetAt c w i)) (omega (whole, add-law (slotBounds s .lo) (pos (offsetAt c w i)))) (top-term c f two w o i h))

@@ -1,0 +1,33 @@
+-- `walk::rows::up` meets its contract.
+use mathlib.Core.Path.{sym}
+use native.Mathlib.Omega.{arith}
+use lib.IntN.{pos, _+ℤ_}
+use mir.Syntax.{w32}
+use mir.Val.{SFits}
+use mir.Facts.{toZ-ofZ}
+use Rattle.laws.specs.Whole.{abs-fits, abs-add}
+use Rattle.walk.proofs.Steps.{raise-at, raise-on}
+use borrow.Author.Needs.{needs}
+use Rattle.walk.proofs.rows.up.Statement.{statement}
+use Rattle.walk.proofs.rows.up.Tie as tie
+
+sub-t5 : tie.Need-sub-t5
+sub-t5 c = search needs
+
+add-t6 : tie.Need-add-t6
+add-t6 c =
+    let f : SFits w32 (c .before .before .before .args .p .literal) = abs-fits (omega (arith, c .before .before .before .pre .1)) in simp toZ-ofZ (abs-fits (omega (arith, abs-add (c .before .before .before .args .p .literal) (pos 1), c .before .before .before .pre .1)))
+
+returns : tie.Need-returns
+returns c =
+    let f : SFits w32 (c .before .before .before .args .p .literal) = abs-fits (omega (arith, c .before .before .before .pre .1)) in let g : SFits w32 (c .before .before .before .args .p .literal +ℤ pos 1) = abs-fits (omega (arith, abs-add (c .before .before .before .args .p .literal) (pos 1), c .before .before .before .pre .1)) in simp toZ-ofZ (sym (raise-at (c .before .before .before .args .p) (c .before .before .if1 .taken)))
+
+sub-t7 : tie.Need-sub-t7
+sub-t7 c = omega (arith, c .if1 .left)
+
+returns-2 : tie.Need-returns-2
+returns-2 c =
+    let f : SFits w32 (c .before .before .args .p .literal) = abs-fits (omega (arith, c .before .before .pre .1)) in simp toZ-ofZ (sym (raise-on (c .before .before .args .p) (omega (arith, c .before .if1 .left))))
+
+pub up-spec : {M : Type 1} → statement M
+up-spec = tie.close (tie.spec sub-t5 add-t6 returns sub-t7 returns-2)
