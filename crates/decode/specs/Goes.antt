@@ -1,8 +1,8 @@
 -- A search for the first test that fails (refusal 13), part by part. Assumes nothing.
 use mathlib.Core.Path.{_≡_, refl, sym, ap, _∙_}
 use mathlib.Core.Bool.{Bool, true, false}
-use mathlib.Core.List.{List, [], _∷_, _++_, map-id}
-use Prim.Native.Nat.{ℕ, _+_}
+use mathlib.Core.List.{List, [], _∷_, _++_, map, map-id}
+use Prim.Native.Nat.{ℕ, suc, _+_}
 use native.Mathlib.Numerals.{add-one}
 use native.Mathlib.Omega.{arith}
 use lib.ListN.{length, length-append}
@@ -14,6 +14,11 @@ use Rattle.decode.specs.declared.Checked.{Checked}
 abbrev pub Sought : ℕ → List Bool → Checked → Type 0
 Sought i ts (Checked.Fails n) = refused 13 n ≡ each 13 i ts
 Sought i ts (Checked.Hold n) = (done tt ≡ each 13 i ts) × (n ≡ i + length ts)
+
+-- where all of them hold
+pub sought-all : {A : Type 0} (test : A → Bool) → ((a : A) → test a ≡ true) → (i : ℕ) (l : List A) → Sought i (map test l) (Checked.Hold (i + length l))
+sought-all test h i [] = (refl, refl)
+sought-all test h i (a ∷ l) = let k = sought-all test h (suc i) l in rw (h a) (k .0, omega (arith, k .1))
 
 -- of the tests `all`, counted from i, those before number n hold, and `rest` are left
 pub record Goes (i : ℕ) (all : List Bool) (n : ℕ) (rest : List Bool) : Type 0 where

@@ -1,6 +1,7 @@
 pub mod Truth
 pub mod Given
 pub mod Goes
+pub mod Rows
 pub mod Axioms
 pub mod Values
 pub mod Lines

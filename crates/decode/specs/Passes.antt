@@ -1,14 +1,17 @@
 -- The search over the rules, piece by piece and in each piece tuple by tuple. Assumes nothing.
-use mathlib.Core.Path.{_≡_, refl, ap, _∙_}
+use mathlib.Core.Path.{_≡_, refl, sym, ap, _∙_}
 use mathlib.Core.Bool.{Bool, true, false}
-use mathlib.Core.List.{List, [], _∷_, _++_, map, flatten, map-append}
-use Prim.Native.Nat.{ℕ, _+_, _^_, _<_}
+use mathlib.Core.List.{List, [], _∷_, _++_, map, flatten, map-append, append-assoc}
+use Prim.Native.Nat.{ℕ, _+_, _^_, _≤_, _<_}
+use native.Mathlib.Nat.{add-zero}
 use native.Mathlib.Omega.{arith}
-use lib.ListN.{length, length-map, drop}
+use lib.ListN.{length, length-map, length-append, drop}
+use lib.IntN.{ℤ}
 use Rattle.definitions.specs.Tools.{All}
 use Rattle.definitions.specs.Board.{Board, boundsOf}
 use Rattle.definitions.specs.Result.{done, refused, each}
 use Rattle.definitions.specs.Encoding.{N, axioms, rules, clauses}
+use Rattle.laws.specs.Lists.{append-all}
 use Rattle.laws.specs.Admitted.{Admitted}
 use Rattle.laws.specs.Sizes.{M-is}
 use Rattle.laws.specs.Fits.{M-fits}
@@ -23,12 +26,14 @@ use Rattle.rules.specs.Cursors.{atStart, comingAt, Sound}
 use Rattle.walk.specs.declared.Comparison.{Comparison}
 use Rattle.walk.specs.declared.Walk.{Walk}
 use Rattle.walk.specs.declared.At.{At}
-use Rattle.walk.specs.Comparisons.{Walking, toCome, present, literalsOf, none-left, stepped}
+use Rattle.walk.specs.Comparisons.{Walking, toCome, present, literalsOf, none-left}
 use Rattle.walk.specs.Walks.{places, left, seen, Over}
+use Rattle.walk.specs.Rows.{rowOf, rowed, row-some}
 use Rattle.opening.specs.Headers.{Opened, clauses-is, admitted}
-use Rattle.decode.specs.Truth.{trueClause, tests}
-use Rattle.decode.specs.Goes.{Goes, goes-start, goes-one, goes-stop, goes-end}
-use Rattle.decode.specs.Tails.{clauseTest, leadOf, Tails, tails-tests, tails-numbered}
+use Rattle.decode.specs.declared.Checked.{Checked}
+use Rattle.decode.specs.Truth.{trueTail, trueClause, tests}
+use Rattle.decode.specs.Goes.{Sought, sought-all, Goes, goes-start, goes-end, goes-part, goes-fails}
+use Rattle.decode.specs.Tails.{clauseTest, leadOf, passedBy, walkedBy, passed-most, Tails, tails-tests, tails-numbered}
 
 -- the pieces at the cursor, the tests of their clauses, and the tests of all the rules' clauses
 abbrev pub ahead : Board → List ℕ → Cursor → List Piece
@@ -47,9 +52,9 @@ module _ (B : Board) (model t : List ℕ) where
     pub sound : All (Mentions.Sound B) (ahead B t c)
     pub readable : Sound (contextOf B) t c
 
-  -- in a piece, the tuples at `at` are left, and then the pieces at the cursor
-  pub record Walks (i n : ℕ) (lead : Bool) (q : Comparison) (at : At) (c : Cursor) : Type 0 where
-    pub goes : Goes i (ruleTests B model) n (map (clauseTest model lead) (toCome q at) ++ testsAt B model t c)
+  -- in a piece whose lead does not hold, the tuples at `at` are left, and then the pieces at the cursor
+  pub record Walks (i n : ℕ) (q : Comparison) (at : At) (c : Cursor) : Type 0 where
+    pub goes : Goes i (ruleTests B model) n (map (trueTail model) (toCome q at) ++ testsAt B model t c)
     pub walking : Walking q at
     pub numbered : All (All (Mentions.InList (length model))) (toCome q at)
 
@@ -63,20 +68,36 @@ module _ {B : Board} {model t : List ℕ} {i n : ℕ} {c : Cursor} (h : Passing 
     pub sound-next : Mentions.Sound B p × All (Mentions.Sound B) (ahead B t c′)
     sound-next = let s = rw e at (h .sound) in (s .0, s .1)
 
-    pub walks-start : (lead : Bool) (q : Comparison) (at : At) → length model ≡ N B
-        → lead ≡ trueClause B model (leadOf p) → Tails B p q → Walking q at × (toCome q at ≡ literalsOf q) → Walks B model t i n lead q at c′
+    -- its clauses, and then those of the pieces behind it
+    begins-with : (lead : Bool) (q : Comparison) → lead ≡ trueClause B model (leadOf p) → Tails B p q
+        → testsAt B model t c ≡ map (clauseTest model lead) (literalsOf q) ++ testsAt B model t c′
     unfolding flatten
-    walks-start lead q at l f d w =
-        let own : tests B model (pieceClauses (boundsOf B) p) ≡ map (clauseTest model lead) (toCome q at) = rw (f, w .1) (tails-tests B model p q d (sound-next .0)) in
-        let split : tests B model (clausesIn (boundsOf B) (p ∷ ahead B t c′)) ≡ map (clauseTest model lead) (toCome q at) ++ testsAt B model t c′ =
-        map-append (trueClause B model) (pieceClauses (boundsOf B) p) (clausesIn (boundsOf B) (ahead B t c′)) ∙ ap (λ z. z ++ testsAt B model t c′) own
-        in record {
-          goes = rw (e, split) at (h .goes);
-          walking = w .0;
-          numbered = rw (w .1) (tails-numbered B model p q d (sound-next .0) l);
-        }
+    begins-with lead q f d =
+        ap (λ ps. tests B model (clausesIn (boundsOf B) ps)) e
+        ∙ map-append (trueClause B model) (pieceClauses (boundsOf B) p) (clausesIn (boundsOf B) (ahead B t c′))
+        ∙ ap (λ z. z ++ testsAt B model t c′) (tails-tests B model p q d (sound-next .0) ∙ ap (λ b. map (clauseTest model b) (literalsOf q)) (sym f))
 
-module _ {B : Board} {model t : List ℕ} {i n : ℕ} {lead : Bool} {q : Comparison} {at : At} {c : Cursor} (h : Walks B model t i n lead q at c) where
+    pub passed-room : (lead : Bool) (q : Comparison) → lead ≡ trueClause B model (leadOf p) → Tails B p q → n + passedBy lead q ≤ i + length (ruleTests B model)
+    passed-room lead q f d =
+        let own = map (clauseTest model lead) (literalsOf q) in
+        let most : passedBy lead q ≤ length (literalsOf q) = passed-most lead q in
+        omega (arith, most, h .goes .count, ap length (begins-with lead q f d), length-append own (testsAt B model t c′), length-map (literalsOf q) (clauseTest model lead))
+
+    -- where its lead holds, none of its clauses is walked
+    pub walks-start : (lead : Bool) (q : Comparison) (m : ℕ) (at : At) → length model ≡ N B → lead ≡ trueClause B model (leadOf p) → Tails B p q
+        → m ≡ passedBy lead q → Walking q at × (toCome q at ≡ walkedBy lead q) → Walks B model t i (n + m) q at c′
+    walks-start true q m at l f d k w = record {
+      goes = rw (k, w .1) (goes-part (h .goes) (map (clauseTest model true) (literalsOf q)) (testsAt B model t c′) (begins-with true q f d) (Checked.Hold (n + length (literalsOf q))) (sought-all (clauseTest model true) (λ z. refl) n (literalsOf q)) refl);
+      walking = w .0;
+      numbered = rw (w .1) tt;
+    }
+    walks-start false q m at l f d k w = record {
+      goes = rw (k, add-zero n, w .1) (rw (begins-with false q f d) at (h .goes));
+      walking = w .0;
+      numbered = rw (w .1) (tails-numbered B model p q d (sound-next .0) l);
+    }
+
+module _ {B : Board} {model t : List ℕ} {i n : ℕ} {q : Comparison} {at : At} {c : Cursor} (h : Walks B model t i n q at c) where
   pub walks-end : at ≡ At.End → All (Mentions.Sound B) (ahead B t c) → Sound (contextOf B) t c → Passing B model t i n c
   walks-end e a s = record { goes = rw (e, none-left q) at (h .goes); sound = a; readable = s }
 
@@ -84,33 +105,41 @@ module _ {B : Board} {model t : List ℕ} {i n : ℕ} {lead : Bool} {q : Compari
     pub walks-at : Walking q (At.Tuple w)
     walks-at = rw e at (h .walking)
 
-    module _ (r : At) (o : Over (places w) r × (left (At.Tuple w) ≡ seen w ∷ left r)) where
-      onward : Walking q r × (toCome q (At.Tuple w) ≡ present q w ∷ toCome q r)
-      onward = stepped q w r walks-at o
+    -- the literals of the present tuple's row
+    abbrev row : List (List ℤ)
+    row = map (present q) (rowOf w)
 
-      pub walks-next : clauseTest model lead (present q w) ≡ true → Walks B model t i (n + 1) lead q r c
-      walks-next k = record {
-        goes = goes-one (h .goes) (clauseTest model lead (present q w)) _ (rw (e, onward .1)) k;
-        walking = onward .0;
-        numbered = (rw (e, onward .1) at (h .numbered)) .1;
-      }
+    module _ (r : At) (o : Over (places w) r × (left (At.Tuple w) ≡ map seen (rowOf w) ++ left r)) where
+      onward : Walking q r × (toCome q at ≡ row ++ toCome q r)
+      onward = rw e (rowed q w r walks-at o)
+
+      split : map (trueTail model) (toCome q at) ++ testsAt B model t c ≡ map (trueTail model) row ++ (map (trueTail model) (toCome q r) ++ testsAt B model t c)
+      split =
+          ap (λ l. map (trueTail model) l ++ testsAt B model t c) (onward .1)
+          ∙ ap (λ l. l ++ testsAt B model t c) (map-append (trueTail model) row (toCome q r))
+          ∙ append-assoc (map (trueTail model) row) (map (trueTail model) (toCome q r)) (testsAt B model t c)
+
+      numbered-both : All (All (Mentions.InList (length model))) row × All (All (Mentions.InList (length model))) (toCome q r)
+      numbered-both = append-all (All (Mentions.InList (length model))) row (toCome q r) (rw (onward .1) at (h .numbered))
+
+      pub walks-numbered : All (All (Mentions.InList (length model))) row
+      walks-numbered = numbered-both .0
 
       pub walks-less : length (toCome q r) < length (toCome q at)
-      walks-less = rw (e, onward .1) (omega arith)
+      walks-less = omega (arith, ap length (onward .1), length-append row (toCome q r), row-some q w)
 
-    -- of the present tuple
-    pub walks-numbered : All (Mentions.InList (length model)) (present q w)
-    unfolding toCome left present
-    walks-numbered = (rw e at (h .numbered)) .0
+      -- its last number is one of the rules' clauses
+      pub walks-room : n + length (rowOf w) ≤ i + length (ruleTests B model)
+      walks-room =
+          omega (arith, h .goes .count, ap length split, length-append (map (trueTail model) row) (map (trueTail model) (toCome q r) ++ testsAt B model t c), length-map row (trueTail model), length-map (rowOf w) (present q))
 
-    pub walks-stop : clauseTest model lead (present q w) ≡ false → refused 13 n ≡ each 13 i (ruleTests B model)
-    unfolding toCome left present
-    walks-stop k = goes-stop (rw e at (h .goes)) _ _ refl k
+      -- what was found in the row
+      module _ {a : Checked} (s : Sought n (map (trueTail model) row) a) where
+        pub walks-next : {k : ℕ} → a ≡ Checked.Hold k → Walks B model t i k q r c
+        walks-next f = record { goes = goes-part (h .goes) _ _ split a s f; walking = onward .0; numbered = numbered-both .1 }
 
-    -- its number is one of the rules' clauses
-    pub walks-room : n < i + length (ruleTests B model)
-    unfolding toCome left present
-    walks-room = let g = rw e at (h .goes) in omega (arith, g .count)
+        pub walks-stop : {k : ℕ} → a ≡ Checked.Fails k → refused 13 k ≡ each 13 i (ruleTests B model)
+        walks-stop f = goes-fails (h .goes) _ _ split a s f
 
 -- where the pass begins
 module _ {s : List ℕ} {h : Header} (o : Opened s h) (model : List ℕ) where

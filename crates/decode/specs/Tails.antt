@@ -1,52 +1,66 @@
 -- The clauses of a piece of the rules: its lead, and the literals of a tuple behind it. Assumes nothing.
 use mathlib.Core.Path.{_≡_, refl, sym, ap, _∙_}
-use mathlib.Core.Bool.{Bool, not, _||_, or-false}
+use mathlib.Core.Bool.{Bool, true, false, not, _||_, or-false}
 use mathlib.Core.List.{List, [], _∷_, _++_, map, zipWith, append-nil, map-map}
 use Prim.Native.Nat.{ℕ, _≤_}
 use native.Mathlib.Omega.{arith}
 use lib.ListN.{length}
-use lib.IntN.{ℤ, negsuc}
+use lib.IntN.{ℤ, pos, negsuc}
 use lib.Signed.{_≤ℤ_, _<ℤ_}
-use Rattle.definitions.specs.Tools.{All, any}
+use Rattle.definitions.specs.Tools.{All, if_then_else_}
 use Rattle.definitions.specs.Board.{Board, boundsOf}
 use Rattle.definitions.specs.Board as board
 use Rattle.definitions.specs.Encoding.{SatClause, minus, selector, least, tuples, tuplesOf, sharp, clausesUnder, number, N, literalNumber}
 use Rattle.definitions.specs.Meaning.{on, satisfies, inModel}
-use Rattle.laws.specs.Whole.{le-test, gt-test}
+use Rattle.laws.specs.Whole.{whole, le-test, gt-test}
 use Rattle.laws.specs.Some.{any-append}
 use Rattle.laws.specs.Lists.{all-impl, all-map, map-all, append-all, map-same}
 use Rattle.laws.specs.Pieces.{Piece, line, under, pieceClauses}
 use Rattle.laws.specs.Layout.{number-range}
 use Rattle.laws.specs.Mentions.{atomOf, Mentions, InList, Sound, piece-mentions, literal-size}
 use Rattle.walk.specs.declared.Comparison.{Comparison}
-use Rattle.walk.specs.Comparisons.{FairComparison, literalsOf, shows-literals}
+use Rattle.walk.specs.Comparisons.{FairComparison, leastOf, overLeast, over-sign, literalsOf, shows-least, shows-literals}
 use Rattle.slots.specs.Ready.{ReadyFor}
-use Rattle.decode.specs.Truth.{selectorNumber, trueNumber, trueClause, Numbered, clause-true}
+use Rattle.decode.specs.Truth.{selectorNumber, trueTail, trueClause, Numbered, clause-true}
 
 -- one tuple, without literals
 pub record Single (c : Comparison) : Type 0 where
   pub fair : FairComparison c
+  pub reached : pos 0 ≤ℤ overLeast c
   pub one : literalsOf c ≡ [] ∷ []
 
 pub single-is : (c : Comparison) → c .n ≡ 0 → c .constant ≡ negsuc 0 → Single c
-unfolding literalsOf tuples zipWith
+unfolding literalsOf tuples zipWith overLeast leastOf
 single-is c e k = record {
   fair = record { few = omega arith; counted = rw e; slots = rw e tt; near = rw k (omega arith) };
+  reached = rw (e, k) (omega whole);
   one = rw (e, k) refl;
 }
 
 -- a clause holds where its lead does or some literal of its tuple
 abbrev pub clauseTest : List ℕ → Bool → List ℤ → Bool
-clauseTest model lead zs = lead || any (trueNumber model) zs
+clauseTest model lead zs = lead || trueTail model zs
 
 -- what leads each clause of a piece: a line is a lead with nothing behind it
 abbrev pub leadOf : Piece → SatClause
 leadOf (line c) = c
 leadOf (under lead q) = lead
 
+-- of a piece's clauses: how many its lead makes hold, and those that are left to walk
+abbrev pub passedBy : Bool → Comparison → ℕ
+passedBy lead q = if lead then length (literalsOf q) else 0
+
+pub passed-most : (lead : Bool) (q : Comparison) → passedBy lead q ≤ length (literalsOf q)
+passed-most true q = omega arith
+passed-most false q = omega arith
+
+abbrev pub walkedBy : Bool → Comparison → List (List ℤ)
+walkedBy lead q = if lead then [] else literalsOf q
+
 -- what stands behind the lead are the literals of the tuples of c
 pub record Tails (B : Board) (p : Piece) (c : Comparison) : Type 0 where
   pub fair : FairComparison c
+  pub reached : pos 0 ≤ℤ overLeast c
   pub tails : List SatClause
   pub clauses : pieceClauses (boundsOf B) p ≡ map (λ t. leadOf p ++ t) tails
   pub literals : literalsOf c ≡ map (map (literalNumber B)) tails
@@ -54,12 +68,12 @@ pub record Tails (B : Board) (p : Piece) (c : Comparison) : Type 0 where
 module _ (B : Board) where
   pub line-tails : (l : SatClause) (c : Comparison) → Single c → Tails B (line l) c
   unfolding pieceClauses
-  line-tails l c s = record { fair = s .fair; tails = [] ∷ []; clauses = ap (λ z. z ∷ []) (sym (append-nil l)); literals = s .one }
+  line-tails l c s = record { fair = s .fair; reached = s .reached; tails = [] ∷ []; clauses = ap (λ z. z ∷ []) (sym (append-nil l)); literals = s .one }
 
   module _ (lead : SatClause) (q : board.Comparison) (c : Comparison) where
     pub below-tails : q .constant <ℤ least (boundsOf B) (q .terms) → Single c → Tails B (under lead q) c
     unfolding pieceClauses clausesUnder
-    below-tails e s = record { fair = s .fair; tails = [] ∷ []; clauses = rw (gt-test _ _ e) (ap (λ z. z ∷ []) (sym (append-nil lead))); literals = s .one }
+    below-tails e s = record { fair = s .fair; reached = s .reached; tails = [] ∷ []; clauses = rw (gt-test _ _ e) (ap (λ z. z ∷ []) (sym (append-nil lead))); literals = s .one }
 
     pub above-tails : least (boundsOf B) (q .terms) ≤ℤ q .constant → ReadyFor B q c → Tails B (under lead q) c
     unfolding pieceClauses clausesUnder
@@ -67,6 +81,7 @@ module _ (B : Board) where
         let bss = tuplesOf (boundsOf B) q in
         let ts = zipWith sharp (q .terms) in record {
           fair = r .fair;
+          reached = over-sign c (rw (shows-least B q c (r .shows), r .shows .constant) e);
           tails = map ts bss;
           clauses = rw (le-test _ _ e) (sym (map-map (λ t. lead ++ t) ts bss));
           literals = shows-literals B q c (r .shows) ∙ sym (map-map (map (literalNumber B)) ts bss);

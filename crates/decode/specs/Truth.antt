@@ -31,6 +31,10 @@ module _ (model : List ℕ) where
   true-below (pos v) h = absurd (omega whole)
   true-below (negsuc v) h = refl
 
+-- whether some literal behind a lead holds
+abbrev pub trueTail : List ℕ → List ℤ → Bool
+trueTail model zs = any (trueNumber model) zs
+
 -- its number is from 1 on
 abbrev pub Numbered : Board → SatLiteral → Type 0
 Numbered B l = 1 ≤ number B (atomOf l)

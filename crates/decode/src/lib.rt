@@ -36,6 +36,7 @@ pub enum Ahead {
 pub mod axioms; // axioms.rt: the search over the axioms
 pub mod lines; // lines.rt: the clause of a record clause's Booleans and selectors
 pub mod pieces; // pieces.rt: the clauses of a piece of the rules
+pub mod rows; // rows.rt: a row of a comparison's clauses
 pub mod search; // search.rt: the search over the rules
 pub mod truth; // truth.rt: whether a literal holds in a model
 pub mod values; // values.rt: what is read back

@@ -4,27 +4,31 @@ use crate::truth::holds;
 use lent::is_on;
 use opening::Header;
 use rules::Piece;
+use size::count::tuples_of;
 use slots::comparisons::ready;
 use slots::variables::first_in;
 use walk::At;
 use walk::Comparison;
 use walk::Slot;
 use walk::Walk;
+use walk::tuples::first;
 use walk::tuples::least;
 use walk::tuples::literal_at;
 ghost use mathlib.Core.Path.{_≡_};
 ghost use Prim.Native.Nat.{_+_, _<_};
 ghost use lib.ListN.{length};
+ghost use lib.IntN.{pos};
+ghost use lib.Signed.{_≤ℤ_};
 ghost use Rattle.definitions.specs.Tools.{All};
 ghost use Rattle.laws.specs.Boards.{Opens, boardOf};
 ghost use Rattle.laws.specs.Reread.{comparisonAt, contextOf};
 ghost use Rattle.laws.specs.Mentions.{InList, Sound};
 ghost use Rattle.rules.specs.Cursors.{saidPiece, Held, Stands};
-ghost use Rattle.walk.specs.Comparisons.{FairComparison, Walking, present};
+ghost use Rattle.walk.specs.Comparisons.{FairComparison, Walking, overLeast, present, toCome};
 ghost use Rattle.slots.specs.Variables.{FirstsOf};
 ghost use Rattle.decode.specs.Given.{Given};
-ghost use Rattle.decode.specs.Truth.{trueClause};
-ghost use Rattle.decode.specs.Tails.{clauseTest, leadOf, Tails, Single, TailsOf};
+ghost use Rattle.decode.specs.Truth.{trueClause, trueTail};
+ghost use Rattle.decode.specs.Tails.{leadOf, passedBy, walkedBy, Tails, Single, TailsOf};
 
 // Whether the piece's lead holds: of a line, some literal; of a comparison, its negated selector.
 pub fn lead_holds(
@@ -116,14 +120,33 @@ pub fn tails_of(bytes: &[u8], firsts: &[u32], rules: &[u8], piece: Piece) -> Com
     }
 }
 
-// Whether the lead or some literal of the present tuple holds.
-pub fn clause_holds(model: &[u8], lead: bool, tails: Comparison, tuple: Walk) -> bool
-    requires { ⌜ FairComparison tails × Walking tails (At.Tuple tuple) × All (InList (length (now model))) (present tails tuple) × (length (now model) < 2147483648) ⌝ }
-    ensures { λ r. ⌜ r ≡ clauseTest (now (model .entry)) lead (present tails tuple) ⌝ }
+// Of a piece's clauses, those that its lead makes hold: all where the lead holds, else none.
+pub fn passed(lead: bool, tails: Comparison) -> usize
+    requires { ⌜ FairComparison tails × (pos 0 ≤ℤ overLeast tails) ⌝ }
+    ensures { λ r. ⌜ r ≡ passedBy lead tails ⌝ }
 {
     if lead {
-        return true;
+        return tuples_of(tails) as usize;
     }
+    0
+}
+
+// Where the walk over a piece's tuples begins: where the lead holds, there is nothing to walk.
+pub fn walked(lead: bool, tails: Comparison) -> At
+    requires { ⌜ FairComparison tails ⌝ }
+    ensures { λ r. ⌜ Walking tails r × (toCome tails r ≡ walkedBy lead tails) ⌝ }
+{
+    if lead {
+        return At::End;
+    }
+    first(tails)
+}
+
+// Whether some literal of the present tuple holds.
+pub fn tuple_holds(model: &[u8], tails: Comparison, tuple: Walk) -> bool
+    requires { ⌜ FairComparison tails × Walking tails (At.Tuple tuple) × All (InList (length (now model))) (present tails tuple) × (length (now model) < 2147483648) ⌝ }
+    ensures { λ r. ⌜ r ≡ trueTail (now (model .entry)) (present tails tuple) ⌝ }
+{
     let mut i: usize = 0;
     while i < tails.n {
         if holds(model, literal_at(tails, tuple, i)) {

@@ -2,9 +2,11 @@
 use crate::Ahead;
 use crate::Checked;
 use crate::axioms::search_axioms;
-use crate::pieces::clause_holds;
 use crate::pieces::lead_holds;
+use crate::pieces::passed;
 use crate::pieces::tails_of;
+use crate::pieces::walked;
+use crate::rows::search_row;
 use lent::Found;
 use opening::Header;
 use opening::context_of;
@@ -15,8 +17,7 @@ use rules::start;
 use rules::step;
 use slots::variables::put_firsts;
 use walk::At;
-use walk::tuples::first;
-use walk::tuples::next;
+use walk::rows::after_row;
 ghost use mathlib.Core.Path.{_≡_};
 ghost use Prim.Native.Nat.{_+_, _<_};
 ghost use lib.ListN.{length, drop};
@@ -54,7 +55,7 @@ fn next_piece(rules: &[u8], known: Context, cursor: Cursor) -> Ahead
     }
 }
 
-// The clauses of the rules, which are counted from `from` on: piece by piece, and in each piece tuple by tuple.
+// The clauses of the rules, which are counted from `from` on: piece by piece, and in each piece its tuples, row by row.
 fn search_rules(
     bytes: &[u8],
     firsts: &[u32],
@@ -75,16 +76,22 @@ fn search_rules(
         };
         let lead = lead_holds(bytes, firsts, rules, model, header, piece);
         let tails = tails_of(bytes, firsts, rules, piece);
-        let mut here = first(tails);
+        number += passed(lead, tails);
+        let mut here = walked(lead, tails);
         loop {
             let At::Tuple(tuple) = here else {
                 break;
             };
-            if !clause_holds(model, lead, tails, tuple) {
-                break 'search Found::At(number);
+            let onward = after_row(tuple);
+            match search_row(model, tails, tuple, number) {
+                Checked::Fails(failing) => {
+                    break 'search Found::At(failing);
+                }
+                Checked::Hold(after) => {
+                    number = after;
+                }
             }
-            number += 1;
-            here = next(tuple);
+            here = onward;
         }
         cursor = behind;
     };

@@ -7,7 +7,7 @@ use lib.ListN.{length, getD}
 use lib.IntN.{pos, natAbs, _-ℤ_}
 use lib.Signed.{_≤ℤ_}
 use Rattle.definitions.specs.Tools.{size}
-use Rattle.laws.specs.Whole.{whole, add-law, sub-law, abs-add, abs-sub, part-law}
+use Rattle.laws.specs.Whole.{whole, abs-add, abs-sub, part-law}
 use Rattle.laws.specs.Lists.{all-at}
 use Rattle.laws.specs.Offsets.{offsets}
 use Rattle.laws.specs.Tuples.{no-term}
@@ -38,16 +38,9 @@ module _ (c : Comparison) (f : FairComparison c) where
   unfolding wide
   wide-is j w e = omega arith
 
-  module _ (h : leastOf c ≤ℤ c .constant) where
+  module _ (h : pos 0 ≤ℤ overLeast c) where
     least-near-zero : natAbs (leastOf c) ≤ 786438
     least-near-zero = omega (arith, ap natAbs (least-all c f), least-near c f (c .n) (omega arith), f .few)
-
-    pub over-sign : pos 0 ≤ℤ overLeast c
-    unfolding overLeast
-    over-sign =
-        let k = c .constant in
-        let l = leastOf c in
-        omega (whole, h, sub-law k l, add-law (k -ℤ l) (pos 1))
 
     pub over-near : natAbs (overLeast c) < 2 ^ 21 - 1
     unfolding overLeast
@@ -64,7 +57,7 @@ module _ (c : Comparison) (f : FairComparison c) where
     unfolding over wide
     tuples-are =
         let t = size (overLeast c) in
-        let e : pos t ≡ overLeast c = omega (whole, over-sign, part-law (overLeast c)) in
+        let e : pos t ≡ overLeast c = omega (whole, h, part-law (overLeast c)) in
         start-count c f t e
         ∙ ap (λ ps. length (offsets (map (λ p. p .w) ps) t)) (three-places c f _ _ _ refl refl refl)
         ∙ ways-three _ _ _ t

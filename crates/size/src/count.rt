@@ -5,10 +5,11 @@ use walk::tuples::place;
 ghost use mathlib.Core.Path.{_≡_};
 ghost use Prim.Native.Nat.{_-_, _<_, _^_};
 ghost use lib.ListN.{length};
+ghost use lib.IntN.{pos};
 ghost use lib.Signed.{_≤ℤ_};
 ghost use Rattle.laws.specs.Counting.{tri};
 ghost use Rattle.laws.specs.Counting as counting;
-ghost use Rattle.walk.specs.Comparisons.{FairComparison, leastOf, literalsOf};
+ghost use Rattle.walk.specs.Comparisons.{FairComparison, overLeast, literalsOf};
 ghost use Rattle.size.specs.Places.{Places};
 ghost use Rattle.size.specs.Places as places;
 
@@ -44,7 +45,7 @@ fn triples(u: u32, a: u32, b: u32, c: u32) -> u64
 
 // The sum of a tuple's offsets and 1 more.
 fn over(c: Comparison) -> u32
-    requires { ⌜ FairComparison c × (leastOf c ≤ℤ c .constant) ⌝ }
+    requires { ⌜ FairComparison c × (pos 0 ≤ℤ overLeast c) ⌝ }
     ensures { λ r. ⌜ (r ≡ places.over c) × (r < 2 ^ 21) ⌝ }
 {
     over_least(c) as u32 + 1
@@ -59,9 +60,9 @@ fn wide(c: Comparison, j: usize) -> u32
     p.w + 1
 }
 
-// A comparison's tuples, where the constant is not below the least sum.
+// A comparison's tuples, where the sum of their offsets is not below 0.
 pub fn tuples_of(c: Comparison) -> u64
-    requires { ⌜ FairComparison c × (leastOf c ≤ℤ c .constant) ⌝ }
+    requires { ⌜ FairComparison c × (pos 0 ≤ℤ overLeast c) ⌝ }
     ensures { λ r. ⌜ r ≡ length (literalsOf c) ⌝ }
 {
     triples(over(c), wide(c, 0), wide(c, 1), wide(c, 2))

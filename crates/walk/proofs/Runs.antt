@@ -20,7 +20,7 @@ use Rattle.walk.specs.declared.At.{At}
 use Rattle.walk.specs.declared.At.the-variants.{Tuple, End}
 use Rattle.walk.specs.Slots.{FairSlot, slotBounds, orderNumber, slotLiteral}
 use Rattle.walk.specs.Walks.{places, moved, blank, seen, left, Fine, Over}
-use Rattle.walk.specs.Comparisons.{slotsOf, FairComparison, Walking, paddedRanges, placed, present, present-length, literalsAt, toCome}
+use Rattle.walk.specs.Comparisons.{slotsOf, FairComparison, Walking, paddedRanges, placed, present, present-length, walking-fine}
 use Rattle.walk.specs.Rows.{along, run, rowLength, rowOf, slotAt, offsetAt, Holds, Steady, raised, lowered, rowFrom, frontOf}
 use Rattle.walk.proofs.Moves.{move-second}
 use Rattle.walk.proofs.Slots.{floor-inside, ceil-inside, number-small, literal-rising, literal-falling}
@@ -184,24 +184,7 @@ row-single c f w o h =
     let m : min (w .b .w - w .b .k) (w .c .k) ≡ 0 = omega (arith, none) in
     ap (λ n. map (present c) (run w 0 (suc n))) m ∙ ap (λ v. present c v ∷ []) (along-none w)
 
--- from what `after_row` ensures
-pub rowed : (c : Comparison) (w : Walk) (r : At) → Walking c (Tuple w) → Over (places w) r × (left (Tuple w) ≡ map seen (rowOf w) ++ left r)
-    → Walking c r × (toCome c (Tuple w) ≡ map (present c) (rowOf w) ++ toCome c r)
-unfolding Walking Over toCome present
-rowed c w r o n = (onward r (n .0), ap (map (literalsAt c)) (n .1) ∙ map-append (literalsAt c) (map seen (rowOf w)) (left r) ∙ ap (λ l. l ++ map (literalsAt c) (left r)) (map-map (literalsAt c) seen (rowOf w)))
-  where
-    onward : (r : At) → Over (places w) r → Walking c r
-    onward (Tuple v) k = (k .0, k .1 ∙ o .1)
-    onward End k = tt
-
-pub row-some : (c : Comparison) (w : Walk) → 0 < length (map (present c) (rowOf w))
-unfolding run
-row-some c w = omega arith
-
 -- ---- what the code computes with
-pub holds-steady : (s : Slot) → FairSlot s → (k : ℕ) (p : Spot) → Holds s k p → Steady p
-holds-steady s f k p h = record { short = h .rest .short; few = omega (arith, h .size, f .few) }
-
 pub raised-steady : (p : Spot) → Steady p → Steady (raised p) × (natAbs (raised p .literal) ≤ natAbs (p .literal) + 1)
 raised-steady p h = elim (decLe 1 (p .r)) [
   | yes l ↦ rw (raise-on p l) (record { short = omega (arith, h .short); few = h .few }, omega arith)
@@ -223,7 +206,12 @@ literal-near s f b low high = ⊎-elim (λ g.
     let i = floor-inside s b f low high (floor b (s .coefficient)) refl h in
     omega (arith, ap natAbs (literal-rising s b h), number-small s (floor b (s .coefficient)) f (i .0) (i .1))) (le-or-lt (s .coefficient) (pos 0))
 
-pub spot-near : (c : Comparison) (f : FairComparison c) → 2 ≤ c .n → (w : Walk) → Walking c (Tuple w) → (i : ℕ) → i < c .n → (p : Spot) → Holds (slotAt c i) (offsetAt c w i) p → natAbs (p .literal) ≤ 20000000
-spot-near c f two w o i h p e =
+-- a spot at the present tuple is ready to go along its row
+pub spot-ready : (c : Comparison) (f : FairComparison c) → 2 ≤ c .n → (w : Walk) → Walking c (Tuple w) → (i : ℕ) → i < c .n → (p : Spot) → Holds (slotAt c i) (offsetAt c w i) p
+    → Steady p × (natAbs (p .literal) + rowLength w ≤ 40000000)
+spot-ready c f two w o i h p e =
     let s = slotAt c i in
-    omega (arith, ap natAbs (e .literal), literal-near s (slot-fair c f i h) (bound s (offsetAt c w i)) (omega (whole, add-law (slotBounds s .lo) (pos (offsetAt c w i)))) (top-term c f two w o i h))
+    let g = slot-fair c f i h in
+    let near = literal-near s g (bound s (offsetAt c w i)) (omega (whole, add-law (slotBounds s .lo) (pos (offsetAt c w i)))) (top-term c f two w o i h) in
+    let d = walking-fine c w o in
+    (record { short = e .rest .short; few = omega (arith, e .size, g .few) }, omega (arith, ap natAbs (e .literal), near, d .1 .0 .narrow))

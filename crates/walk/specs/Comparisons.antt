@@ -5,10 +5,12 @@ use Prim.Native.Nat.{ℕ, suc, _-_, _≤_}
 use native.Mathlib.Omega.{arith}
 use lib.ListN.{length, take, drop, replicate, length-drop, length-map}
 use lib.IntN.{ℤ, pos, natAbs, _+ℤ_, _-ℤ_}
+use lib.Signed.{_≤ℤ_}
 use Rattle.definitions.specs.Tools.{All, sumZ, size}
 use Rattle.definitions.specs.Board.{Bounds, Term, Board, boundsOf}
 use Rattle.definitions.specs.Board as board
 use Rattle.definitions.specs.Encoding.{least, tuples, tuplesOf, sharp, first, literalNumber}
+use Rattle.laws.specs.Whole.{whole, add-law, sub-law}
 use Rattle.laws.specs.Lists.{all-every, map-same}
 use Rattle.laws.specs.Tuples.{no-term}
 use Rattle.laws.specs.Terms.{ranges}
@@ -31,6 +33,10 @@ leastOf c = sumZ (map (λ s. valueBounds s .lo) (slotsOf c))
 -- how far the constant is above L, and 1 more: the sum of a tuple's offsets from the least bounds
 unfoldable pub overLeast : Comparison → ℤ
 overLeast c = c .constant -ℤ leastOf c +ℤ pos 1
+
+pub over-sign : (c : Comparison) → leastOf c ≤ℤ c .constant → pos 0 ≤ℤ overLeast c
+unfolding overLeast
+over-sign c h = let k = c .constant in let l = leastOf c in omega (whole, h, sub-law k l, add-law (k -ℤ l) (pos 1))
 
 abbrev pub rangesOf : Comparison → List Bounds
 rangesOf c = map slotBounds (slotsOf c)

@@ -1,15 +1,19 @@
 -- Rows: tuples one after another that differ in the last two places alone, and the literals along them. Assumes nothing.
-use mathlib.Core.Path.{_≡_}
-use mathlib.Core.List.{List, [], _∷_, _++_}
+use mathlib.Core.Path.{_≡_, refl, ap, _∙_}
+use mathlib.Core.List.{List, [], _∷_, _++_, map, map-map, map-append}
 use Prim.Native.Nat.{ℕ, zero, suc, min, _+_, _-_, _*_, _≤_, _<_}
-use lib.ListN.{getD}
+use native.Mathlib.Omega.{arith}
+use lib.ListN.{length, getD}
 use lib.IntN.{ℤ, pos, natAbs, _+ℤ_, _-ℤ_}
 use Rattle.walk.specs.declared.Slot.{Slot}
 use Rattle.walk.specs.declared.Spot.{Spot}
 use Rattle.walk.specs.declared.Comparison.{Comparison}
 use Rattle.walk.specs.declared.Walk.{Walk}
+use Rattle.walk.specs.declared.At.{At}
+use Rattle.walk.specs.declared.At.the-variants.{Tuple, End}
 use Rattle.walk.specs.Slots.{slotBounds, slotLiteral}
-use Rattle.walk.specs.Walks.{places, moved}
+use Rattle.walk.specs.Walks.{places, moved, seen, left, Over}
+use Rattle.walk.specs.Comparisons.{Walking, present, literalsAt, toCome}
 
 -- ---- the tuples of a row
 -- i tuples on: the last place holds i less, the one before it i more
@@ -77,3 +81,42 @@ rowFrom fixed y z (suc n) = (fixed ++ (y .literal ∷ z .literal ∷ [])) ∷ ro
 abbrev pub frontOf : ℕ → ℤ → List ℤ
 frontOf zero l = []
 frontOf (suc m) l = l ∷ []
+
+pub front-some : (m : ℕ) (l : ℤ) → 0 < m → frontOf m l ≡ l ∷ []
+front-some zero l h = absurd (omega arith)
+front-some (suc m) l h = refl
+
+pub front-none : (m : ℕ) (l : ℤ) → m ≡ 0 → frontOf m l ≡ []
+front-none zero l h = refl
+front-none (suc m) l h = absurd (omega arith)
+
+pub row-count : (fixed : List ℤ) (y z : Spot) (n : ℕ) → length (rowFrom fixed y z n) ≡ n
+unfolding rowFrom
+row-count fixed y z zero = refl
+row-count fixed y z (suc n) = ap suc (row-count fixed (raised y) (lowered z) n)
+
+module _ (fixed : List ℤ) (y z : Spot) where
+  pub row-none : (n : ℕ) → n ≡ 0 → rowFrom fixed y z n ≡ []
+  unfolding rowFrom
+  row-none zero h = refl
+  row-none (suc n) h = absurd (omega arith)
+
+  pub row-next : (n : ℕ) → 0 < n → rowFrom fixed y z n ≡ (fixed ++ (y .literal ∷ z .literal ∷ [])) ∷ rowFrom fixed (raised y) (lowered z) (n - 1)
+  unfolding rowFrom
+  row-next zero h = absurd (omega arith)
+  row-next (suc n) h = let e : n ≡ suc n - 1 = omega arith in ap (λ m. (fixed ++ (y .literal ∷ z .literal ∷ [])) ∷ rowFrom fixed (raised y) (lowered z) m) e
+
+-- ---- what a row shows
+-- from what `after_row` ensures
+pub rowed : (c : Comparison) (w : Walk) (r : At) → Walking c (Tuple w) → Over (places w) r × (left (Tuple w) ≡ map seen (rowOf w) ++ left r)
+    → Walking c r × (toCome c (Tuple w) ≡ map (present c) (rowOf w) ++ toCome c r)
+unfolding Walking Over toCome present
+rowed c w r o n = (onward r (n .0), ap (map (literalsAt c)) (n .1) ∙ map-append (literalsAt c) (map seen (rowOf w)) (left r) ∙ ap (λ l. l ++ map (literalsAt c) (left r)) (map-map (literalsAt c) seen (rowOf w)))
+  where
+    onward : (r : At) → Over (places w) r → Walking c r
+    onward (Tuple v) k = (k .0, k .1 ∙ o .1)
+    onward End k = tt
+
+pub row-some : (c : Comparison) (w : Walk) → 0 < length (map (present c) (rowOf w))
+unfolding run
+row-some c w = omega arith

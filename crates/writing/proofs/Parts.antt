@@ -14,7 +14,7 @@ use Rattle.walk.specs.declared.Walk.{Walk}
 use Rattle.walk.specs.declared.At.{At}
 use Rattle.walk.specs.declared.At.the-variants.{Tuple, End}
 use Rattle.walk.specs.declared.Spot.{Spot}
-use Rattle.walk.specs.Rows.{rowOf, raised, lowered, rowFrom, frontOf}
+use Rattle.walk.specs.Rows.{rowOf, raised, lowered, rowFrom, row-none, row-next}
 use Rattle.walk.specs.Comparisons.{present, toCome, none-left}
 use Rattle.writing.specs.Signs.{plus-is, minus-is}
 use Rattle.writing.specs.Numbers.{clause, flat, leadOf, led, unit, clause-led, led-none, led-more}
@@ -48,14 +48,6 @@ unfolding clause
 lead-alone lead o out at = begun (leadOf lead) (pos 0 ∷ []) o out at
 
 -- ---- rows
-pub front-some : (m : ℕ) (l : ℤ) → 0 < m → frontOf m l ≡ l ∷ []
-front-some zero l h = absurd (omega arith)
-front-some (suc m) l h = refl
-
-pub front-none : (m : ℕ) (l : ℤ) → m ≡ 0 → frontOf m l ≡ []
-front-none zero l h = refl
-front-none (suc m) l h = absurd (omega arith)
-
 pub paired : (y z : ℤ) (o : List ℤ) → 3 ≤ length o → (3 ≡ length (clause (y ∷ z ∷ []))) × (set (set (set o 0 y) 1 z) 2 (pos 0) ≡ written (clause (y ∷ z ∷ [])) o)
 unfolding clause
 paired y z o h = ended (three (begin (y ∷ z ∷ pos 0 ∷ []) (y ∷ z ∷ pos 0 ∷ []) o refl h) y z (pos 0) [] refl) refl
@@ -74,17 +66,10 @@ module _ (lead front : List ℤ) (y z : ℤ) where
 
 module _ (lead : ℤ) (fixed : List ℤ) (p q : Spot) where
   pub row-end : (n : ℕ) → n ≡ 0 → led lead (rowFrom fixed p q n) ≡ []
-  unfolding rowFrom
-  row-end zero h = led-none lead
-  row-end (suc n) h = absurd (omega arith)
+  row-end n h = ap (led lead) (row-none fixed p q n h) ∙ led-none lead
 
   pub row-more : (n : ℕ) → 0 < n → led lead (rowFrom fixed p q n) ≡ clause (leadOf lead ++ (fixed ++ (p .literal ∷ q .literal ∷ []))) ++ led lead (rowFrom fixed (raised p) (lowered q) (n - 1))
-  unfolding rowFrom
-  row-more zero h = absurd (omega arith)
-  row-more (suc n) h =
-      let e : n ≡ suc n - 1 = omega arith in
-      led-more lead (fixed ++ (p .literal ∷ q .literal ∷ [])) (rowFrom fixed (raised p) (lowered q) n)
-      ∙ ap (λ m. clause (leadOf lead ++ (fixed ++ (p .literal ∷ q .literal ∷ []))) ++ led lead (rowFrom fixed (raised p) (lowered q) m)) e
+  row-more n h = ap (led lead) (row-next fixed p q n h) ∙ led-more lead (fixed ++ (p .literal ∷ q .literal ∷ [])) (rowFrom fixed (raised p) (lowered q) (n - 1))
 
 pub units-more : (lead : ℤ) (fixed : List ℤ) (y z : ℤ) (n : ℕ) → 0 < n
     → led lead (rowFrom fixed (unit y) (unit z) n) ≡ clause (leadOf lead ++ (fixed ++ (y ∷ z ∷ []))) ++ led lead (rowFrom fixed (unit (y +ℤ pos 1)) (unit (z -ℤ pos 1)) (n - 1))

@@ -1,26 +1,25 @@
 -- `decode::search::search_rules` meets its contract.
 use borrow.Author.Needs.{needs}
-use mathlib.Core.Path.{sym, _∙_}
+use mathlib.Core.Path.{_≡_}
 use native.Mathlib.Omega.{arith}
 use lib.ListN.{length}
-use borrow.Author.Tests.{not-true, not-false}
 use Rattle.definitions.specs.Board.{Board}
 use Rattle.definitions.specs.Reading.{Context}
 use Rattle.laws.specs.Boards.{boardOf}
 use Rattle.laws.specs.Reread as reread
 use Rattle.reader.specs.Said.{contextOf}
 use Rattle.rules.specs.Cursors.{todo}
+use Rattle.walk.specs.declared.At.{At}
 use Rattle.walk.specs.Comparisons.{toCome, walking-fine}
 use Rattle.opening.specs.Headers.{context-is, counts-small}
 use Rattle.decode.specs.Given.{short}
-use Rattle.decode.specs.Next.{Comes, came-met, came-none}
-use Rattle.decode.specs.Passes.{Passing, Walks, passing-start, passing-end, sound-next, walks-start, walks-end, walks-at, walks-next, walks-less, walks-numbered, walks-stop, walks-room}
+use Rattle.decode.specs.Next.{Came, Comes, came-met, came-none}
+use Rattle.decode.specs.Passes.{Passing, Walks, passing-start, passing-end, sound-next, passed-room, walks-start, walks-end, walks-at, walks-next, walks-less, walks-numbered, walks-stop, walks-room}
 use Rattle.decode.proofs.search.search_rules.Statement.{statement}
 use Rattle.decode.proofs.search.search_rules.Tie as tie
 
 abbrev Inv-loop : tie.InvT-loop
-Inv-loop bytes firsts rules model header from known number₀ behind lead tails here₀ number here =
-    Walks (boardOf bytes) model rules from number lead tails here behind
+Inv-loop bytes firsts rules model header from known number₀ behind lead tails here₀ number here = Walks (boardOf bytes) model rules from number tails here behind
 
 abbrev μ-loop : tie.MeasureT-loop
 μ-loop bytes firsts rules model header from known number₀ behind lead tails here₀ number here = length (toCome tails here)
@@ -31,17 +30,42 @@ Inv-search bytes firsts rules model header from known number₀ cursor₀ number
 abbrev μ-search : tie.MeasureT-search
 μ-search bytes firsts rules model header from known number₀ cursor₀ number cursor = todo (reread.contextOf (boardOf bytes)) rules cursor
 
-module _ (c : tie.Start Inv-loop μ-loop Inv-search μ-search) where
+module _ (s : tie.Start Inv-loop μ-loop Inv-search μ-search) where
   abbrev B : Board
-  B = boardOf (c .args .bytes .now)
+  B = boardOf (s .args .bytes .now)
 
   abbrev ctx : Context
   ctx = reread.contextOf B
 
+-- what came next
+module _ (c : tie.After-next-piece Inv-loop μ-loop Inv-search μ-search) where
+  abbrev begun : tie.Start Inv-loop μ-loop Inv-search μ-search
+  begun = c .before .before .before .before .before .before .before .before
+
+  came : Came (ctx begun) (begun .args .rules .now) (c .before .search .cursor) (c .next-piece .result)
+  came = rw (c .before .before .before .context-of .ensures, context-is (begun .pre .0 .opened)) at (c .next-piece .ensures)
+
 -- a piece was met
 module _ (c : tie.After-piece Inv-loop μ-loop Inv-search μ-search) where
-  met : Comes (ctx (c .before .before .before .before .before .before .before .before .before .before)) (c .before .before .before .before .before .before .before .before .before .before .args .rules .now) (c .before .before .before .search .cursor) (c .piece .given .0 .0) (c .piece .given .0 .1 .0)
-  met = came-met (ctx (c .before .before .before .before .before .before .before .before .before .before)) (c .before .before .before .before .before .before .before .before .before .before .args .rules .now) (c .before .before .before .search .cursor) (rw (c .before .before .before .before .before .context-of .ensures, context-is (c .before .before .before .before .before .before .before .before .before .before .pre .0 .opened)) at (c .before .before .next-piece .ensures)) (c .piece .given .1)
+  abbrev stepped : tie.After-next-piece Inv-loop μ-loop Inv-search μ-search
+  stepped = c .before .before
+
+  abbrev started : tie.Start Inv-loop μ-loop Inv-search μ-search
+  started = begun stepped
+
+  abbrev passing : Passing (B started) (started .args .model .now) (started .args .rules .now) (started .args .from) (stepped .before .search .number) (stepped .before .search .cursor)
+  passing = stepped .before .search .inv
+
+  met : Comes (ctx started) (started .args .rules .now) (stepped .before .search .cursor) (c .piece .given .0 .0) (c .piece .given .0 .1 .0)
+  met = came-met (ctx started) (started .args .rules .now) (stepped .before .search .cursor) (came stepped) (c .piece .given .1)
+
+-- a tuple of it is at hand
+module _ (c : tie.After-here Inv-loop μ-loop Inv-search μ-search) where
+  abbrev piece : tie.After-piece Inv-loop μ-loop Inv-search μ-search
+  piece = c .before .before .before .before .before .before .before .before
+
+  abbrev walks : Walks (B (started piece)) (started piece .args .model .now) (started piece .args .rules .now) (started piece .args .from) (c .before .before .loop .number) (c .before .before .before .before .before .tails-of .result) (c .before .before .loop .here) (piece .piece .given .0 .1 .0)
+  walks = c .before .before .loop .inv
 
 context-of-requires : tie.Need-context-of-requires Inv-loop μ-loop Inv-search μ-search
 context-of-requires c κs = counts-small (c .before .before .before .before .pre .0 .opened)
@@ -50,7 +74,7 @@ start-requires : tie.Need-start-requires Inv-loop μ-loop Inv-search μ-search
 start-requires c κs = search needs
 
 search-holds : tie.Need-search-holds Inv-loop μ-loop Inv-search μ-search
-search-holds c = rw (c .start .ensures, c .before .before .before .before .before .before .pre .2) (passing-start (c .before .before .before .before .before .before .pre .0 .opened) (c .before .before .before .before .before .before .args .model .now) (c .before .before .before .before .before .before .args .from))
+search-holds c = let s = c .before .before .before .before .before .before in rw (c .start .ensures, s .pre .2) (passing-start (s .pre .0 .opened) (s .args .model .now) (s .args .from))
 
 next-piece-requires : tie.Need-next-piece-requires Inv-loop μ-loop Inv-search μ-search
 next-piece-requires c κs = rw (c .before .before .context-of .ensures, context-is (c .before .before .before .before .before .before .before .pre .0 .opened)) (c .search .inv .readable)
@@ -62,17 +86,22 @@ enum-told : tie.Need-enum-told Inv-loop μ-loop Inv-search μ-search
 enum-told c = search needs
 
 lead-holds-requires : tie.Need-lead-holds-requires Inv-loop μ-loop Inv-search μ-search
-lead-holds-requires c κs = let m = met (c .before) in (c .before .before .before .before .before .before .before .before .before .before .before .pre .0, c .before .before .before .before .before .before .before .before .before .before .before .pre .1, m .held, sound-next (c .before .before .before .before .search .inv) _ (m .ahead) .0)
+lead-holds-requires c κs = let p = c .before in let s = started p in (s .pre .0, s .pre .1, met p .held, sound-next (passing p) _ (met p .ahead) .0)
 
 tails-of-requires : tie.Need-tails-of-requires Inv-loop μ-loop Inv-search μ-search
-tails-of-requires c κs = (c .before .before .before .before .before .before .before .before .before .before .before .before .pre .0 .opened .opens, c .before .before .before .before .before .before .before .before .before .before .before .before .pre .1, met (c .before .before) .held)
+tails-of-requires c κs = let p = c .before .before in let s = started p in (s .pre .0 .opened .opens, s .pre .1, met p .held)
 
-first-requires : tie.Need-first-requires Inv-loop μ-loop Inv-search μ-search
-first-requires c κs = c .tails-of .ensures .fair
+passed-requires : tie.Need-passed-requires Inv-loop μ-loop Inv-search μ-search
+passed-requires c κs = (c .tails-of .ensures .fair, c .tails-of .ensures .reached)
+
+add-number : tie.Need-add-number Inv-loop μ-loop Inv-search μ-search
+add-number c = let p = c .before .before .before .before in omega (arith, c .passed .ensures, passed-room (passing p) _ (met p .ahead) _ _ (c .before .before .lead-holds .ensures) (c .before .tails-of .ensures), started p .pre .3)
+
+walked-requires : tie.Need-walked-requires Inv-loop μ-loop Inv-search μ-search
+walked-requires c κs = c .before .tails-of .ensures .fair
 
 loop-holds : tie.Need-loop-holds Inv-loop μ-loop Inv-search μ-search
-loop-holds c =
-    walks-start (c .before .before .before .before .before .before .before .search .inv) _ (met (c .before .before .before .before) .ahead) _ _ _ (c .before .before .before .before .before .before .before .before .before .before .before .before .before .before .pre .0 .long) (c .before .before .lead-holds .ensures) (c .before .tails-of .ensures) (c .first .ensures)
+loop-holds c = let p = c .before .before .before .before .before in walks-start (passing p) _ (met p .ahead) _ _ _ _ (started p .pre .0 .long) (c .before .before .before .lead-holds .ensures) (c .before .before .tails-of .ensures) (c .before .passed .ensures) (c .walked .ensures)
 
 enum-known-here : tie.Need-enum-known-here Inv-loop μ-loop Inv-search μ-search
 enum-known-here c = search needs
@@ -80,37 +109,35 @@ enum-known-here c = search needs
 enum-told-2 : tie.Need-enum-told-2 Inv-loop μ-loop Inv-search μ-search
 enum-told-2 c = search needs
 
-clause-holds-requires : tie.Need-clause-holds-requires Inv-loop μ-loop Inv-search μ-search
-clause-holds-requires c κs =
-    (c .before .before .before .before .before .tails-of .ensures .fair, walks-at (c .before .before .before .loop .inv) (c .before .here .given .1), walks-numbered (c .before .before .before .loop .inv) (c .before .here .given .1), short (c .before .before .before .before .before .before .before .before .before .before .before .before .before .before .before .before .before .before .pre .0))
+after-row-requires : tie.Need-after-row-requires Inv-loop μ-loop Inv-search μ-search
+after-row-requires c κs = let h = c .before in walking-fine _ _ (walks-at (walks h) (h .here .given .1))
 
-add-number : tie.Need-add-number Inv-loop μ-loop Inv-search μ-search
-add-number c = omega (arith, walks-room (c .before .before .before .before .before .loop .inv) (c .before .before .before .here .given .1), c .before .before .before .before .before .before .before .before .before .before .before .before .before .before .before .before .before .before .before .before .pre .3)
+search-row-requires : tie.Need-search-row-requires Inv-loop μ-loop Inv-search μ-search
+search-row-requires c κs = let h = c .before .before in let w = walks h in let s = started (piece h) in (h .before .before .before .before .before .tails-of .ensures .fair, walks-at w (h .here .given .1), walks-numbered w (h .here .given .1) _ (c .after-row .ensures), short (s .pre .0), omega (arith, walks-room w (h .here .given .1) _ (c .after-row .ensures), s .pre .3))
 
-next-requires : tie.Need-next-requires Inv-loop μ-loop Inv-search μ-search
-next-requires c κs = walking-fine _ _ (walks-at (c .before .before .before .before .before .loop .inv) (c .before .before .before .here .given .1))
+enum-known-failing : tie.Need-enum-known-failing Inv-loop μ-loop Inv-search μ-search
+enum-known-failing c = search needs
+
+enum-known-after : tie.Need-enum-known-after Inv-loop μ-loop Inv-search μ-search
+enum-known-after c = search needs
 
 loop-less : tie.Need-loop-less Inv-loop μ-loop Inv-search μ-search
-loop-less c = walks-less (c .before .before .before .before .before .before .loop .inv) (c .before .before .before .before .here .given .1) _ (c .next .ensures)
+loop-less c = let h = c .before .before .before .before .before .before in walks-less (walks h) (h .here .given .1) _ (c .before .before .before .before .after-row .ensures)
 
 loop-again : tie.Need-loop-again Inv-loop μ-loop Inv-search μ-search
-loop-again c =
-    walks-next (c .before .before .before .before .before .before .loop .inv) (c .before .before .before .before .here .given .1) _ (c .next .ensures) (sym (c .before .before .clause-holds .ensures) ∙ not-false _ (c .before .if1 .left))
+loop-again c = let h = c .before .before .before .before .before .before in walks-next (walks h) (h .here .given .1) _ (c .before .before .before .before .after-row .ensures) (c .before .before .before .search-row .ensures) (c .before .after .given .1)
 
 search-less : tie.Need-search-less Inv-loop μ-loop Inv-search μ-search
-search-less c = met (c .before .before .before .before .before .before .before) .onward .less
+search-less c = met (c .before .before .before .before .before .before .before .before) .onward .less
 
 search-again : tie.Need-search-again Inv-loop μ-loop Inv-search μ-search
-search-again c =
-    let m = met (c .before .before .before .before .before .before .before) in
-    walks-end (c .before .before .loop .inv) (c .enum-told2 .given .1) (sound-next (c .before .before .before .before .before .before .before .before .before .before .search .inv) _ (m .ahead) .1) (m .onward .sound)
+search-again c = let p = c .before .before .before .before .before .before .before .before in walks-end (c .before .before .loop .inv) (c .enum-told2 .given .1) (sound-next (passing p) _ (met p .ahead) .1) (met p .onward .sound)
 
 returns : tie.Need-returns Inv-loop μ-loop Inv-search μ-search
-returns c =
-    passing-end (c .before .before .before .search .inv) (came-none (ctx (c .before .before .before .before .before .before .before .before .before .before)) (c .before .before .before .before .before .before .before .before .before .before .args .rules .now) (c .before .before .before .search .cursor) (rw (c .before .before .before .before .before .context-of .ensures, context-is (c .before .before .before .before .before .before .before .before .before .before .pre .0 .opened)) at (c .before .before .next-piece .ensures)) (c .enum-told .given .1))
+returns c = let n = c .before .before in let s = begun n in passing-end (n .before .search .inv) (came-none (ctx s) (s .args .rules .now) (n .before .search .cursor) (came n) (c .enum-told .given .1))
 
 returns-2 : tie.Need-returns-2 Inv-loop μ-loop Inv-search μ-search
-returns-2 c = walks-stop (c .before .before .before .before .before .loop .inv) (c .before .before .before .here .given .1) (sym (c .before .clause-holds .ensures) ∙ not-true _ (c .if1 .taken))
+returns-2 c = let h = c .before .before .before .before .before .before in walks-stop (walks h) (h .here .given .1) _ (c .before .before .before .before .after-row .ensures) (c .before .before .before .search-row .ensures) (c .before .failing .given .1)
 
 pub search-rules-spec : {M : Type 1} → statement M
 search-rules-spec =
@@ -128,13 +155,16 @@ search-rules-spec =
     enum-told
     lead-holds-requires
     tails-of-requires
-    first-requires
+    passed-requires
+    add-number
+    walked-requires
     loop-holds
     enum-known-here
     enum-told-2
-    clause-holds-requires
-    add-number
-    next-requires
+    after-row-requires
+    search-row-requires
+    enum-known-failing
+    enum-known-after
     loop-less
     loop-again
     search-less

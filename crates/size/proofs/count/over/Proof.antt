@@ -9,7 +9,7 @@ use mir.Syntax.{w32}
 use mir.Val.{SFits}
 use mir.Facts.{toZ-ofZ, fits-natAbs}
 use Rattle.laws.specs.Whole.{whole}
-use Rattle.size.proofs.Tuples.{over-sign, over-near, over-is}
+use Rattle.size.proofs.Tuples.{over-near, over-is}
 use borrow.Author.Needs.{needs}
 use Rattle.size.proofs.count.over.Statement.{statement}
 use Rattle.size.proofs.count.over.Tie as tie
@@ -20,7 +20,7 @@ over-least-requires c κs = search needs
 cast-result : tie.Need-cast-result
 cast-result c =
     let f : SFits w32 (c .over-least .result) = record { sfits = c .over-least .ok } in
-    let s : pos 0 ≤ℤ c .over-least .result = omega (whole, c .over-least .ensures, over-sign (c .before .args .c) (c .before .pre .0) (c .before .pre .1)) in
+    let s : pos 0 ≤ℤ c .over-least .result = omega (whole, c .over-least .ensures, c .before .pre .1) in
     simp toZ-ofZ (yes-nonNeg s, fits-natAbs tt f)
 
 add-result : tie.Need-add-result
@@ -31,7 +31,7 @@ add-result c =
 returns : tie.Need-returns
 returns c =
     let f : SFits w32 (c .over-least .result) = record { sfits = c .over-least .ok } in
-    let s : pos 0 ≤ℤ c .over-least .result = omega (whole, c .over-least .ensures, over-sign (c .before .args .c) (c .before .pre .0) (c .before .pre .1)) in
+    let s : pos 0 ≤ℤ c .over-least .result = omega (whole, c .over-least .ensures, c .before .pre .1) in
     let e : natAbs (c .over-least .result) + 1 ≡ over (c .before .args .c) = over-is (c .before .args .c) (c .before .pre .0) (c .before .pre .1) _ (pos-natAbs (c .over-least .result) (yes-nonNeg s) ∙ c .over-least .ensures) in
     simp toZ-ofZ (e, omega (arith, e, ap natAbs (c .over-least .ensures), over-near (c .before .args .c) (c .before .pre .0) (c .before .pre .1)))
 

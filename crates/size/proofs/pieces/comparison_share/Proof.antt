@@ -5,6 +5,7 @@ use mir.Val.{SFits}
 use mir.Facts.{toZ-ofZ}
 use Rattle.laws.specs.Whole.{whole, back}
 use Rattle.laws.specs.Boards.{opens-admitted}
+use Rattle.walk.specs.Comparisons.{over-sign}
 use Rattle.size.proofs.Shares.{share-below, share-reached, share-fits}
 use borrow.Author.Needs.{needs}
 use Rattle.size.proofs.pieces.comparison_share.Statement.{statement}
@@ -36,7 +37,7 @@ tuples-of-requires c κs =
     let f = c .before .before .before .before .before .before .fits .constant in
     let l : SFits w32 (c .before .least .result) = record { sfits = c .before .least .ok } in
     let r = rw (toZ-ofZ f) at (c .before .before .ready .ensures) in
-    (r .fair, omega (whole, back f, back l, c .before .least .ensures, r .shows .constant))
+    (r .fair, over-sign _ (omega (whole, back f, back l, c .before .least .ensures, r .shows .constant)))
 
 add-t15 : tie.Need-add-t15
 add-t15 c = search needs

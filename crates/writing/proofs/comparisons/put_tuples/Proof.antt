@@ -10,8 +10,7 @@ use mir.Val.{toZ, ofZ}
 use mir.Facts.{toZ-ofZ}
 use Rattle.laws.specs.Written.{rest-length}
 use Rattle.walk.specs.Comparisons.{Walking, literalsOf, present, toCome, walking-fine}
-use Rattle.walk.specs.Rows.{rowOf}
-use Rattle.walk.proofs.Runs.{rowed, row-some}
+use Rattle.walk.specs.Rows.{rowOf, rowed, row-some}
 use Rattle.writing.specs.Numbers.{led}
 use Rattle.laws.specs.Filling.{Filling, begin, room-before, room, room-for, part, ended}
 use Rattle.writing.proofs.Parts.{led-end, led-on}

@@ -4,7 +4,7 @@ use native.Mathlib.Omega.{arith}
 use lib.ListN.{length, set}
 use mir.Facts.{toZ-ofZ}
 use Rattle.laws.specs.Written.{written, written-none, written-one}
-use Rattle.writing.proofs.Parts.{front-some, front-none}
+use Rattle.walk.specs.Rows.{front-some, front-none}
 use borrow.Author.Needs.{needs}
 use Rattle.writing.proofs.rows.put_front.Statement.{statement}
 use Rattle.writing.proofs.rows.put_front.Tie as tie

@@ -1,0 +1,43 @@
+use mathlib.Core.Path.{_≡_, ap, _∙_}
+use mathlib.Core.Bool.{or-false}
+use Prim.Native.Nat.{_-_}
+use native.Mathlib.Omega.{arith}
+use lib.ListN.{length, getD}
+use lib.IntN.{pos}
+use mir.Syntax.{w32}
+use mir.Val.{SFits}
+use mir.Facts.{toZ-ofZ}
+use Rattle.walk.specs.Comparisons.{present}
+use Rattle.walk.specs.Rows.{front-some, front-none}
+use Rattle.decode.specs.Truth.{trueTail}
+use borrow.Author.Needs.{needs}
+use Rattle.decode.proofs.rows.front_holds.Statement.{statement}
+use Rattle.decode.proofs.rows.front_holds.Tie as tie
+use Rattle.decode.proofs.rows.front_holds.Reads as reads
+use Rattle.decode.proofs.rows.front_holds.Lts as lts
+use Rattle.decode.proofs.truth.holds.Reads as holds-reads
+use Rattle.walk.proofs.tuples.literal_at.Reads as literal-at-reads
+
+returns : tie.Need-returns
+returns c =
+    let a = c .before .before .before .args in
+    rw (front-none (a .tails .n - 2) (getD (present (a .tails) (a .tuple)) 0 (pos 0)) (omega (arith, c .if1 .taken)))
+
+literal-at-requires : tie.Need-literal-at-requires
+literal-at-requires c κs = search needs
+
+holds-requires : tie.Need-holds-requires
+holds-requires c κs =
+    let a = c .before .before .before .before .args in
+    let f : SFits w32 (c .literal-at .result) = record { sfits = c .literal-at .ok } in
+    let p = rw (front-some (a .tails .n - 2) (getD (present (a .tails) (a .tuple)) 0 (pos 0)) (omega (arith, c .before .if1 .left))) at (c .before .before .before .before .pre .2) in
+    simp toZ-ofZ (rw (c .literal-at .ensures) (p .0 .0, p .0 .1, c .before .before .before .before .pre .3))
+
+returns-2 : tie.Need-returns-2
+returns-2 c =
+    let a = c .before .before .before .before .before .args in
+    let f : SFits w32 (c .before .literal-at .result) = record { sfits = c .before .literal-at .ok } in
+    rw (front-some (a .tails .n - 2) (getD (present (a .tails) (a .tuple)) 0 (pos 0)) (omega (arith, c .before .before .if1 .left)), or-false) (rw (c .before .literal-at .ensures) at (simp toZ-ofZ at (c .holds .ensures)))
+
+pub front-holds-spec : {M : Type 1} → statement M
+front-holds-spec = tie.close (tie.spec returns literal-at-requires holds-requires returns-2)
