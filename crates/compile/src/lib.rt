@@ -15,6 +15,7 @@ use opening::Header;
 use opening::context_of;
 use size::Measured;
 use size::measure;
+use slots::FIRSTS;
 use slots::variables::first_in;
 use slots::variables::put_firsts;
 
@@ -28,7 +29,7 @@ fn put_list(bytes: &[u8], header: Header, list: &mut [i32]) -> usize
 {
     let known = context_of(header);
     let tail = header.rules;
-    let mut firsts = [0u32; 1025];
+    let mut firsts = [0u32; FIRSTS];
     put_firsts(bytes, header.bools, header.ints, &mut firsts);
     let selectors = first_in(&firsts, header.ints);
     let at = put_variables(bytes, header.ints, header.bools, list);

@@ -15,6 +15,7 @@ use rules::Cursor;
 use rules::Stepped;
 use rules::start;
 use rules::step;
+use slots::FIRSTS;
 use slots::variables::put_firsts;
 use walk::At;
 use walk::rows::after_row;
@@ -107,7 +108,7 @@ pub fn search_clauses(bytes: &[u8], model: &[u8], header: Header) -> Found
         Checked::Fails(number) => Found::At(number),
         Checked::Hold(number) => {
             let place = header.rules;
-            let mut firsts = [0u32; 1025];
+            let mut firsts = [0u32; FIRSTS];
             put_firsts(bytes, header.bools, header.ints, &mut firsts);
             search_rules(bytes, &firsts, &bytes[place..], model, header, number)
         }

@@ -17,5 +17,8 @@ pub struct Terms {
     pub terms: [Term; 3],
 }
 
+// The length of a table of first numbers: one for each of 1,024 variables, and the first selector's.
+pub const FIRSTS: usize = 1025;
+
 pub mod comparisons; // comparisons.rt: a comparison's terms, and the comparison made ready to walk
 pub mod variables; // variables.rt: bounds, widths, first numbers

@@ -50,14 +50,14 @@ pub fn put_firsts(bytes: &[u8], bools: usize, ints: usize, firsts: &mut [u32])
     requires { ⌜ Opens (now bytes) × (bools ≡ boardOf (now bytes) .bools) × (ints ≡ length (boardOf (now bytes) .bounds)) × (ints < length (now firsts)) ⌝ }
     ensures { λ _. ⌜ FirstsOf (boardOf (now (bytes .entry))) (now (firsts .exit)) ⌝ }
 {
-    let mut number = bools as u32 + 1;
+    let mut next = bools as u32 + 1;
     let mut x: usize = 0;
     while x < ints {
-        firsts[x] = number;
-        number += width_of(bounds_of(bytes, x));
+        firsts[x] = next;
+        next += width_of(bounds_of(bytes, x));
         x += 1;
     }
-    firsts[ints] = number;
+    firsts[ints] = next;
 }
 
 // A variable's entry of such a table, and 0 where it has none.

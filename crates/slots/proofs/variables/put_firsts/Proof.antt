@@ -12,18 +12,18 @@ use Rattle.slots.proofs.variables.put_firsts.Statement.{statement}
 use Rattle.slots.proofs.variables.put_firsts.Tie as tie
 
 abbrev Inv-loop : tie.InvT-loop
-Inv-loop bytes bools ints firsts₀ number₀ x₀ firsts number x =
-    FirstsTo (boardOf bytes) x firsts × (number ≡ first (boardOf bytes) x) × (x ≤ ints) × (length firsts ≡ length firsts₀)
+Inv-loop bytes bools ints firsts₀ next₀ x₀ firsts next x =
+    FirstsTo (boardOf bytes) x firsts × (next ≡ first (boardOf bytes) x) × (x ≤ ints) × (length firsts ≡ length firsts₀)
 
 abbrev μ-loop : tie.MeasureT-loop
-μ-loop bytes bools ints firsts₀ number₀ x₀ firsts number x = ints - x
+μ-loop bytes bools ints firsts₀ next₀ x₀ firsts next x = ints - x
 
-cast-number : tie.Need-cast-number Inv-loop μ-loop
-cast-number c =
+cast-next : tie.Need-cast-next Inv-loop μ-loop
+cast-next c =
     omega (arith, opens-admitted _ (c .before .before .pre .0) .bools)
 
-add-number : tie.Need-add-number Inv-loop μ-loop
-add-number c =
+add-next : tie.Need-add-next Inv-loop μ-loop
+add-next c =
     omega (arith, opens-admitted _ (c .before .before .pre .0) .bools)
 
 loop-holds : tie.Need-loop-holds Inv-loop μ-loop
@@ -43,8 +43,8 @@ bounds-of-requires c κs =
 width-of-requires : tie.Need-width-of-requires Inv-loop μ-loop
 width-of-requires c κs = c .bounds-of .ensures .good
 
-add-number-2 : tie.Need-add-number-2 Inv-loop μ-loop
-add-number-2 c =
+add-next-2 : tie.Need-add-next-2 Inv-loop μ-loop
+add-next-2 c =
     omega (arith, first-most _ (opens-admitted _ (c .before .before .before .before .before .before .pre .0)) (c .before .before .before .loop .x), width-most _ (c .before .bounds-of .ensures .good))
 
 add-x : tie.Need-add-x Inv-loop μ-loop
@@ -70,7 +70,7 @@ same-length c = rw length-set (c .before .loop .inv .3)
 returns : tie.Need-returns Inv-loop μ-loop
 returns c =
     let e : c .before .loop .x ≡ c .before .before .before .before .args .ints = omega arith in
-    let f = firsts-more (boardOf (c .before .before .before .before .args .bytes .now)) (c .before .before .before .before .args .ints) (c .before .loop .number) (c .before .loop .firsts) (c .before .loop .inv .1 ∙ ap (first (boardOf (c .before .before .before .before .args .bytes .now))) e) (omega (arith, c .before .before .before .before .pre .3)) (λ y h. c .before .loop .inv .0 y (omega arith)) in
+    let f = firsts-more (boardOf (c .before .before .before .before .args .bytes .now)) (c .before .before .before .before .args .ints) (c .before .loop .next) (c .before .loop .firsts) (c .before .loop .inv .1 ∙ ap (first (boardOf (c .before .before .before .before .args .bytes .now))) e) (omega (arith, c .before .before .before .before .pre .3)) (λ y h. c .before .loop .inv .0 y (omega arith)) in
     λ y h. f y (omega (arith, c .before .before .before .before .pre .2))
 
 pub put-firsts-spec : {M : Type 1} → statement M
@@ -79,14 +79,14 @@ put-firsts-spec =
     (tie.spec
     Inv-loop
     μ-loop
-    cast-number
-    add-number
+    cast-next
+    add-next
     loop-holds
     mul-firsts
     slice-write-firsts
     bounds-of-requires
     width-of-requires
-    add-number-2
+    add-next-2
     add-x
     loop-less
     loop-again
