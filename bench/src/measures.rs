@@ -1,0 +1,150 @@
+//! A board on the desk: every program is compared with the library, and then measured.
+
+use crate::boards::Board;
+use crate::clock::least_seconds;
+use crate::instructions::Counter;
+use crate::programs::{Answer, Desk, Library, Operation, Program};
+use std::hint::black_box;
+
+/// All measures of a board.
+pub struct Measured {
+    pub board: Board,
+    pub sizes: Answer,
+    pub lines: Vec<Line>,
+}
+
+/// The measures of an operation.
+pub struct Line {
+    pub operation: Operation,
+    pub library: f64,
+    /// Seconds of the other programs, in their order, where they have the operation.
+    pub others: Vec<Option<f64>>,
+    /// Compile's alone: seconds of a fill of its list, and its instructions.
+    pub fill: Option<f64>,
+    pub instructions: Option<u64>,
+}
+
+impl Measured {
+    /// K.
+    pub fn numbers(&self) -> u64 {
+        self.sizes[3]
+    }
+
+    pub fn line(&self, operation: Operation) -> &Line {
+        let found = self.lines.iter().find(|line| line.operation == operation);
+        found.expect("every operation is measured")
+    }
+}
+
+/// Runs all programs on a board, first for what they answer, then for how long they take.
+pub fn measured(board: Board, others: &[Box<dyn Program>], counter: &Counter) -> Measured {
+    let mut desk = laid_out(&board);
+    let sizes = Library.run(Operation::Size, &mut desk).expect("the library has Size");
+    let mut lines = Vec::new();
+    for operation in Operation::ALL {
+        let present = compare(&board, operation, others, &mut desk);
+        let mut line = line(operation, &present, &mut desk);
+        if operation == Operation::Compile {
+            line.instructions = counter.of_compile(&board, || {
+                black_box(Library.run(operation, &mut desk));
+            });
+        }
+        lines.push(line);
+    }
+    Measured { board, sizes, lines }
+}
+
+/// A board's record and solution, and room for its list and its model.
+pub fn laid_out(board: &Board) -> Desk {
+    let mut desk = Desk {
+        record: board.record.clone(),
+        values: board.values.clone(),
+        booleans: board.booleans.clone(),
+        ..Desk::default()
+    };
+    let sizes = Library.run(Operation::Size, &mut desk).expect("the library has Size");
+    let [0, variables, _, numbers] = sizes else {
+        panic!("{} is refused: {sizes:?}", board.name);
+    };
+    desk.list = vec![0; numbers as usize];
+    desk.model = vec![0; variables as usize];
+    Library.run(Operation::Image, &mut desk);
+    desk
+}
+
+/// The programs that have the operation; they have to answer and write what the library does.
+fn compare<'a>(
+    board: &Board,
+    operation: Operation,
+    others: &'a [Box<dyn Program>],
+    desk: &mut Desk,
+) -> Vec<Option<&'a dyn Program>> {
+    let mut found = Vec::new();
+    for program in others {
+        found.push((program, outcome(program.as_ref(), operation, desk)));
+    }
+    // The library comes last: a program without the operation has left blank lists.
+    let expected = outcome(&Library, operation, desk);
+    assert!(matches!(expected, Some(([0, ..], _))), "{}: {expected:?}", board.name);
+    assert_eq!(desk.values, board.values, "{}: {operation:?} keeps the solution", board.name);
+    let mut present = Vec::new();
+    for (program, outcome) in found {
+        let is_equal = outcome.is_none() || outcome == expected;
+        assert!(is_equal, "{}: {operation:?} of {}", board.name, program.name());
+        present.push(outcome.map(|_| program.as_ref()));
+    }
+    present
+}
+
+/// What an operation answers, and the sum of what it writes over blank lists.
+fn outcome(program: &dyn Program, operation: Operation, desk: &mut Desk) -> Option<(Answer, u64)> {
+    match operation {
+        Operation::Size | Operation::Judge => {}
+        Operation::Compile => desk.list.fill(i32::MIN),
+        Operation::Image => desk.model.fill(2),
+        Operation::Decode => {
+            desk.values.fill(i32::MIN);
+            desk.booleans.fill(2);
+        }
+    }
+    let answer = program.run(operation, desk)?;
+    let sum = match operation {
+        Operation::Size | Operation::Judge => 0,
+        Operation::Compile => checksum(desk.list.iter().map(|&number| number as u64)),
+        Operation::Image => checksum(desk.model.iter().map(|&byte| u64::from(byte))),
+        Operation::Decode => {
+            let values = desk.values.iter().map(|&value| value as u64);
+            checksum(values.chain(desk.booleans.iter().map(|&byte| u64::from(byte))))
+        }
+    };
+    Some((answer, sum))
+}
+
+/// A sum in which order counts, so that a list of gigabytes need not be kept twice.
+fn checksum(numbers: impl Iterator<Item = u64>) -> u64 {
+    numbers.fold(0, |sum, number| (sum.rotate_left(5) ^ number).wrapping_mul(0x9E37_79B9_7F4A_7C15))
+}
+
+/// The times of the library, of the other programs that are present, and for Compile of a fill.
+fn line(operation: Operation, others: &[Option<&dyn Program>], desk: &mut Desk) -> Line {
+    let programs: Vec<&dyn Program> = others.iter().flatten().copied().collect();
+    let has_fill = operation == Operation::Compile;
+    let candidates = 1 + programs.len() + usize::from(has_fill);
+    let seconds = least_seconds(candidates, |candidate| {
+        let program = match candidate {
+            0 => &Library,
+            _ if candidate > programs.len() => return black_box(&mut desk.list[..]).fill(0),
+            _ => programs[candidate - 1],
+        };
+        black_box(program.run(operation, black_box(desk)));
+    });
+    let mut seconds = seconds.into_iter();
+    let mut next = || seconds.next().expect("every candidate has a time");
+    Line {
+        operation,
+        library: next(),
+        others: others.iter().map(|other| other.map(|_| next())).collect(),
+        fill: has_fill.then(next),
+        instructions: None,
+    }
+}
