@@ -17,7 +17,7 @@ pub struct Measured {
 pub struct Line {
     pub operation: Operation,
     pub library: f64,
-    /// Seconds of the other programs, in their order, where they have the operation.
+    /// Seconds of the other programs in their order, but for those that the board is too large for.
     pub others: Vec<Option<f64>>,
     /// Compile's alone: seconds of a fill of its list, and its instructions.
     pub fill: Option<f64>,
@@ -39,11 +39,19 @@ impl Measured {
 /// Runs all programs on a board, first for what they answer, then for how long they take.
 pub fn measured(board: Board, others: &[Box<dyn Program>], counter: &Counter) -> Measured {
     let mut desk = laid_out(&board);
-    let sizes = Library.run(Operation::Size, &mut desk).expect("the library has Size");
+    let sizes = Library.run(Operation::Size, &mut desk);
     let mut lines = Vec::new();
     for operation in Operation::ALL {
-        let present = compare(&board, operation, others, &mut desk);
-        let mut line = line(operation, &present, &mut desk);
+        let present = |program: &dyn Program| {
+            let looks_at_clauses = matches!(operation, Operation::Compile | Operation::Decode);
+            !looks_at_clauses || sizes[2] <= program.most_clauses()
+        };
+        let others: Vec<Option<&dyn Program>> = others
+            .iter()
+            .map(|program| Some(program.as_ref()).filter(|&one| present(one)))
+            .collect();
+        compare(&board, operation, &others, &mut desk);
+        let mut line = line(operation, &others, &mut desk);
         if operation == Operation::Compile {
             line.instructions = counter.of_compile(&board, || {
                 black_box(Library.run(operation, &mut desk));
@@ -62,7 +70,7 @@ pub fn laid_out(board: &Board) -> Desk {
         booleans: board.booleans.clone(),
         ..Desk::default()
     };
-    let sizes = Library.run(Operation::Size, &mut desk).expect("the library has Size");
+    let sizes = Library.run(Operation::Size, &mut desk);
     let [0, variables, _, numbers] = sizes else {
         panic!("{} is refused: {sizes:?}", board.name);
     };
@@ -72,32 +80,19 @@ pub fn laid_out(board: &Board) -> Desk {
     desk
 }
 
-/// The programs that have the operation; they have to answer and write what the library does.
-fn compare<'a>(
-    board: &Board,
-    operation: Operation,
-    others: &'a [Box<dyn Program>],
-    desk: &mut Desk,
-) -> Vec<Option<&'a dyn Program>> {
-    let mut found = Vec::new();
-    for program in others {
-        found.push((program, outcome(program.as_ref(), operation, desk)));
-    }
-    // The library comes last: a program without the operation has left blank lists.
+/// Every program has to answer and write what the library does.
+fn compare(board: &Board, operation: Operation, others: &[Option<&dyn Program>], desk: &mut Desk) {
     let expected = outcome(&Library, operation, desk);
-    assert!(matches!(expected, Some(([0, ..], _))), "{}: {expected:?}", board.name);
-    assert_eq!(desk.values, board.values, "{}: {operation:?} keeps the solution", board.name);
-    let mut present = Vec::new();
-    for (program, outcome) in found {
-        let is_equal = outcome.is_none() || outcome == expected;
-        assert!(is_equal, "{}: {operation:?} of {}", board.name, program.name());
-        present.push(outcome.map(|_| program.as_ref()));
+    assert_eq!(expected.0[0], 0, "{}: {operation:?} is accepted", board.name);
+    for program in others.iter().flatten() {
+        let found = outcome(*program, operation, desk);
+        assert!(found == expected, "{}: {operation:?} of {}", board.name, program.name());
     }
-    present
+    assert_eq!(desk.values, board.values, "{}: {operation:?} leaves the solution", board.name);
 }
 
 /// What an operation answers, and the sum of what it writes over blank lists.
-fn outcome(program: &dyn Program, operation: Operation, desk: &mut Desk) -> Option<(Answer, u64)> {
+fn outcome(program: &dyn Program, operation: Operation, desk: &mut Desk) -> (Answer, u64) {
     match operation {
         Operation::Size | Operation::Judge => {}
         Operation::Compile => desk.list.fill(i32::MIN),
@@ -107,7 +102,7 @@ fn outcome(program: &dyn Program, operation: Operation, desk: &mut Desk) -> Opti
             desk.booleans.fill(2);
         }
     }
-    let answer = program.run(operation, desk)?;
+    let answer = program.run(operation, desk);
     let sum = match operation {
         Operation::Size | Operation::Judge => 0,
         Operation::Compile => checksum(desk.list.iter().map(|&number| number as u64)),
@@ -117,7 +112,7 @@ fn outcome(program: &dyn Program, operation: Operation, desk: &mut Desk) -> Opti
             checksum(values.chain(desk.booleans.iter().map(|&byte| u64::from(byte))))
         }
     };
-    Some((answer, sum))
+    (answer, sum)
 }
 
 /// A sum in which order counts, so that a list of gigabytes need not be kept twice.
@@ -125,7 +120,7 @@ fn checksum(numbers: impl Iterator<Item = u64>) -> u64 {
     numbers.fold(0, |sum, number| (sum.rotate_left(5) ^ number).wrapping_mul(0x9E37_79B9_7F4A_7C15))
 }
 
-/// The times of the library, of the other programs that are present, and for Compile of a fill.
+/// The times of the library, of the other programs, and for Compile of a fill.
 fn line(operation: Operation, others: &[Option<&dyn Program>], desk: &mut Desk) -> Line {
     let programs: Vec<&dyn Program> = others.iter().flatten().copied().collect();
     let has_fill = operation == Operation::Compile;

@@ -60,6 +60,10 @@ pub struct Desk {
 pub trait Program {
     fn name(&self) -> &'static str;
 
-    /// What the operation answers, or nothing where the program does not have it.
-    fn run(&self, operation: Operation, desk: &mut Desk) -> Option<Answer>;
+    /// Compile and Decode of boards with more clauses than this are left out.
+    fn most_clauses(&self) -> u64 {
+        u64::MAX
+    }
+
+    fn run(&self, operation: Operation, desk: &mut Desk) -> Answer;
 }

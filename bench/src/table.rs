@@ -10,8 +10,8 @@ CPU times of one thread for one call. Each program has three warm runs after a c
 take turns three times (once where a call takes over 20 ms), and the least is shown. A ratio is the library's time over
 that of the program before it: above 1, the library is slower. \"fill\" is the time of a fill of the same list with
 zeros, warm too, as a share of Compile's.
-strong   a peer written by hand for speed, with all checks of 01: Size and Compile
-second   the second program, written for comparison and not for speed; a - where it would keep too many clauses
+strong   a peer written by hand for speed, with all checks of 01; its Decode does not look at every clause
+second   the second program, written for comparison and not for speed; - where the board is too large for it
 "
     .to_string();
     if others.iter().any(|program| program.name() == "earlier") {

@@ -67,7 +67,7 @@ impl Program for Earlier {
         "earlier"
     }
 
-    fn run(&self, operation: Operation, desk: &mut Desk) -> Option<Answer> {
+    fn run(&self, operation: Operation, desk: &mut Desk) -> Answer {
         let Desk { record, list, model, values, booleans } = desk;
         let (bytes, length) = (record.as_ptr(), record.len());
         let mut answer = [0; 4];
@@ -87,6 +87,6 @@ impl Program for Earlier {
                 Operation::Image => (self.image)(bytes, length, value, n, bits, b, model, m, into),
             }
         }
-        Some(answer)
+        answer
     }
 }

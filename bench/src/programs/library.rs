@@ -10,15 +10,15 @@ impl Program for Library {
         "library"
     }
 
-    fn run(&self, operation: Operation, desk: &mut Desk) -> Option<Answer> {
+    fn run(&self, operation: Operation, desk: &mut Desk) -> Answer {
         let Desk { record, list, model, values, booleans } = desk;
-        Some(match operation {
+        match operation {
             Operation::Size => sized(basmuthar::size(record)),
             Operation::Compile => sized(basmuthar::compile(record, list)),
             Operation::Decode => plain(basmuthar::decode(record, model, values, booleans)),
             Operation::Judge => plain(basmuthar::judge(record, values, booleans)),
             Operation::Image => plain(basmuthar::image(record, values, booleans, model)),
-        })
+        }
     }
 }
 

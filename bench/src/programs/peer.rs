@@ -1,6 +1,6 @@
 //! The strong peer.
 
-use super::{Answer, Desk, Operation, Program};
+use super::{Answer, Desk, Operation, Program, ACCEPTED};
 use crate::strong::{self, Refused, Sizes};
 
 pub struct Strong;
@@ -10,12 +10,14 @@ impl Program for Strong {
         "strong"
     }
 
-    /// It has Size and Compile.
-    fn run(&self, operation: Operation, desk: &mut Desk) -> Option<Answer> {
+    fn run(&self, operation: Operation, desk: &mut Desk) -> Answer {
+        let Desk { record, list, model, values, booleans } = desk;
         match operation {
-            Operation::Size => Some(sized(strong::size(&desk.record))),
-            Operation::Compile => Some(sized(strong::compile(&desk.record, &mut desk.list))),
-            Operation::Decode | Operation::Judge | Operation::Image => None,
+            Operation::Size => sized(strong::size(record)),
+            Operation::Compile => sized(strong::compile(record, list)),
+            Operation::Decode => plain(strong::decode(record, model, values, booleans)),
+            Operation::Judge => plain(strong::judge(record, values, booleans)),
+            Operation::Image => plain(strong::image(record, values, booleans, model)),
         }
     }
 }
@@ -25,4 +27,8 @@ fn sized(result: Result<Sizes, Refused>) -> Answer {
         Ok(sizes) => [0, sizes.variables, sizes.clauses, sizes.numbers],
         Err(refused) => [refused.number, refused.detail, 0, 0],
     }
+}
+
+fn plain(result: Result<(), Refused>) -> Answer {
+    result.map_or_else(|refused| [refused.number, refused.detail, 0, 0], |()| ACCEPTED)
 }

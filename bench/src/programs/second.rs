@@ -5,27 +5,25 @@ use second::{Refusal, Sizes};
 
 pub struct Second;
 
-/// It keeps every clause apart: a board of more clauses would take gigabytes, and minutes.
-const MOST_CLAUSES: u64 = 2_000_000;
-
 impl Program for Second {
     fn name(&self) -> &'static str {
         "second"
     }
 
-    fn run(&self, operation: Operation, desk: &mut Desk) -> Option<Answer> {
+    /// It keeps every clause apart: more of them would take gigabytes, and minutes.
+    fn most_clauses(&self) -> u64 {
+        2_000_000
+    }
+
+    fn run(&self, operation: Operation, desk: &mut Desk) -> Answer {
         let Desk { record, list, model, values, booleans } = desk;
-        let makes_clauses = matches!(operation, Operation::Compile | Operation::Decode);
-        if makes_clauses && second::size(record).is_ok_and(|sizes| sizes.clauses > MOST_CLAUSES) {
-            return None;
-        }
-        Some(match operation {
+        match operation {
             Operation::Size => sized(second::size(record)),
             Operation::Compile => sized(second::compile(record, list)),
             Operation::Decode => plain(second::decode(record, model, values, booleans)),
             Operation::Judge => plain(second::judge(record, values, booleans)),
             Operation::Image => plain(second::image(record, values, booleans, model)),
-        })
+        }
     }
 }
 

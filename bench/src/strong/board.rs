@@ -40,6 +40,13 @@ pub struct Comparison {
     pub total: i32,
 }
 
+/// A literal of a checked record; a comparison by the place of its terms.
+#[derive(Clone, Copy)]
+pub enum Literal {
+    Boolean { number: usize, wanted: u8 },
+    Comparison { place: usize, terms: usize },
+}
+
 impl<'a> Board<'a> {
     /// A board of which only the bytes are known.
     pub fn of(record: &'a [u8]) -> Board<'a> {
@@ -89,8 +96,62 @@ impl<'a> Board<'a> {
                 least += coefficient * variable.upper;
             }
         }
-        let constant = record.add(place + 3 * terms).cast::<u32>().read_unaligned();
-        made.total = u32::from_be(constant) as i32 - least + 1;
+        made.total = self.constant(place, terms) - least + 1;
         made
+    }
+
+    /// The literal whose kind byte is at this place, and where the next one begins.
+    ///
+    /// # Safety
+    /// The literal was checked.
+    #[inline(always)]
+    pub unsafe fn literal(&self, at: usize) -> (Literal, usize) {
+        let kind = *self.record.as_ptr().add(at);
+        if kind == COMPARISON {
+            let terms = usize::from(*self.record.as_ptr().add(at + 1));
+            (Literal::Comparison { place: at + 2, terms }, at + 6 + 3 * terms)
+        } else {
+            let number = usize::from(self.two_bytes(at + 1));
+            (Literal::Boolean { number, wanted: 1 - kind }, at + 3)
+        }
+    }
+
+    /// Whether a comparison holds at these values.
+    ///
+    /// # Safety
+    /// The comparison was checked, and there is a value within bounds for each variable.
+    #[inline(always)]
+    pub unsafe fn sum_holds(&self, place: usize, terms: usize, values: &[i32]) -> bool {
+        let record = self.record.as_ptr();
+        let mut sum = 0;
+        for at in (place..place + 3 * terms).step_by(3) {
+            let variable = usize::from(self.two_bytes(at + 1));
+            sum += i32::from(*record.add(at) as i8) * values.get_unchecked(variable);
+        }
+        sum <= self.constant(place, terms)
+    }
+
+    /// The offset of each term of a comparison at these values.
+    ///
+    /// # Safety
+    /// As for `sum_holds`.
+    pub unsafe fn offsets(&self, place: usize, terms: usize, values: &[i32]) -> [i32; 3] {
+        let mut offsets = [0; 3];
+        for (index, offset) in offsets[..terms].iter_mut().enumerate() {
+            let at = place + 3 * index;
+            let number = usize::from(self.two_bytes(at + 1));
+            let (variable, value) = (self.variables[number], values[number]);
+            let coefficient = i32::from(self.record[at] as i8);
+            let steps =
+                if coefficient > 0 { value - variable.lower } else { variable.upper - value };
+            *offset = coefficient.abs() * steps + 1;
+        }
+        offsets
+    }
+
+    #[inline(always)]
+    unsafe fn constant(&self, place: usize, terms: usize) -> i32 {
+        let constant = self.record.as_ptr().add(place + 3 * terms).cast::<u32>();
+        u32::from_be(constant.read_unaligned()) as i32
     }
 }

@@ -174,6 +174,6 @@ impl Reader<'_> {
     }
 }
 
-fn refused<T>(number: u64, detail: usize) -> Result<T, Refused> {
+pub fn refused<T>(number: u64, detail: usize) -> Result<T, Refused> {
     Err(Refused { number, detail: detail as u64 })
 }
