@@ -25,12 +25,17 @@ enum Limit {
 pub fn goals(all: &[Measured], others: &[&str]) -> String {
     let place = |name| others.iter().position(|&other| other == name);
     let (strong, earlier) = (place("strong"), place("earlier"));
-    let compile = |kind| over(all, Operation::Compile, strong, |board| board == kind);
+    let compile =
+        |kinds: &[Kind]| over(all, Operation::Compile, strong, |kind| kinds.contains(&kind));
     let (most, least) = (Limit::AtMost, Limit::AtLeast);
     let goals = [
-        goal("Compile over strong, wide boards", most(2.5), compile(Kind::Wide)),
-        goal("Compile over strong, Boolean and small boards", most(6.0), compile(Kind::Small)),
-        goal("Compile over strong, worst records", Limit::Nothing, compile(Kind::Worst)),
+        goal("Compile over strong, wide boards", most(2.5), compile(&[Kind::Wide])),
+        goal("Compile over strong, Boolean and small boards", most(6.0), compile(&[Kind::Small])),
+        goal(
+            "Compile over strong, worst records",
+            Limit::Nothing,
+            compile(&[Kind::Worst, Kind::Huge]),
+        ),
         goal("fill over Compile in %, lists of 1 to 8 MB", least(33.0), values(all, share_of_fill)),
         goal("instructions for each number, wide boards", most(6.0), values(all, instructions)),
         goal("Compile on 1,024 variables over that on 16", most(1.5), many_over_few(all)),

@@ -143,3 +143,58 @@ fn line(operation: Operation, others: &[Option<&dyn Program>], desk: &mut Desk) 
         instructions: None,
     }
 }
+
+#[cfg(test)]
+mod tests {
+    use super::*;
+    use crate::boards::{self, Kind};
+    use crate::programs::{Second, Strong};
+
+    /// The program with a byte of Image wrong.
+    struct Wrong;
+
+    impl Program for Wrong {
+        fn name(&self) -> &'static str {
+            "wrong"
+        }
+
+        fn run(&self, operation: Operation, desk: &mut Desk) -> Answer {
+            let answer = Library.run(operation, desk);
+            if operation == Operation::Image {
+                desk.model[0] ^= 1;
+            }
+            answer
+        }
+    }
+
+    fn compare_all(board: &Board, others: &[Option<&dyn Program>]) {
+        let mut desk = laid_out(board);
+        for operation in Operation::ALL {
+            compare(board, operation, others, &mut desk);
+        }
+    }
+
+    #[test]
+    fn all_programs_are_equal_on_the_boards() {
+        for board in boards::all().iter().filter(|board| board.kind != Kind::Huge) {
+            let small = board.kind != Kind::Worst;
+            let second = small.then_some(&Second as &dyn Program);
+            compare_all(board, &[Some(&Strong), second]);
+        }
+    }
+
+    #[test]
+    #[should_panic(expected = "over16: Image of wrong")]
+    fn a_wrong_byte_is_found() {
+        let all = boards::all();
+        let board = all.iter().find(|board| board.name == "over16").expect("there is over16");
+        compare_all(board, &[Some(&Wrong)]);
+    }
+
+    #[test]
+    fn order_counts_in_a_checksum() {
+        let sums =
+            [[1, 2, 0], [2, 1, 0], [1, 0, 2], [1, 2, 3]].map(|list| checksum(list.into_iter()));
+        assert!((1..4).all(|index| !sums[..index].contains(&sums[index])), "{sums:?}");
+    }
+}

@@ -55,7 +55,7 @@ fn row(line: &Line, numbers: u64) -> String {
     let mut text = format!("  {:8}{:>10}", line.operation.name(), time(line.library));
     for other in &line.others {
         text.push_str(&match other {
-            Some(seconds) => format!("{:>12}{:>8.2}", time(*seconds), line.library / seconds),
+            Some(seconds) => format!("{:>12}{:>8}", time(*seconds), ratio(line.library / seconds)),
             None => format!("{:>12}{:>8}", "-", "-"),
         });
     }
@@ -75,6 +75,12 @@ fn time(seconds: f64) -> String {
         _ if seconds < 1.0 => format!("{:.2} ms", 1e3 * seconds),
         _ => format!("{seconds:.2} s"),
     }
+}
+
+/// Three digits or more.
+fn ratio(ratio: f64) -> String {
+    let places = if ratio < 10.0 { 2 } else { usize::from(ratio < 100.0) };
+    format!("{ratio:.places$}")
 }
 
 /// A number with a comma after each three digits.
@@ -99,6 +105,14 @@ mod tests {
         let numbers = [0, 999, 1_000, 65_536, 1_999_999_999];
         let expected = ["0", "999", "1,000", "65,536", "1,999,999,999"];
         assert_eq!(numbers.map(grouped), expected);
+    }
+
+    #[test]
+    fn ratios_have_three_digits_or_more() {
+        assert_eq!(
+            [0.031, 2.5, 13.31, 1_904_207.4].map(ratio),
+            ["0.03", "2.50", "13.3", "1904207"]
+        );
     }
 
     #[test]

@@ -8,8 +8,9 @@ How fast the proved library is, beside a strong peer, the second program and a f
 
     cargo run --release -- [OPTION].. [BOARD]..
 
-BOARD        week shop gp03 sums large booleans over1024 over16 terms literals bounds cube; all of these if none is named
-ceiling      a board with a list of 8 GB: about a minute, and 9 GB of memory
+BOARD        week shop gp03 sums large booleans over1024 over16 terms literals bounds cube;
+             all of these if none is named
+ceiling      a board with a list of 8 GB: takes about two minutes
 worst        terms literals bounds cube ceiling
 --valgrind   counts the instructions of Compile by valgrind, where the machine's counter is closed
 --earlier FILE
@@ -17,8 +18,8 @@ worst        terms literals bounds cube ceiling
              cc -shared -o FILE -Wl,--whole-archive EARLIER/libbasmuthar.a -Wl,--no-whole-archive
 --once BOARD OPERATION [PROGRAM]
              does one operation (size compile decode judge image) once and measures nothing, so that another program
-             can: perf stat, or valgrind --tool=callgrind --toggle-collect=basmuthar_compile;
-             PROGRAM is library (if none is named), strong, second or earlier
+             can: valgrind --tool=callgrind --toggle-collect=basmuthar_compile, or perf stat, which counts what is
+             made ready, too; PROGRAM is library (if none is named), strong, second or earlier
 --help       this text
 ";
 
