@@ -22,7 +22,7 @@ const SHORTEST_RUN: f64 = 0.001;
 const WARM_RUNS: u32 = 3;
 
 /// The candidates take turns so many times, so that a slow hour of the machine does not meet one of them alone.
-const TURNS: u32 = 3;
+const TURNS: u32 = 5;
 
 /// A candidate whose call takes more seconds has one turn: it waits for better hours by itself.
 const LONG_CALL: f64 = 0.02;

@@ -36,7 +36,8 @@ pub fn goals(all: &[Measured], others: &[&str]) -> String {
             Limit::Nothing,
             compile(&[Kind::Worst, Kind::Huge]),
         ),
-        goal("fill over Compile in %, lists of 1 to 8 MB", least(33.0), values(all, share_of_fill)),
+        goal("fill over Compile in %, lists of 1 to 8 MB", least(33.0), shares(all, None)),
+        goal("the same of strong", Limit::Nothing, shares(all, strong)),
         goal("instructions for each number, wide boards", most(6.0), values(all, instructions)),
         goal("Compile on 1,024 variables over that on 16", most(1.5), many_over_few(all)),
         goal("Decode over earlier", most(0.333), over(all, Operation::Decode, earlier, |_| true)),
@@ -67,10 +68,14 @@ fn values(all: &[Measured], value: impl Fn(&Measured) -> Option<f64>) -> Found {
     all.iter().filter_map(|measured| Some((measured.board.name, value(measured)?))).collect()
 }
 
-fn share_of_fill(measured: &Measured) -> Option<f64> {
-    let line = measured.line(Operation::Compile);
-    let bytes = 4 * measured.numbers();
-    (1_000_000..=8_000_000).contains(&bytes).then_some(100.0 * line.fill? / line.library)
+/// A fill's time over that of Compile, of the library or of another program.
+fn shares(all: &[Measured], other: Option<usize>) -> Found {
+    values(all, |measured| {
+        let line = measured.line(Operation::Compile);
+        let seconds = other.map_or(Some(line.library), |other| line.others[other])?;
+        let is_meant = (1_000_000..=8_000_000).contains(&(4 * measured.numbers()));
+        is_meant.then_some(100.0 * line.fill? / seconds)
+    })
 }
 
 fn instructions(measured: &Measured) -> Option<f64> {

@@ -10,7 +10,7 @@ pub use self::library::Library;
 pub use self::peer::Strong;
 pub use self::second::Second;
 
-/// {0, N, M, K} for Size and Compile, {0, 0, 0, 0} for the others, or {refusal, detail, 0, 0}: as the C interface has it.
+/// As in the C interface: {0, N, M, K} for Size and Compile, {0, 0, 0, 0} for the others, or {refusal, detail, 0, 0}.
 pub type Answer = [u64; 4];
 
 pub const ACCEPTED: Answer = [0; 4];

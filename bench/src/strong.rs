@@ -1,8 +1,8 @@
 //! A strong peer: the five operations as a careful engineer writes them by hand, with every check of 01.
 //!
 //! What makes it fast: first numbers are kept in a table, each rule's bytes are checked once, the last two terms of a
-//! comparison are written as rows whose literals only step, and tuples are counted by a formula. Its Decode does not look
-//! at every clause.
+//! comparison are written as rows whose literals only step, and tuples are counted by a formula. Its Decode does not
+//! look at every clause.
 
 mod board;
 mod counting;

@@ -7,7 +7,7 @@ use crate::programs::Program;
 pub fn explanation(others: &[Box<dyn Program>], instructions: bool) -> String {
     let mut text = "\
 CPU times of one thread for one call. Each program has three warm runs after a call that is not counted, the programs
-take turns three times (once where a call takes over 20 ms), and the least is shown. A ratio is the library's time over
+take turns five times (once where a call takes over 20 ms), and the least is shown. A ratio is the library's time over
 that of the program before it: above 1, the library is slower. \"fill\" is the time of a fill of the same list with
 zeros, warm too, as a share of Compile's.
 strong   a peer written by hand for speed, with all checks of 01; its Decode does not look at every clause
