@@ -16,6 +16,13 @@ impl Counter {
         machine::open().map_or(Counter::Closed, Counter::Machine)
     }
 
+    pub fn valgrind() -> Result<Counter, String> {
+        match Command::new("valgrind").arg("--version").output() {
+            Ok(_) => Ok(Counter::Valgrind),
+            Err(error) => Err(format!("valgrind cannot be run: {error}")),
+        }
+    }
+
     /// The instructions of the library's Compile on a board; `call` runs it here.
     pub fn of_compile(&self, board: &Board, call: impl FnOnce()) -> Option<u64> {
         match self {

@@ -32,10 +32,7 @@ fn fulfil(wish: Wish) -> Result<(), String> {
     others.push(Box::new(Second));
     match &wish.once {
         Some((operation, program)) => do_once(&wish, *operation, program, others),
-        None => {
-            print_table(wish, &others);
-            Ok(())
-        }
+        None => print_table(wish, &others),
     }
 }
 
@@ -56,11 +53,11 @@ fn do_once(
     Ok(())
 }
 
-fn print_table(wish: Wish, others: &[Box<dyn Program>]) {
+fn print_table(wish: Wish, others: &[Box<dyn Program>]) -> Result<(), String> {
     if cfg!(debug_assertions) {
         println!("Built without --release: these times say nothing.");
     }
-    let counter = if wish.valgrind { Counter::Valgrind } else { Counter::machine() };
+    let counter = if wish.valgrind { Counter::valgrind()? } else { Counter::machine() };
     let counts = !matches!(counter, Counter::Closed);
     print!("{}", table::explanation(others, counts));
     print!("{}", table::heading(others, counts));
@@ -72,4 +69,5 @@ fn print_table(wish: Wish, others: &[Box<dyn Program>]) {
     }
     let names: Vec<&str> = others.iter().map(|program| program.name()).collect();
     print!("\nGoals\n{}", goals::goals(&all, &names));
+    Ok(())
 }

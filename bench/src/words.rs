@@ -36,7 +36,7 @@ pub struct Wish {
 
 /// What is wished for, or what is wrong with a word.
 pub fn wish(words: impl IntoIterator<Item = String>) -> Result<Wish, String> {
-    let mut words = words.into_iter().peekable();
+    let mut words = words.into_iter();
     let mut wish = Wish::default();
     let mut names = Vec::new();
     while let Some(word) = words.next() {
