@@ -1,53 +1,62 @@
-//! Takes times: the best of several runs, the runs of both programs and of a memory fill one after another.
+//! CPU time of this thread: what other programs do on the machine does not count.
 
-use std::hint::black_box;
-use std::time::{Duration, Instant};
+use std::ffi::{c_int, c_long};
 
-pub struct Clock {
-    /// How long the runs of one line may take together.
-    together: Duration,
+#[repr(C)]
+struct Time {
+    seconds: i64,
+    nanoseconds: c_long,
 }
 
-/// The best times of a line.
-pub struct Times {
-    pub proved: Duration,
-    pub second: Duration,
-    pub fill: Duration,
+extern "C" {
+    fn clock_gettime(clock: c_int, time: *mut Time) -> c_int;
 }
 
-/// Fewer runs than this say little, however long they take.
-const FEWEST_RUNS: u32 = 3;
+/// CLOCK_THREAD_CPUTIME_ID of Linux.
+const THREAD_CPU_TIME: c_int = 3;
 
-impl Clock {
-    pub fn new(seconds: f64) -> Clock {
-        let together = Duration::from_secs_f64(seconds);
-        Clock { together }
-    }
+/// A run lasts at least so many seconds, by calls one after another, so that reading the clock does not weigh.
+const SHORTEST_RUN: f64 = 0.001;
 
-    /// The best times of two programs and of filling so many bytes.
-    pub fn times<A, B>(
-        &self,
-        mut proved: impl FnMut() -> A,
-        mut second: impl FnMut() -> B,
-        bytes: usize,
-    ) -> Times {
-        let mut memory = vec![0_u8; bytes];
-        let mut times = Times { proved: Duration::MAX, second: Duration::MAX, fill: Duration::MAX };
-        let begin = Instant::now();
-        let mut runs = 0;
-        while runs < FEWEST_RUNS || begin.elapsed() < self.together {
-            times.proved = times.proved.min(time(&mut proved));
-            times.second = times.second.min(time(&mut second));
-            times.fill =
-                times.fill.min(time(|| black_box(&mut memory).fill(black_box(runs as u8))));
-            runs += 1;
+/// After a call that is not counted come so many runs.
+const WARM_RUNS: u32 = 3;
+
+/// The candidates take turns so many times, so that a slow hour of the machine does not meet one of them alone.
+const TURNS: u32 = 5;
+
+/// A candidate whose call takes more seconds has one turn: it waits for better hours by itself.
+const LONG_CALL: f64 = 0.02;
+
+/// Seconds for one call of each candidate: the least of all its runs.
+pub fn least_seconds(candidates: usize, mut call: impl FnMut(usize)) -> Vec<f64> {
+    let mut least = vec![f64::MAX; candidates];
+    for turn in 0..TURNS {
+        for (candidate, least) in least.iter_mut().enumerate() {
+            if turn == 0 || *least < LONG_CALL {
+                *least = least.min(least_of_a_turn(|| call(candidate)));
+            }
         }
-        times
     }
+    least
 }
 
-fn time<A>(mut run: impl FnMut() -> A) -> Duration {
-    let begin = Instant::now();
-    black_box(run());
-    begin.elapsed()
+fn least_of_a_turn(mut call: impl FnMut()) -> f64 {
+    let mut run = |calls: u32| {
+        let begin = now();
+        for _ in 0..calls {
+            call();
+        }
+        (now() - begin) / f64::from(calls)
+    };
+    let warming = run(1).max(1e-9);
+    let calls = (SHORTEST_RUN / warming).ceil() as u32;
+    (0..WARM_RUNS).map(|_| run(calls)).fold(f64::MAX, f64::min)
+}
+
+/// Seconds of CPU time that this thread has had.
+fn now() -> f64 {
+    let mut time = Time { seconds: 0, nanoseconds: 0 };
+    let status = unsafe { clock_gettime(THREAD_CPU_TIME, &mut time) };
+    assert_eq!(status, 0, "the system has a clock of a thread's CPU time");
+    time.seconds as f64 + time.nanoseconds as f64 * 1e-9
 }
