@@ -2,3 +2,4 @@ pub mod Slots
 pub mod Walks
 pub mod Comparisons
 pub mod Rows
+pub mod ByRows
