@@ -6,6 +6,7 @@ use Prim.Native.Nat.{ℕ, suc, _+_}
 use native.Mathlib.Numerals.{add-one}
 use native.Mathlib.Omega.{arith}
 use lib.ListN.{length, length-append}
+use Rattle.definitions.specs.Tools.{All}
 use Rattle.definitions.specs.Result.{done, refused, _>>_, each}
 use Rattle.laws.specs.Search.{seek-append}
 use Rattle.decode.specs.declared.Checked.{Checked}
@@ -16,9 +17,9 @@ Sought i ts (Checked.Fails n) = refused 13 n ≡ each 13 i ts
 Sought i ts (Checked.Hold n) = (done tt ≡ each 13 i ts) × (n ≡ i + length ts)
 
 -- where all of them hold
-pub sought-all : {A : Type 0} (test : A → Bool) → ((a : A) → test a ≡ true) → (i : ℕ) (l : List A) → Sought i (map test l) (Checked.Hold (i + length l))
-sought-all test h i [] = (refl, refl)
-sought-all test h i (a ∷ l) = let k = sought-all test h (suc i) l in rw (h a) (k .0, omega (arith, k .1))
+pub sought-all : {A : Type 0} (test : A → Bool) (i : ℕ) (l : List A) → All (λ a. test a ≡ true) l → Sought i (map test l) (Checked.Hold (i + length l))
+sought-all test i [] h = (refl, refl)
+sought-all test i (a ∷ l) h = let k = sought-all test (suc i) l (h .1) in rw (h .0) (k .0, omega (arith, k .1))
 
 -- of the tests `all`, counted from i, those before number n hold, and `rest` are left
 pub record Goes (i : ℕ) (all : List Bool) (n : ℕ) (rest : List Bool) : Type 0 where

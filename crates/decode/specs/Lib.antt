@@ -6,6 +6,7 @@ pub mod Axioms
 pub mod Values
 pub mod Lines
 pub mod Tails
+pub mod Sums
 pub mod Next
 pub mod Passes
 pub mod Decoded

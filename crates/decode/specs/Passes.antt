@@ -10,7 +10,7 @@ use lib.IntN.{ℤ}
 use Rattle.definitions.specs.Tools.{All}
 use Rattle.definitions.specs.Board.{Board, boundsOf}
 use Rattle.definitions.specs.Result.{done, refused, each}
-use Rattle.definitions.specs.Encoding.{N, axioms, rules, clauses}
+use Rattle.definitions.specs.Encoding.{SatClause, N, axioms, rules, clauses}
 use Rattle.laws.specs.Lists.{append-all}
 use Rattle.laws.specs.Admitted.{Admitted}
 use Rattle.laws.specs.Sizes.{M-is}
@@ -33,6 +33,7 @@ use Rattle.opening.specs.Headers.{Opened, clauses-is, admitted}
 use Rattle.decode.specs.declared.Checked.{Checked}
 use Rattle.decode.specs.Truth.{trueTail, trueClause, tests}
 use Rattle.decode.specs.Goes.{Sought, sought-all, Goes, goes-start, goes-end, goes-part, goes-fails}
+use Rattle.decode.specs.Sums.{Shown}
 use Rattle.decode.specs.Tails.{clauseTest, leadOf, passedBy, walkedBy, passed-most, Tails, tails-tests, tails-numbered}
 
 -- the pieces at the cursor, the tests of their clauses, and the tests of all the rules' clauses
@@ -52,7 +53,7 @@ module _ (B : Board) (model t : List ℕ) where
     pub sound : All (Mentions.Sound B) (ahead B t c)
     pub readable : Sound (contextOf B) t c
 
-  -- in a piece whose lead does not hold, the tuples at `at` are left, and then the pieces at the cursor
+  -- in a piece that is not shown to hold, and whose lead does not, the tuples at `at` are left, and then the pieces at the cursor
   pub record Walks (i n : ℕ) (q : Comparison) (at : At) (c : Cursor) : Type 0 where
     pub goes : Goes i (ruleTests B model) n (map (trueTail model) (toCome q at) ++ testsAt B model t c)
     pub walking : Walking q at
@@ -69,33 +70,34 @@ module _ {B : Board} {model t : List ℕ} {i n : ℕ} {c : Cursor} (h : Passing 
     sound-next = let s = rw e at (h .sound) in (s .0, s .1)
 
     -- its clauses, and then those of the pieces behind it
-    begins-with : (lead : Bool) (q : Comparison) → lead ≡ trueClause B model (leadOf p) → Tails B p q
-        → testsAt B model t c ≡ map (clauseTest model lead) (literalsOf q) ++ testsAt B model t c′
+    abbrev own : List SatClause
+    own = pieceClauses (boundsOf B) p
+
+    begins-with : testsAt B model t c ≡ tests B model own ++ testsAt B model t c′
     unfolding flatten
-    begins-with lead q f d =
-        ap (λ ps. tests B model (clausesIn (boundsOf B) ps)) e
-        ∙ map-append (trueClause B model) (pieceClauses (boundsOf B) p) (clausesIn (boundsOf B) (ahead B t c′))
-        ∙ ap (λ z. z ++ testsAt B model t c′) (tails-tests B model p q d (sound-next .0) ∙ ap (λ b. map (clauseTest model b) (literalsOf q)) (sym f))
+    begins-with = ap (λ ps. tests B model (clausesIn (boundsOf B) ps)) e ∙ map-append (trueClause B model) own (clausesIn (boundsOf B) (ahead B t c′))
 
-    pub passed-room : (lead : Bool) (q : Comparison) → lead ≡ trueClause B model (leadOf p) → Tails B p q → n + passedBy lead q ≤ i + length (ruleTests B model)
-    passed-room lead q f d =
-        let own = map (clauseTest model lead) (literalsOf q) in
-        let most : passedBy lead q ≤ length (literalsOf q) = passed-most lead q in
-        omega (arith, most, h .goes .count, ap length (begins-with lead q f d), length-append own (testsAt B model t c′), length-map (literalsOf q) (clauseTest model lead))
+    module _ (r : Bool) (q : Comparison) (f : Shown B model p r) (d : Tails B p q) where
+      how-many : length own ≡ length (literalsOf q)
+      how-many =
+          sym (length-map own (trueClause B model)) ∙ ap length (tails-tests B model p q d (sound-next .0)) ∙ length-map (literalsOf q) (clauseTest model (trueClause B model (leadOf p)))
 
-    -- where its lead holds, none of its clauses is walked
-    pub walks-start : (lead : Bool) (q : Comparison) (m : ℕ) (at : At) → length model ≡ N B → lead ≡ trueClause B model (leadOf p) → Tails B p q
-        → m ≡ passedBy lead q → Walking q at × (toCome q at ≡ walkedBy lead q) → Walks B model t i (n + m) q at c′
-    walks-start true q m at l f d k w = record {
-      goes = rw (k, w .1) (goes-part (h .goes) (map (clauseTest model true) (literalsOf q)) (testsAt B model t c′) (begins-with true q f d) (Checked.Hold (n + length (literalsOf q))) (sought-all (clauseTest model true) (λ z. refl) n (literalsOf q)) refl);
-      walking = w .0;
-      numbered = rw (w .1) tt;
-    }
-    walks-start false q m at l f d k w = record {
-      goes = rw (k, add-zero n, w .1) (rw (begins-with false q f d) at (h .goes));
-      walking = w .0;
-      numbered = rw (w .1) (tails-numbered B model p q d (sound-next .0) l);
-    }
+      pub passed-room : n + passedBy r q ≤ i + length (ruleTests B model)
+      passed-room =
+          omega (arith, passed-most r q, how-many, h .goes .count, ap length begins-with, length-append (tests B model own) (testsAt B model t c′), length-map own (trueClause B model))
+
+    -- where it is shown to hold, none of its clauses is walked
+    pub walks-start : (r : Bool) (q : Comparison) (m : ℕ) (at : At) → length model ≡ N B → Shown B model p r → Tails B p q
+        → m ≡ passedBy r q → Walking q at × (toCome q at ≡ walkedBy r q) → Walks B model t i (n + m) q at c′
+    walks-start true q m at l f d k w =
+        let g = goes-part (h .goes) (tests B model own) (testsAt B model t c′) begins-with (Checked.Hold (n + length own)) (sought-all (trueClause B model) n own (f .held refl)) refl in
+        record { goes = rw (k, w .1, ← how-many true q f d) g; walking = w .0; numbered = rw (w .1) tt }
+    walks-start false q m at l f d k w =
+        let tails = tails-tests B model p q d (sound-next .0) ∙ ap (λ b. map (clauseTest model b) (literalsOf q)) (f .left refl) in record {
+          goes = rw (k, add-zero n, w .1) (rw (begins-with, tails) at (h .goes));
+          walking = w .0;
+          numbered = rw (w .1) (tails-numbered B model p q d (sound-next .0) l);
+        }
 
 module _ {B : Board} {model t : List ℕ} {i n : ℕ} {q : Comparison} {at : At} {c : Cursor} (h : Walks B model t i n q at c) where
   pub walks-end : at ≡ At.End → All (Mentions.Sound B) (ahead B t c) → Sound (contextOf B) t c → Passing B model t i n c

@@ -46,16 +46,16 @@ abbrev pub leadOf : Piece → SatClause
 leadOf (line c) = c
 leadOf (under lead q) = lead
 
--- of a piece's clauses: how many its lead makes hold, and those that are left to walk
+-- of a piece's clauses, which may be known to hold: how many need no look, and those that are left to walk
 abbrev pub passedBy : Bool → Comparison → ℕ
-passedBy lead q = if lead then length (literalsOf q) else 0
+passedBy held q = if held then length (literalsOf q) else 0
 
-pub passed-most : (lead : Bool) (q : Comparison) → passedBy lead q ≤ length (literalsOf q)
+pub passed-most : (held : Bool) (q : Comparison) → passedBy held q ≤ length (literalsOf q)
 passed-most true q = omega arith
 passed-most false q = omega arith
 
 abbrev pub walkedBy : Bool → Comparison → List (List ℤ)
-walkedBy lead q = if lead then [] else literalsOf q
+walkedBy held q = if held then [] else literalsOf q
 
 -- what stands behind the lead are the literals of the tuples of c
 pub record Tails (B : Board) (p : Piece) (c : Comparison) : Type 0 where

@@ -1,6 +1,7 @@
 // The clauses of a piece of the rules: each is the piece's lead and, behind it, the literals of a tuple.
 use crate::lines::line_holds;
 use crate::truth::holds;
+use judge::literals::compares;
 use lent::is_on;
 use opening::Header;
 use rules::Piece;
@@ -28,10 +29,11 @@ ghost use Rattle.walk.specs.Comparisons.{FairComparison, Walking, overLeast, pr
 ghost use Rattle.slots.specs.Variables.{FirstsOf};
 ghost use Rattle.decode.specs.Given.{Given};
 ghost use Rattle.decode.specs.Truth.{trueClause, trueTail};
+ghost use Rattle.decode.specs.Sums.{Told, ValuesIn, Shown};
 ghost use Rattle.decode.specs.Tails.{leadOf, passedBy, walkedBy, Tails, Single, TailsOf};
 
 // Whether the piece's lead holds: of a line, some literal; of a comparison, its negated selector.
-pub fn lead_holds(
+fn lead_holds(
     bytes: &[u8],
     firsts: &[u32],
     rules: &[u8],
@@ -69,6 +71,38 @@ pub fn lead_holds(
             let first = first_in(firsts, header.ints) as usize;
             !is_on(model, first + selector)
         }
+    }
+}
+
+// Whether all clauses of the piece hold, told without a look at them: its lead holds, or its comparison does at the values that the
+// model stands for (000, Proposition 1).
+pub fn piece_holds(
+    bytes: &[u8],
+    firsts: &[u32],
+    values: &[i32],
+    rules: &[u8],
+    model: &[u8],
+    header: Header,
+    piece: Piece,
+) -> bool
+    requires { ⌜ Given (now bytes) (now model) header × FirstsOf (boardOf (now bytes)) (now firsts) × Told (boardOf (now bytes)) (now model) × ValuesIn (boardOf (now bytes)) (now model) (now values) × Held (contextOf (boardOf (now bytes))) (now rules) piece × Sound (boardOf (now bytes)) (saidPiece (contextOf (boardOf (now bytes))) (now rules) piece) ⌝ }
+    ensures { λ r. ⌜ Shown (boardOf (now (bytes .entry))) (now (model .entry)) (saidPiece (contextOf (boardOf (now (bytes .entry)))) (now (rules .entry)) piece) r ⌝ }
+{
+    if lead_holds(bytes, firsts, rules, model, header, piece) {
+        return true;
+    }
+    match piece {
+        Piece::Line {
+            place: _,
+            literals: _,
+            selector: _,
+        } => false,
+        Piece::Lone { place, constant } => compares(rules, values, place, constant),
+        Piece::Led {
+            selector: _,
+            place,
+            constant,
+        } => compares(rules, values, place, constant),
     }
 }
 
@@ -120,23 +154,23 @@ pub fn tails_of(bytes: &[u8], firsts: &[u32], rules: &[u8], piece: Piece) -> Com
     }
 }
 
-// Of a piece's clauses, those that its lead makes hold: all where the lead holds, else none.
-pub fn passed(lead: bool, tails: Comparison) -> usize
+// How many of a piece's clauses need no look: all where they are known to hold, else none.
+pub fn passed(held: bool, tails: Comparison) -> usize
     requires { ⌜ FairComparison tails × (pos 0 ≤ℤ overLeast tails) ⌝ }
-    ensures { λ r. ⌜ r ≡ passedBy lead tails ⌝ }
+    ensures { λ r. ⌜ r ≡ passedBy held tails ⌝ }
 {
-    if lead {
+    if held {
         return tuples_of(tails) as usize;
     }
     0
 }
 
-// Where the walk over a piece's tuples begins: where the lead holds, there is nothing to walk.
-pub fn walked(lead: bool, tails: Comparison) -> At
+// Where the walk over the piece's tuples begins: where they are known to hold, at its end.
+pub fn walked(held: bool, tails: Comparison) -> At
     requires { ⌜ FairComparison tails ⌝ }
-    ensures { λ r. ⌜ Walking tails r × (toCome tails r ≡ walkedBy lead tails) ⌝ }
+    ensures { λ r. ⌜ Walking tails r × (toCome tails r ≡ walkedBy held tails) ⌝ }
 {
-    if lead {
+    if held {
         return At::End;
     }
     first(tails)

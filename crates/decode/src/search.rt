@@ -2,11 +2,12 @@
 use crate::Ahead;
 use crate::Checked;
 use crate::axioms::search_axioms;
-use crate::pieces::lead_holds;
 use crate::pieces::passed;
+use crate::pieces::piece_holds;
 use crate::pieces::tails_of;
 use crate::pieces::walked;
 use crate::rows::search_row;
+use crate::values::write_values;
 use lent::Found;
 use opening::Header;
 use opening::context_of;
@@ -32,8 +33,12 @@ ghost use Rattle.rules.specs.Cursors.{Sound};
 ghost use Rattle.slots.specs.Variables.{FirstsOf};
 ghost use Rattle.decode.specs.Given.{Given};
 ghost use Rattle.decode.specs.Truth.{tests};
+ghost use Rattle.decode.specs.Sums.{Told, ValuesIn};
 ghost use Rattle.decode.specs.Next.{Came};
 ghost use Rattle.decode.specs.Passes.{ruleTests};
+
+// The most integer variables that a record has.
+const VALUES: usize = 1024;
 
 // The next piece at or behind the cursor.
 fn next_piece(rules: &[u8], known: Context, cursor: Cursor) -> Ahead
@@ -56,16 +61,18 @@ fn next_piece(rules: &[u8], known: Context, cursor: Cursor) -> Ahead
     }
 }
 
-// The clauses of the rules, which are counted from `from` on: piece by piece, and in each piece its tuples, row by row.
+// The clauses of the rules, which are counted from `from` on: piece by piece, and in a piece that is not known to hold its tuples,
+// row by row. The axioms hold, and `values` are what they tell.
 fn search_rules(
     bytes: &[u8],
     firsts: &[u32],
+    values: &[i32],
     rules: &[u8],
     model: &[u8],
     header: Header,
     from: usize,
 ) -> Found
-    requires { ⌜ Given (now bytes) (now model) header × FirstsOf (boardOf (now bytes)) (now firsts) × (now rules ≡ drop (tableEnd (boardOf (now bytes))) (now bytes)) × (from + length (ruleTests (boardOf (now bytes)) (now model)) < 9223372036854775808) ⌝ }
+    requires { ⌜ Given (now bytes) (now model) header × FirstsOf (boardOf (now bytes)) (now firsts) × Told (boardOf (now bytes)) (now model) × ValuesIn (boardOf (now bytes)) (now model) (now values) × (now rules ≡ drop (tableEnd (boardOf (now bytes))) (now bytes)) × (from + length (ruleTests (boardOf (now bytes)) (now model)) < 9223372036854775808) ⌝ }
     ensures { λ r. ⌜ saidFound 13 r ≡ each 13 from (ruleTests (boardOf (now (bytes .entry))) (now (model .entry))) ⌝ }
 {
     let known = context_of(header);
@@ -75,10 +82,10 @@ fn search_rules(
         let Ahead::Met(piece, behind) = next_piece(rules, known, cursor) else {
             break 'search Found::Nothing;
         };
-        let lead = lead_holds(bytes, firsts, rules, model, header, piece);
+        let held = piece_holds(bytes, firsts, values, rules, model, header, piece);
         let tails = tails_of(bytes, firsts, rules, piece);
-        number += passed(lead, tails);
-        let mut here = walked(lead, tails);
+        number += passed(held, tails);
+        let mut here = walked(held, tails);
         loop {
             let At::Tuple(tuple) = here else {
                 break;
@@ -110,7 +117,17 @@ pub fn search_clauses(bytes: &[u8], model: &[u8], header: Header) -> Found
             let place = header.rules;
             let mut firsts = [0u32; FIRSTS];
             put_firsts(bytes, header.bools, header.ints, &mut firsts);
-            search_rules(bytes, &firsts, &bytes[place..], model, header, number)
+            let mut values = [0i32; VALUES];
+            write_values(bytes, model, header, &mut values);
+            search_rules(
+                bytes,
+                &firsts,
+                &values,
+                &bytes[place..],
+                model,
+                header,
+                number,
+            )
         }
     }
 }

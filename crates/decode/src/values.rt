@@ -8,6 +8,7 @@ ghost use Prim.Native.Nat.{_+_, _≤_, _<_};
 ghost use lib.ListN.{length, take};
 ghost use Rattle.definitions.specs.Meaning.{valuesOf};
 ghost use Rattle.laws.specs.Boards.{boardOf};
+ghost use Rattle.laws.specs.Written.{written};
 ghost use Rattle.laws.specs.Admitted.{GoodBounds};
 ghost use Rattle.slots.specs.Variables.{boundsRead};
 ghost use Rattle.definitions.specs.Encoding.{width};
@@ -31,10 +32,10 @@ fn value_of(model: &[u8], first: usize, bounds: slots::Bounds) -> i32
     bounds.upper
 }
 
-// The value of each variable in turn.
+// The value of each variable in turn, over the start of a list.
 pub fn write_values(bytes: &[u8], model: &[u8], header: Header, values: &mut [i32])
-    requires { ⌜ Given (now bytes) (now model) header × (length (now values) ≡ header .ints) ⌝ }
-    ensures { λ _. ⌜ now (values .exit) ≡ valuesOf (boardOf (now (bytes .entry))) (now (model .entry)) ⌝ }
+    requires { ⌜ Given (now bytes) (now model) header × (header .ints ≤ length (now values)) ⌝ }
+    ensures { λ _. ⌜ now (values .exit) ≡ written (valuesOf (boardOf (now (bytes .entry))) (now (model .entry))) (now (values .entry)) ⌝ }
 {
     let mut x: usize = 0;
     let mut first = header.bools + 1;

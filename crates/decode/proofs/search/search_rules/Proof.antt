@@ -19,16 +19,16 @@ use Rattle.decode.proofs.search.search_rules.Statement.{statement}
 use Rattle.decode.proofs.search.search_rules.Tie as tie
 
 abbrev Inv-loop : tie.InvT-loop
-Inv-loop bytes firsts rules model header from known number₀ behind lead tails here₀ number here = Walks (boardOf bytes) model rules from number tails here behind
+Inv-loop bytes firsts values rules model header from known number₀ behind held tails here₀ number here = Walks (boardOf bytes) model rules from number tails here behind
 
 abbrev μ-loop : tie.MeasureT-loop
-μ-loop bytes firsts rules model header from known number₀ behind lead tails here₀ number here = length (toCome tails here)
+μ-loop bytes firsts values rules model header from known number₀ behind held tails here₀ number here = length (toCome tails here)
 
 abbrev Inv-search : tie.InvT-search
-Inv-search bytes firsts rules model header from known number₀ cursor₀ number cursor = Passing (boardOf bytes) model rules from number cursor
+Inv-search bytes firsts values rules model header from known number₀ cursor₀ number cursor = Passing (boardOf bytes) model rules from number cursor
 
 abbrev μ-search : tie.MeasureT-search
-μ-search bytes firsts rules model header from known number₀ cursor₀ number cursor = todo (reread.contextOf (boardOf bytes)) rules cursor
+μ-search bytes firsts values rules model header from known number₀ cursor₀ number cursor = todo (reread.contextOf (boardOf bytes)) rules cursor
 
 module _ (s : tie.Start Inv-loop μ-loop Inv-search μ-search) where
   abbrev B : Board
@@ -74,7 +74,7 @@ start-requires : tie.Need-start-requires Inv-loop μ-loop Inv-search μ-search
 start-requires c κs = search needs
 
 search-holds : tie.Need-search-holds Inv-loop μ-loop Inv-search μ-search
-search-holds c = let s = c .before .before .before .before .before .before in rw (c .start .ensures, s .pre .2) (passing-start (s .pre .0 .opened) (s .args .model .now) (s .args .from))
+search-holds c = let s = c .before .before .before .before .before .before in rw (c .start .ensures, s .pre .4) (passing-start (s .pre .0 .opened) (s .args .model .now) (s .args .from))
 
 next-piece-requires : tie.Need-next-piece-requires Inv-loop μ-loop Inv-search μ-search
 next-piece-requires c κs = rw (c .before .before .context-of .ensures, context-is (c .before .before .before .before .before .before .before .pre .0 .opened)) (c .search .inv .readable)
@@ -85,8 +85,8 @@ enum-known-piece c = search needs
 enum-told : tie.Need-enum-told Inv-loop μ-loop Inv-search μ-search
 enum-told c = search needs
 
-lead-holds-requires : tie.Need-lead-holds-requires Inv-loop μ-loop Inv-search μ-search
-lead-holds-requires c κs = let p = c .before in let s = started p in (s .pre .0, s .pre .1, met p .held, sound-next (passing p) _ (met p .ahead) .0)
+piece-holds-requires : tie.Need-piece-holds-requires Inv-loop μ-loop Inv-search μ-search
+piece-holds-requires c κs = let p = c .before in let s = started p in (s .pre .0, s .pre .1, s .pre .2, s .pre .3, met p .held, sound-next (passing p) _ (met p .ahead) .0)
 
 tails-of-requires : tie.Need-tails-of-requires Inv-loop μ-loop Inv-search μ-search
 tails-of-requires c κs = let p = c .before .before in let s = started p in (s .pre .0 .opened .opens, s .pre .1, met p .held)
@@ -95,13 +95,13 @@ passed-requires : tie.Need-passed-requires Inv-loop μ-loop Inv-search μ-search
 passed-requires c κs = (c .tails-of .ensures .fair, c .tails-of .ensures .reached)
 
 add-number : tie.Need-add-number Inv-loop μ-loop Inv-search μ-search
-add-number c = let p = c .before .before .before .before in omega (arith, c .passed .ensures, passed-room (passing p) _ (met p .ahead) _ _ (c .before .before .lead-holds .ensures) (c .before .tails-of .ensures), started p .pre .3)
+add-number c = let p = c .before .before .before .before in omega (arith, c .passed .ensures, passed-room (passing p) _ (met p .ahead) _ _ (c .before .before .piece-holds .ensures) (c .before .tails-of .ensures), started p .pre .5)
 
 walked-requires : tie.Need-walked-requires Inv-loop μ-loop Inv-search μ-search
 walked-requires c κs = c .before .tails-of .ensures .fair
 
 loop-holds : tie.Need-loop-holds Inv-loop μ-loop Inv-search μ-search
-loop-holds c = let p = c .before .before .before .before .before in walks-start (passing p) _ (met p .ahead) _ _ _ _ (started p .pre .0 .long) (c .before .before .before .lead-holds .ensures) (c .before .before .tails-of .ensures) (c .before .passed .ensures) (c .walked .ensures)
+loop-holds c = let p = c .before .before .before .before .before in walks-start (passing p) _ (met p .ahead) _ _ _ _ (started p .pre .0 .long) (c .before .before .before .piece-holds .ensures) (c .before .before .tails-of .ensures) (c .before .passed .ensures) (c .walked .ensures)
 
 enum-known-here : tie.Need-enum-known-here Inv-loop μ-loop Inv-search μ-search
 enum-known-here c = search needs
@@ -113,7 +113,7 @@ after-row-requires : tie.Need-after-row-requires Inv-loop μ-loop Inv-search μ-
 after-row-requires c κs = let h = c .before in walking-fine _ _ (walks-at (walks h) (h .here .given .1))
 
 search-row-requires : tie.Need-search-row-requires Inv-loop μ-loop Inv-search μ-search
-search-row-requires c κs = let h = c .before .before in let w = walks h in let s = started (piece h) in (h .before .before .before .before .before .tails-of .ensures .fair, walks-at w (h .here .given .1), walks-numbered w (h .here .given .1) _ (c .after-row .ensures), short (s .pre .0), omega (arith, walks-room w (h .here .given .1) _ (c .after-row .ensures), s .pre .3))
+search-row-requires c κs = let h = c .before .before in let w = walks h in let s = started (piece h) in (h .before .before .before .before .before .tails-of .ensures .fair, walks-at w (h .here .given .1), walks-numbered w (h .here .given .1) _ (c .after-row .ensures), short (s .pre .0), omega (arith, walks-room w (h .here .given .1) _ (c .after-row .ensures), s .pre .5))
 
 enum-known-failing : tie.Need-enum-known-failing Inv-loop μ-loop Inv-search μ-search
 enum-known-failing c = search needs
@@ -153,7 +153,7 @@ search-rules-spec =
     next-piece-requires
     enum-known-piece
     enum-told
-    lead-holds-requires
+    piece-holds-requires
     tails-of-requires
     passed-requires
     add-number

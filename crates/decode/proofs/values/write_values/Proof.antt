@@ -15,7 +15,7 @@ use Rattle.definitions.specs.Encoding.{width}
 use Rattle.definitions.specs.Encoding as Encoding
 use Rattle.definitions.specs.Meaning.{valuesOf}
 use Rattle.laws.specs.Boards.{boardOf}
-use Rattle.laws.specs.Written.{written, written-none, written-take, written-all}
+use Rattle.laws.specs.Written.{written, written-none, written-take}
 use Rattle.slots.specs.Variables.{boundsRead, bounds-same, first-none, first-more}
 use Rattle.opening.specs.Headers.{ints-is, bools-is, counts-small}
 use Rattle.decode.specs.Given.{short, inside, ordered, within}
@@ -37,7 +37,7 @@ module _ (c : tie.Start Inv-loop μ-loop) where
   abbrev all : List ℤ
   all = valuesOf B (c .args .model .now)
 
-  how-many : (length all ≡ c .args .header .ints) × (length all ≡ length (c .args .values .now))
+  how-many : (length all ≡ c .args .header .ints) × (length all ≤ length (c .args .values .now))
   how-many = omega (arith, values-length B (c .args .model .now), ints-is (c .pre .0 .opened), c .pre .1)
 
 -- the bounds of variable x were read
@@ -109,7 +109,7 @@ returns : tie.Need-returns Inv-loop μ-loop
 returns c =
     let s = c .before .before .before .before .before .before in
     let e : take (c .before .before .loop .x) (all s) ≡ all s = take-all (c .before .before .loop .x) (all s) (omega (arith, how-many s)) in
-    c .before .before .loop .inv .3 ∙ ap (λ z. written z (s .args .values .now)) e ∙ written-all (all s) (s .args .values .now) (how-many s .1)
+    c .before .before .loop .inv .3 ∙ ap (λ z. written z (s .args .values .now)) e
 
 pub write-values-spec : {M : Type 1} → statement M
 write-values-spec =
