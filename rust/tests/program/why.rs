@@ -1,76 +1,288 @@
-//! `board why`: the lines that are at odds, by real solvers, and what ends it without them.
+//! `board why`: the lines that are at odds, by real solvers, and what it tells where something ends it early.
 
 use crate::fake::{model, yes, Fake, Run, NO};
 use crate::run::{has, shell};
+use std::fs;
+use std::time::{Duration, Instant};
 
-fn asked_why(script: &str) -> Run {
+/// The number x ends at 7, so its rule cannot be kept, and becomes a clause without literals.
+const AT_ODDS: &str = "number x : 0 .. 7\nchoice quiet\nx >= 8\nquiet or not quiet\n";
+
+/// Two clashes: three jobs that do not fit on the kiln, and two bookings on the loom.
+const TWO_CLASHES: &str = "\
+machine kiln
+machine loom
+job a on kiln takes 4 : 0 .. 10
+job b on kiln takes 4 : 0 .. 10
+job c on kiln takes 4 : 0 .. 10
+job ana on loom takes 2 : 0 .. 6
+job ben on loom takes 2 : 0 .. 6
+ana = 3  # Ana's booking
+ben = 4  # Ben's booking
+closing done
+";
+
+fn asked_why(board: &str, words: &[&str], script: &str) -> Run {
     let fake = Fake::new(script);
-    fake.ended(fake.asking_why(&["sh", &fake.path("solver")]))
+    fs::write(fake.path("x.board"), board).unwrap();
+    fake.ended(fake.asking_why(words, &["sh", &fake.path("solver")]))
 }
 
-/// A script that does this where the board's one rule is among the clauses, and goes on where it is not.
-fn with_the_rule(script: &str) -> String {
-    format!("[ \"$(head -n 1 \"$1\")\" = 'p cnf 10 11' ] && {{ {script}; }}; ")
+/// A script that says no where both rules are among the clauses, and at any later question does something else.
+fn no_then(script: &str) -> String {
+    format!("[ \"$(head -n 1 \"$1\")\" = 'p cnf 10 12' ] && {{ {NO}; }}; {script}")
+}
+
+/// A script that says no where the rule is there that cannot be kept.
+fn truth() -> String {
+    format!("grep -qx 0 \"$1\" && {{ {NO}; }}; {}", yes(0))
+}
+
+/// Asks why a board of this text has no solution, by every solver that is at hand.
+fn by_real_solvers(board: &str, look: impl Fn(&str)) {
+    let fake = Fake::new("");
+    fs::write(fake.path("x.board"), board).unwrap();
+    for solver in ["cadical", "minisat"] {
+        if has(solver) {
+            let run = fake.ended(fake.asking_why(&[], &[solver]));
+            assert_eq!(run.status, Some(0), "{solver}: {}", run.complaint);
+            look(&run.printed);
+        }
+    }
+}
+
+/// The numbers of the lines that are told, in their order.
+fn lines_of(printed: &str) -> Vec<usize> {
+    let told = printed.lines().filter_map(|line| line.strip_prefix("line "));
+    told.map(|line| line[..line.find([':', '?']).unwrap()].parse().unwrap()).collect()
 }
 
 #[test]
-fn real_solvers_find_the_lines_that_are_at_odds() {
+fn jobs_are_told_then_machines_then_closed_hours() {
     for solver in ["cadical -q", "minisat"] {
         if has(solver.split(' ').next().unwrap()) {
             let (words, status) =
                 shell(&format!("board why boards/too_few_nights.board -- {solver}"));
-            let (_, found) = words.split_once("These 5 lines cannot be kept together").unwrap();
-            let lines: Vec<&str> =
-                found.lines().skip(1).map(|line| &line[..line.find(':').unwrap()]).collect();
-            assert_eq!(lines, ["line 5", "line 7", "line 8", "line 9", "line 10"], "{words}");
+            assert_eq!(lines_of(&words), [7, 8, 9, 10, 4, 5], "{words}");
             assert_eq!(status, Some(0));
         }
     }
 }
 
 #[test]
-fn one_line_may_be_at_odds_with_the_bounds_alone() {
-    let run = asked_why(&(with_the_rule(NO) + &yes(0)));
-    let expected = "# a solution with all lines? no\n# a solution without line 3? yes\n\
-        This line cannot be kept by itself:\nline 3: x >= 0\n";
-    assert_eq!((run.printed.as_str(), run.complaint.as_str(), run.status), (expected, "", Some(0)));
+fn bookings_are_told_first_and_the_rule_that_was_made_last() {
+    by_real_solvers(TWO_CLASHES, |printed| {
+        let expected = "\
+These 5 lines cannot be kept together; without any one of them, the others can:
+line 8: ana = 3  # Ana's booking
+line 9: ben = 4  # Ben's booking
+line 6: job ana on loom takes 2 : 0 .. 6
+line 7: job ben on loom takes 2 : 0 .. 6
+line 2: machine loom
+What `board` makes of them:
+    ana + 2 <= ben or ben + 2 <= ana  # one at a time on loom
+";
+        assert_eq!(printed, expected);
+    });
+}
+
+#[test]
+fn an_overfull_machine_is_told_with_the_hours_that_are_wanted_and_those_that_there_are() {
+    let board = TWO_CLASHES.replace("ben = 4", "ben <= 4");
+    by_real_solvers(&board, |printed| {
+        assert_eq!(lines_of(printed), [3, 4, 5, 1], "{printed}");
+        let hint = "kiln is overfull: 3 jobs take 12; from 0 until 10 there are 10.\n";
+        assert!(printed.ends_with(hint), "{printed}");
+    });
+}
+
+#[test]
+fn a_machine_that_is_full_only_by_closed_hours_is_not_called_overfull() {
+    let (words, _) = shell("board why boards/too_few_nights.board -- cadical -q");
+    let hint =
+        "kiln: 4 jobs take 59 h; from Mon 08:00 until Thu 12:00 there are 76 h, 40 h of them open.\n";
+    assert!(!has("cadical") || words.ends_with(hint), "{words}");
+}
+
+/// Leaves a line's rule out of a text; its place stays.
+fn without(board: &str, line: usize) -> String {
+    let kept =
+        board.lines().enumerate().map(|(index, text)| if index + 1 == line { "" } else { text });
+    kept.map(|text| format!("{text}\n")).collect()
+}
+
+#[test]
+fn of_the_rules_that_are_told_none_can_be_left_out_and_no_other_is_needed() {
+    let board = "number a, b, c, d : 0 .. 9\nchoice s\na + 3 <= b\nb + 3 <= c\nc + 3 <= d or s\nd + 1 <= a or s\n\
+        not s or c <= 4\nb >= 2\nc + 4 <= d\nd <= 8\n";
+    by_real_solvers(board, |printed| {
+        let told = lines_of(printed);
+        let others = (3..=10).filter(|line| !told.contains(line));
+        let alone = others.fold(board.to_string(), |text, line| without(&text, line));
+        assert_eq!(placed(&alone), Some(3), "{printed}");
+        for line in told.into_iter().filter(|line| *line > 2) {
+            assert_eq!(placed(&without(&alone, line)), Some(0), "line {line}: {printed}");
+        }
+    });
+}
+
+/// The status of `board place` on a text.
+fn placed(board: &str) -> Option<i32> {
+    let fake = Fake::new("");
+    fs::write(fake.path("x.board"), board).unwrap();
+    let solver = if has("cadical") { "cadical" } else { "minisat" };
+    fake.ended(fake.placing(&[solver])).status
+}
+
+#[test]
+fn a_rule_may_be_at_odds_with_the_bounds_of_a_number() {
+    let run = asked_why(AT_ODDS, &[], &truth());
+    let expected =
+        "These 2 lines cannot be kept together; without any one of them, the others can:\n\
+        line 3: x >= 8\nline 1: number x : 0 .. 7\n";
+    assert_eq!((run.complaint.as_str(), run.printed.as_str(), run.status), ("", expected, Some(0)));
+}
+
+#[test]
+fn a_rule_may_be_at_odds_with_itself() {
+    by_real_solvers("choice quiet\nquiet\nnever\n", |printed| {
+        assert_eq!(printed, "This line cannot be kept by itself:\nline 3: never\n");
+    });
 }
 
 #[test]
 fn where_there_is_a_solution_there_is_nothing_to_find() {
-    let run = asked_why(&yes(3));
-    assert_eq!((run.printed.as_str(), run.status), ("# a solution with all lines? yes\n", Some(1)));
+    let run = asked_why("number x : 0 .. 7\nchoice quiet\nx >= 0\n", &[], &yes(3));
+    assert_eq!((run.printed.as_str(), run.status), ("", Some(1)));
     assert!(run.complaint.contains("has a solution; `board place` shows one"), "{}", run.complaint);
 }
 
 #[test]
 fn a_solver_that_says_no_without_any_rule_is_not_believed() {
-    let run = asked_why(NO);
+    let run = asked_why(AT_ODDS, &[], NO);
     assert!(run.complaint.contains("a board without rules has a solution"), "{}", run.complaint);
-    assert_eq!(run.status, Some(5));
+    assert_eq!((run.printed.as_str(), run.status), ("", Some(5)));
 }
 
 #[test]
-fn a_question_without_an_answer_ends_it() {
-    let wrong = format!("echo s SATISFIABLE; echo v {}", model(3).replace(" 10 ", " -10 "));
+fn a_solver_that_says_no_and_yes_in_turn_is_not_believed() {
+    let in_turn =
+        format!("echo >>\"$0.count\"; [ $(($(wc -l <\"$0.count\") % 2)) = 1 ] && {{ {NO}; }}; ");
+    let board = "number x : 0 .. 7\nchoice quiet\nx >= 0\nx <= 7\n";
+    let run = asked_why(board, &[], &(in_turn + &yes(3)));
+    let words = "? The solver sh contradicts itself: it shows a solution of lines to which it said no before.\n";
+    assert!(
+        run.complaint.starts_with(&format!("a solution without line 1{words}")),
+        "{}",
+        run.complaint
+    );
+    assert_eq!((run.printed.as_str(), run.status), ("", Some(5)));
+}
+
+#[test]
+fn a_question_without_an_answer_ends_it_with_what_there_is_so_far() {
     let rows = [
         ("echo s UNKNOWN", 4, "says that it gave up"),
+        ("echo what a week", 4, "has a reply that is none"),
         ("exit 3", 5, "ended with the error status 3"),
-        (&wrong, 6, "its model is refused"),
+        ("kill -9 $$", 5, "was killed by signal 9"),
+        ("kill -INT $PPID; kill -INT $$", 5, "was interrupted"),
     ];
     for (script, status, words) in rows {
-        let run = asked_why(&(with_the_rule(NO) + script));
+        let run = asked_why(AT_ODDS, &[], &no_then(script));
+        let asked = "a solution without line 1? The solver sh ";
         assert!(
-            run.complaint.starts_with("a solution without line 3? The solver sh "),
+            run.complaint.starts_with(asked) && run.complaint.contains(words),
             "{}",
             run.complaint
         );
-        assert!(run.complaint.contains(words), "{}", run.complaint);
-        assert!(
-            run.printed.ends_with("# a solution without line 3? no answer\n"),
-            "{}",
-            run.printed
-        );
-        assert_eq!(run.status, Some(status), "{script}");
+        let so_far = "These 3 lines cannot be kept together. Maybe fewer of them cannot: those with `?` may not be \
+            needed.\nline 3?: x >= 8\nline 4?: quiet or not quiet\nline 1?: number x : 0 .. 7\n";
+        assert_eq!((run.printed.as_str(), run.status), (so_far, Some(status)), "{script}");
+    }
+}
+
+#[test]
+fn a_yes_that_its_model_does_not_bear_out_ends_it_with_nothing() {
+    let wrong = format!("echo s SATISFIABLE; echo v {}", model(3).replace(" 10 ", " -10 "));
+    let run = asked_why(AT_ODDS, &[], &no_then(&wrong));
+    assert!(run.complaint.contains("its model is refused"), "{}", run.complaint);
+    assert_eq!((run.printed.as_str(), run.status), ("", Some(6)));
+}
+
+#[test]
+fn a_solver_that_is_missing_is_5() {
+    let fake = Fake::new("");
+    let run = fake.ended(fake.asking_why(&[], &["no-such-solver"]));
+    let words = "a solution with all lines? The solver no-such-solver cannot be started";
+    assert!(run.complaint.starts_with(words), "{}", run.complaint);
+    assert_eq!((run.printed.as_str(), run.status), ("", Some(5)));
+}
+
+#[test]
+fn when_its_time_is_up_it_tells_what_it_has_so_far() {
+    let begun = Instant::now();
+    // Without the rule it has a solution, and whether the other rule is needed it never says.
+    let script =
+        format!("{}; sleep 60", no_then(&format!("grep -qx 0 \"$1\" || {{ {}; }}", yes(0))));
+    let run = asked_why(AT_ODDS, &["--seconds", "1"], &script);
+    assert!(begun.elapsed() < Duration::from_secs(30));
+    assert!(
+        run.complaint.starts_with("a solution without line 4? The solver sh has not replied"),
+        "{}",
+        run.complaint
+    );
+    let so_far = "line 3: x >= 8\nline 4?: quiet or not quiet\nline 1: number x : 0 .. 7\n";
+    assert!(run.printed.ends_with(so_far), "{}", run.printed);
+    assert_eq!(run.status, Some(7));
+}
+
+#[test]
+fn a_hard_question_is_passed_over_and_asked_again() {
+    // At first the solver takes more than a question's share, and later it does not.
+    let slow = "[ -e \"$0.slow\" ] || { echo >\"$0.slow\"; sleep 60; }; ";
+    let run = asked_why(AT_ODDS, &["--seconds", "40"], &no_then(&(slow.to_string() + &truth())));
+    assert_eq!(lines_of(&run.printed), [3, 1], "{}", run.printed);
+    assert_eq!((run.complaint.as_str(), run.status), ("", Some(0)));
+}
+
+#[test]
+fn time_that_is_up_before_anything_is_known_is_7_too() {
+    let run = asked_why(AT_ODDS, &["--seconds", "1"], "sleep 60");
+    assert!(
+        run.complaint.starts_with("a solution with all lines? The solver sh has not replied"),
+        "{}",
+        run.complaint
+    );
+    assert_eq!((run.printed.as_str(), run.status), ("", Some(7)));
+}
+
+#[test]
+fn wrong_seconds_are_wrong_words() {
+    for seconds in ["0", "-1", "soon", "1.5", ""] {
+        let line = format!("board why boards/never.board --seconds '{seconds}' -- cadical");
+        let (words, status) = shell(&line);
+        assert!(words.contains("board why FILE.board [--seconds N] -- SOLVER"), "{words}");
+        assert_eq!(status, Some(2), "{seconds}");
+    }
+}
+
+#[test]
+fn the_seconds_may_stand_before_the_file() {
+    let solver = "sh -c 'echo s UNKNOWN' solver";
+    let status = shell(&format!("board why --seconds 9 boards/never.board -- {solver}")).1;
+    assert_eq!(status, Some(4));
+}
+
+#[test]
+fn progress_is_shown_on_a_terminal_alone() {
+    let line =
+        "board why boards/never.board -- sh -c 'grep -qx 0 {cnf} && echo UNSAT || echo SAT 0'";
+    let (words, _) = shell(line);
+    assert!(!words.contains("question"), "{words}");
+    if has("script") {
+        let fake = Fake::new(line);
+        let (words, _) = shell(&format!("script -qec 'sh {}' /dev/null", fake.path("solver")));
+        assert!(words.contains("question 1: a solution with all lines? "), "{words}");
     }
 }

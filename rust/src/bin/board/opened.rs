@@ -26,7 +26,7 @@ impl Opened {
     }
 
     /// The same with only some of its rules.
-    pub fn only(&self, is_kept: impl Fn(&Rule) -> bool) -> Result<Opened, String> {
+    pub fn only(&self, is_kept: impl FnMut(&Rule) -> bool) -> Result<Opened, String> {
         Opened::of(&self.name, self.text.clone(), self.sheet.only(is_kept))
     }
 
