@@ -13,6 +13,7 @@ mod complaint;
 mod conditions;
 mod declarations;
 mod jobs;
+mod join;
 mod judging;
 mod limits;
 mod literals;
@@ -62,6 +63,8 @@ board earliest FILE.board NAME -- SOLVER ARGUMENTS
 board why FILE.board [--seconds N] -- SOLVER ARGUMENTS
                                finds lines that cannot be kept together, where there is no solution; after N seconds,
                                or an interrupt, it tells what it has so far
+board join BASE.board COPY1.board COPY2.board
+                               joins two copies of a board that were changed apart, and writes the text that they give
 board --help, board --version  write these lines, or the version
 
 {cnf} in ARGUMENTS stands for the clause file, which otherwise goes last, and {reply} for a file that the reply is
@@ -101,6 +104,7 @@ fn run(words: &[&str]) -> Result<bool, Trouble> {
         ["place", file, "--", program, words @ ..] => {
             commands::place::run(file, &Solver { program, words })
         }
+        ["join", base, one, two] => commands::join::run(base, [one, two]),
         ["why", file, "--", program, words @ ..] => {
             commands::why::run(file, &Solver { program, words }, None)
         }

@@ -176,6 +176,15 @@ impl Sheet {
         self.rules.get(after)
     }
 
+    /// The line that declares a name.
+    pub fn line_of(&self, named: Named) -> usize {
+        match named {
+            Named::Number(number) => self.spots.numbers[usize::from(number)].name.line,
+            Named::Choice(number) => self.spots.choices[usize::from(number) - 1].line,
+            Named::Machine(machine) => self.machines[machine].spot.line,
+        }
+    }
+
     /// The job whose start this number is.
     pub fn job_of(&self, number: u16) -> Option<&Job> {
         self.jobs.iter().find(|job| job.number == number)

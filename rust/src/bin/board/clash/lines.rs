@@ -26,17 +26,20 @@ pub const LEFT_OUT_IN_TURN: [Kind; 4] = [Kind::Machine, Kind::Start, Kind::Made,
 pub struct Spoken {
     rules: Vec<Lines>,
     kinds: HashMap<usize, Kind>,
-    /// How many rules that members wrote speak of a line.
+    /// How many bookings speak of a line.
     bookings: HashMap<usize, usize>,
+    /// For each job's line how long the job takes.
+    takes: HashMap<usize, i64>,
 }
 
 impl Spoken {
     pub fn of(sheet: &Sheet) -> Spoken {
         let choices = job_choices(sheet);
-        let mut spoken = Spoken::default();
+        let takes = sheet.jobs.iter().map(|job| (job.spot.line, job.takes)).collect();
+        let mut spoken = Spoken { takes, ..Spoken::default() };
         for rule in &sheet.rules {
             let starts = starts_in(sheet, rule, &choices);
-            if rule.made_for.is_none() {
+            if rule.made_for.is_none() && starts.len() == 1 {
                 spoken.count_booking(sheet, &starts);
             }
             spoken.note(sheet, rule, starts);
@@ -56,7 +59,7 @@ impl Spoken {
         self.rules.push(starts.into_iter().chain(machine).chain([rule.spot.line]).collect());
     }
 
-    /// Counts a rule that a member wrote for its jobs and numbers, and for the machines of the jobs.
+    /// Counts a booking, a rule that a member wrote about one job or number; it counts for the job's machines too.
     fn count_booking(&mut self, sheet: &Sheet, starts: &Lines) {
         let jobs = sheet.jobs.iter().filter(|job| starts.contains(&job.spot.line));
         let machines: Lines = jobs
@@ -87,11 +90,13 @@ impl Spoken {
         self.rules.iter().flatten().copied().collect()
     }
 
-    /// The lines of a kind in the order in which they are left out: first those of which no member wrote anything.
+    /// The lines of a kind in the order in which they are left out: those without a booking first, and short jobs before long
+    /// ones, which are more likely to be what a machine is full with.
     pub fn in_turn(&self, lines: &Lines, kind: Kind) -> Vec<usize> {
         let mut turn: Vec<usize> =
             lines.iter().copied().filter(|line| self.kind(*line) == kind).collect();
-        turn.sort_by_key(|line| (self.bookings.get(line).copied(), Reverse(*line)));
+        let key = |line: &usize| (self.bookings.get(line), self.takes.get(line), Reverse(*line));
+        turn.sort_by(|one, other| key(one).cmp(&key(other)));
         turn
     }
 }

@@ -1,0 +1,179 @@
+//! The joined text: which lines of the base and the copies are in it, and in which order.
+
+use super::conflicts::Texts;
+use super::fates::{Fate, Fates};
+use super::texts::{Kind, Line, Text};
+use std::collections::{HashMap, HashSet};
+
+/// Where a line of the joined text comes from; it is counted from 0.
+#[derive(Debug, Clone, Copy, PartialEq, Eq, Hash)]
+pub enum Source {
+    Base(usize),
+    /// The first copy is 0, the second 1.
+    Copy(usize, usize),
+}
+
+pub struct Joined<'a> {
+    texts: Texts<'a>,
+    fates: [Fates; 2],
+    pub sources: Vec<Source>,
+    /// What the copies leave for people to decide.
+    pub conflicts: Vec<String>,
+    /// What was decided here, and people may want to know.
+    pub notes: Vec<String>,
+    /// The new lines by their words, each with the copy that it is from.
+    news: HashMap<Vec<String>, usize>,
+    taken: HashSet<Source>,
+}
+
+impl<'a> Joined<'a> {
+    pub fn of(base: &'a Text, copies: [&'a Text; 2]) -> Joined<'a> {
+        let mut joined = Joined {
+            fates: copies.map(|copy| Fates::of(base, copy)),
+            texts: Texts { base, copies },
+            sources: Vec::new(),
+            conflicts: Vec::new(),
+            notes: Vec::new(),
+            news: HashMap::new(),
+            taken: HashSet::new(),
+        };
+        joined.take_added(None);
+        for line in 0..base.lines.len() {
+            joined.take_base(line);
+            joined.take_added(Some(line));
+        }
+        joined.find_names_declared_twice();
+        joined
+    }
+
+    pub fn text(&self) -> String {
+        self.sources.iter().map(|source| self.line(*source).text.clone() + "\n").collect()
+    }
+
+    /// The text that a line comes from, and its place there.
+    pub fn origin(&self, source: Source) -> (&'a Text, usize) {
+        match source {
+            Source::Base(line) => (self.texts.base, line),
+            Source::Copy(copy, line) => (self.texts.copies[copy], line),
+        }
+    }
+
+    /// The copy that has struck the declaration of a name, and the line of the base that declared it.
+    pub fn struck(&self, name: &str) -> Option<(&'a Text, usize)> {
+        let declares =
+            |line: &Line| matches!(&line.kind, Kind::Names(names) if names.contains(name));
+        let line = self.texts.base.lines.iter().position(declares)?;
+        let copies = self.texts.copies.iter().zip(&self.fates);
+        let mut strikers = copies.filter(|(_, fates)| fates.of_base[line] == Fate::Struck);
+        strikers.next().map(|(copy, _)| (*copy, line))
+    }
+
+    pub fn base(&self) -> &'a Text {
+        self.texts.base
+    }
+
+    fn line(&self, source: Source) -> &'a Line {
+        let (text, line) = self.origin(source);
+        &text.lines[line]
+    }
+
+    /// What became of a line of the base.
+    fn take_base(&mut self, line: usize) {
+        let [one, two] = [0, 1].map(|copy: usize| self.fates[copy].of_base[line].clone());
+        match (one, two) {
+            (Fate::Same(one), Fate::Same(two)) => self.take_same(line, one, two),
+            (Fate::Changed(forms), Fate::Same(_)) => self.take_new(0, &forms),
+            (Fate::Same(_), Fate::Changed(forms)) => self.take_new(1, &forms),
+            (Fate::Changed(one), Fate::Changed(two)) => self.take_both(line, &one, &two),
+            (Fate::Changed(forms), Fate::Struck) => self.take_struck(line, 0, &forms),
+            (Fate::Struck, Fate::Changed(forms)) => self.take_struck(line, 1, &forms),
+            (Fate::Struck, _) | (_, Fate::Struck) => {}
+        }
+    }
+
+    /// A line that says the same everywhere; a comment that was changed behind it goes along.
+    fn take_same(&mut self, line: usize, one: usize, two: usize) {
+        let said = &self.texts.base.lines[line].text;
+        let sources = [Source::Copy(0, one), Source::Copy(1, two)];
+        let other = sources.into_iter().find(|source| self.line(*source).text != *said);
+        self.sources.push(other.unwrap_or(Source::Base(line)));
+    }
+
+    fn take_both(&mut self, line: usize, one: &[usize], two: &[usize]) {
+        let words = |copy: usize, lines: &[usize]| -> Vec<&Vec<String>> {
+            lines.iter().map(|line| &self.texts.copies[copy].lines[*line].words).collect()
+        };
+        let are_alike = words(0, one) == words(1, two);
+        match self.texts.base.lines[line].kind {
+            _ if are_alike => self.take_new(0, one),
+            Kind::Rule(_) => {
+                self.notes.push(self.texts.both_kept(line, [one, two]));
+                self.take_new(0, one);
+                self.take_new(1, two);
+            }
+            _ => self.conflicts.push(self.texts.changed_twice(line, [one, two])),
+        }
+    }
+
+    fn take_struck(&mut self, line: usize, changer: usize, forms: &[usize]) {
+        match self.texts.base.lines[line].kind {
+            Kind::Rule(_) => {
+                self.notes.push(self.texts.struck_and_kept(line, changer, forms));
+                self.take_new(changer, forms);
+            }
+            _ => self.conflicts.push(self.texts.struck_and_changed(line, changer, forms)),
+        }
+    }
+
+    /// The lines that the copies have added behind a line of the base, or before all of them.
+    fn take_added(&mut self, behind: Option<usize>) {
+        let mut noted: Vec<&str> = Vec::new();
+        for copy in [0, 1] {
+            let text = self.texts.copies[copy];
+            let added = self.fates[copy].added.iter().filter(|(place, _)| *place == behind);
+            let lines: Vec<usize> = added.map(|(_, line)| *line).collect();
+            let is_note = |line: &&usize| text.lines[**line].kind == Kind::Note;
+            // A comment that both have written at the same place is written once.
+            let is_known =
+                |line: &&usize| is_note(line) && noted.contains(&&*text.lines[**line].text);
+            let fresh: Vec<usize> = lines.iter().filter(|line| !is_known(line)).copied().collect();
+            noted = lines.iter().filter(is_note).map(|line| &*text.lines[*line].text).collect();
+            self.take_new(copy, &fresh);
+        }
+    }
+
+    /// Takes lines of a copy, unless they are taken already or the other copy has the same.
+    fn take_new(&mut self, copy: usize, lines: &[usize]) {
+        for line in lines {
+            let source = Source::Copy(copy, *line);
+            let words = &self.texts.copies[copy].lines[*line].words;
+            let is_other = !words.is_empty() && self.news.get(words) == Some(&(1 - copy));
+            if !is_other && self.taken.insert(source) {
+                self.news.insert(words.clone(), copy);
+                self.sources.push(source);
+            }
+        }
+    }
+
+    fn find_names_declared_twice(&mut self) {
+        let mut declared: HashMap<&str, Source> = HashMap::new();
+        let mut twice = Vec::new();
+        for (source, name) in self.sources.iter().flat_map(|source| self.names(*source)) {
+            if let Some(before) = declared.insert(name, source) {
+                let (one, two) = (self.origin(before), self.origin(source));
+                twice.push(self.texts.declared_twice(name, one, two));
+            }
+        }
+        self.conflicts.extend(twice);
+    }
+
+    /// The names that a line declares.
+    fn names(&self, source: Source) -> Vec<(Source, &'a str)> {
+        match &self.line(source).kind {
+            Kind::Names(names) => names.iter().map(|name| (source, name.as_str())).collect(),
+            // No name has a blank, so this one stands for nothing else.
+            Kind::Week => vec![(source, "the week")],
+            _ => Vec::new(),
+        }
+    }
+}
