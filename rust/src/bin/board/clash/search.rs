@@ -79,36 +79,39 @@ impl<'a> Search<'a> {
         Found { unsure: self.unsure(), lines: self.kept, spoken: self.spoken }
     }
 
-    /// Leaves out these lines if that changes nothing, otherwise one half of them and then the other.
+    /// Leaves out these lines if there is still no solution without them, otherwise one half of them and then the other.
     fn leave_out(&mut self, lines: &[usize], share: Share) -> Result<(), Trouble> {
         let lines: Vec<usize> =
             lines.iter().copied().filter(|line| self.kept.contains(line)).collect();
         if lines.is_empty() {
             return Ok(());
         }
-        let until = self.limit.map(|limit| limit.until(share));
-        let is_out = self.try_without(&lines, until)?;
-        if !is_out && lines.len() > 1 {
-            let (first, second) = lines.split_at(lines.len() / 2);
-            self.leave_out(first, share)?;
-            self.leave_out(second, share)?;
+        let rest: Lines = self.kept.iter().copied().filter(|line| !lines.contains(line)).collect();
+        match self.known_of(&rest, &lines, share)? {
+            Known::NoSolution => self.kept = self.spoken.with_a_rule(&rest),
+            Known::Solution if lines.len() > 1 => {
+                let (first, second) = lines.split_at(lines.len() / 2);
+                self.leave_out(first, share)?;
+                self.leave_out(second, share)?;
+            }
+            // With fewer lines left out, a question is hardly easier.
+            Known::Solution | Known::NoReply => {}
         }
         Ok(())
     }
 
-    /// Leaves these lines out if there is still no solution without them, and tells whether they are out.
-    fn try_without(&mut self, lines: &[usize], until: Option<Instant>) -> Result<bool, Trouble> {
-        let rest: Lines = self.kept.iter().copied().filter(|line| !lines.contains(line)).collect();
-        if self.is_shown(&rest) {
-            return Ok(false);
+    /// Whether the rest of the lines has a solution: shown before, or by a question to the solver.
+    fn known_of(
+        &mut self,
+        rest: &Lines,
+        left_out: &[usize],
+        share: Share,
+    ) -> Result<Known, Trouble> {
+        if self.is_shown(rest) {
+            return Ok(Known::Solution);
         }
-        match self.asked(&rest, &format!("a solution without {}", lines_words(lines)), until)? {
-            Known::NoSolution => {
-                self.kept = self.spoken.with_a_rule(&rest);
-                Ok(true)
-            }
-            Known::Solution | Known::NoReply => Ok(false),
-        }
+        let until = self.limit.map(|limit| limit.until(share));
+        self.asked(rest, &format!("a solution without {}", lines_words(left_out)), until)
     }
 
     /// Whether a solution of these lines was shown before: one that breaks only rules that are not there.
