@@ -87,18 +87,22 @@ fn a_line_that_uses_what_the_other_copy_has_struck_is_told_with_its_place() {
 two, line 6, column 9: expected a declared name, a whole number or `not`, found `bowls`
   late or bowls + 2 <= mugs
           ^
-`bowls` is declared in base, line 3, and one has struck that line.
-Strike this line too, or keep that one, and join again.
+`bowls` is declared in base, line 3, and one declares it no more.
+Strike this line too, or keep the name, and join again.
 ";
     refused(BASE, &one, &two, told);
+    let parted = BASE.replace("machine kiln", "number a, b : 0 .. 9\nmachine kiln");
+    let run = joined(&parted, &parted.replace("a, b", "a"), &format!("{parted}b <= 3\n"));
+    let told = "`b` is declared in base, line 1, and one declares it no more.\n";
+    assert!(run.told.contains(told), "{}", run.told);
     let machine = BASE.replace("machine kiln", "machine kiln\nmachine loom");
     let other = format!("{machine}job rug on loom takes 3 : 0 .. 9\n");
     let told = "\
 two, line 6, column 12: expected the name of a machine that is declared above, found `loom`
   job rug on loom takes 3 : 0 .. 9
              ^
-`loom` is declared in base, line 2, and one has struck that line.
-Strike this line too, or keep that one, and join again.
+`loom` is declared in base, line 2, and one declares it no more.
+Strike this line too, or keep the name, and join again.
 ";
     refused(&machine, BASE, &other, told);
 }

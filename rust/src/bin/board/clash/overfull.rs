@@ -1,6 +1,7 @@
 //! Where many jobs are at odds: the hours that they want on their machines, beside the hours that there are.
 
 use super::lines::Lines;
+use crate::closed::Closed;
 use crate::jobs::Job;
 use crate::sheet::Sheet;
 use std::collections::BTreeSet;
@@ -56,29 +57,28 @@ fn with_job<'a>(
 
 impl Pool<'_> {
     fn words(&self, sheet: &Sheet, lines: &Lines) -> Option<String> {
-        let names: Vec<&str> =
-            self.machines.iter().map(|machine| sheet.machines[*machine].name.as_str()).collect();
-        let names = names.join(" and ");
-        let together = if self.machines.len() > 1 { " together" } else { "" };
         let (span, is_overfull) = self.span()?;
-        let overfull = if is_overfull { " overfull" } else { "" };
-        let are = if is_overfull {
-            if self.machines.len() > 1 {
-                " are"
-            } else {
-                " is"
-            }
-        } else {
-            ""
+        let overfull = match (is_overfull, self.machines.len()) {
+            (false, _) => "",
+            (true, 1) => " is overfull",
+            (true, _) => " are overfull",
         };
-        let wanted = sheet.duration_words(span.wanted);
-        let room = sheet.duration_words(self.room(&span));
-        let (first, last) = (sheet.time_words(span.first), sheet.time_words(span.last));
+        let (names, jobs) = (self.names(sheet), span.jobs);
+        let [wanted, room] =
+            [span.wanted, self.room(&span)].map(|steps| sheet.duration_words(steps));
+        let [first, last] = [span.first, span.last].map(|value| sheet.time_words(value));
         let open = self.open_words(sheet, lines, &span);
         Some(format!(
-            "{names}{together}{are}{overfull}: {} jobs take {wanted}; from {first} until {last} there are {room}{open}.",
-            span.jobs
+            "{names}{overfull}: {jobs} jobs take {wanted}; from {first} until {last} there are {room}{open}."
         ))
+    }
+
+    /// `kiln_a and kiln_b together`.
+    fn names(&self, sheet: &Sheet) -> String {
+        let names: Vec<&str> =
+            self.machines.iter().map(|machine| sheet.machines[*machine].name.as_str()).collect();
+        let together = if names.len() > 1 { " together" } else { "" };
+        format!("{}{together}", names.join(" and "))
     }
 
     /// The hours that have the least room for the jobs in them, where that is too little; otherwise those of all jobs.
@@ -111,23 +111,25 @@ impl Pool<'_> {
 
     /// `, 40 h of them open`, where closed hours are among the lines.
     fn open_words(&self, sheet: &Sheet, lines: &Lines, span: &Span) -> String {
-        let closed: Vec<_> =
+        let closed: Vec<&Closed> =
             sheet.closed.iter().filter(|closed| lines.contains(&closed.spot.line)).collect();
         if closed.is_empty() {
             return String::new();
         }
-        let hours = |machine: usize| {
-            let of_one =
-                |closed: &&crate::closed::Closed| closed.on(machine, span.first, span.last - 1);
-            closed.iter().flat_map(of_one).collect::<Vec<(i64, i64)>>()
-        };
-        let is_open = |hours: &[(i64, i64)], value: i64| {
-            hours.iter().all(|(first, last)| value < *first || *last <= value)
-        };
-        let open = self.machines.iter().map(|machine| {
-            let hours = hours(*machine);
-            (span.first..span.last).filter(|value| is_open(&hours, *value)).count() as i64
-        });
-        format!(", {} of them open", sheet.duration_words(open.sum()))
+        let open = self.machines.iter().map(|machine| span.open_steps(&closed, *machine)).sum();
+        format!(", {} of them open", sheet.duration_words(open))
+    }
+}
+
+impl Span {
+    /// How many steps of a machine are not closed.
+    fn open_steps(&self, closed: &[&Closed], machine: usize) -> i64 {
+        let hours: Vec<(i64, i64)> = closed
+            .iter()
+            .flat_map(|closed| closed.on(machine, self.first, self.last - 1))
+            .collect();
+        let is_open =
+            |value: &i64| hours.iter().all(|(first, last)| value < first || last <= value);
+        (self.first..self.last).filter(is_open).count() as i64
     }
 }

@@ -11,7 +11,7 @@ use std::io::{self, Write};
 /// The joined text has no file yet.
 const NAME: &str = "the joined board";
 
-const KEEP_OR_STRIKE: &str = "Strike this line too, or keep that one, and join again.";
+const KEEP_OR_STRIKE: &str = "Strike this line too, or keep the name, and join again.";
 
 /// Printed where there is no joined text. An empty text would be a board, with a placement.
 const NOT_JOINED: &str = "not joined: what is to be decided stands on standard error\n";
@@ -56,7 +56,7 @@ fn at_origin(joined: &Joined, complaint: Complaint) -> String {
     match struck {
         Some((name, (copy, line))) => {
             let (place, copy) = (joined.base().place(line), &copy.name);
-            format!("{shown}\n`{name}` is declared in {place}, and {copy} has struck that line.\n{KEEP_OR_STRIKE}")
+            format!("{shown}\n`{name}` is declared in {place}, and {copy} declares it no more.\n{KEEP_OR_STRIKE}")
         }
         None => shown,
     }

@@ -71,20 +71,24 @@ fn said(line: &Line) -> String {
 /// Finds new lines of the copy that are changed forms of lines that it seems to have struck.
 fn changed_lines(base: &Text, copy: &Text, fates: &mut [Fate], is_new: &mut [bool]) {
     let was_new = is_new.to_vec();
-    for (line, fate) in base.lines.iter().zip(fates) {
-        let forms = copy.lines.iter().enumerate().filter(|(place, other)| {
-            // Names are known again by themselves; of other lines each is the form of one.
-            let is_free =
-                if matches!(line.kind, Kind::Names(_)) { was_new[*place] } else { is_new[*place] };
-            is_free && other.kind.is_form_of(&line.kind)
-        });
-        let most = if matches!(line.kind, Kind::Names(_)) { usize::MAX } else { 1 };
-        let forms: Vec<usize> = forms.map(|(place, _)| place).take(most).collect();
-        if *fate == Fate::Struck && !forms.is_empty() {
+    let struck = base.lines.iter().zip(fates).filter(|(_, fate)| **fate == Fate::Struck);
+    for (line, fate) in struck {
+        let forms = match line.kind {
+            // A name is known again wherever it stands, also in several lines or in one with others.
+            Kind::Names(_) => forms(line, copy, &was_new),
+            _ => forms(line, copy, is_new).into_iter().take(1).collect(),
+        };
+        if !forms.is_empty() {
             forms.iter().for_each(|place| is_new[*place] = false);
             *fate = Fate::Changed(forms);
         }
     }
+}
+
+/// Those lines of the copy among some that may be changed forms of a line.
+fn forms(line: &Line, copy: &Text, is_meant: &[bool]) -> Vec<usize> {
+    let is_form = |place: &usize| copy.lines[*place].kind.is_form_of(&line.kind);
+    (0..copy.lines.len()).filter(|place| is_meant[*place]).filter(is_form).collect()
 }
 
 /// An added line goes behind all lines of the base that stand above it in the copy.

@@ -58,14 +58,14 @@ impl<'a> Joined<'a> {
         }
     }
 
-    /// The copy that has struck the declaration of a name, and the line of the base that declared it.
+    /// The copy that declares a name no more, and the line of the base that declares it.
     pub fn struck(&self, name: &str) -> Option<(&'a Text, usize)> {
         let declares =
             |line: &Line| matches!(&line.kind, Kind::Names(names) if names.contains(name));
         let line = self.texts.base.lines.iter().position(declares)?;
-        let copies = self.texts.copies.iter().zip(&self.fates);
-        let mut strikers = copies.filter(|(_, fates)| fates.of_base[line] == Fate::Struck);
-        strikers.next().map(|(copy, _)| (*copy, line))
+        let striker =
+            self.texts.copies.into_iter().find(|copy| !copy.lines.iter().any(declares))?;
+        Some((striker, line))
     }
 
     pub fn base(&self) -> &'a Text {
@@ -127,19 +127,24 @@ impl<'a> Joined<'a> {
 
     /// The lines that the copies have added behind a line of the base, or before all of them.
     fn take_added(&mut self, behind: Option<usize>) {
-        let mut noted: Vec<&str> = Vec::new();
-        for copy in [0, 1] {
-            let text = self.texts.copies[copy];
-            let added = self.fates[copy].added.iter().filter(|(place, _)| *place == behind);
-            let lines: Vec<usize> = added.map(|(_, line)| *line).collect();
-            let is_note = |line: &&usize| text.lines[**line].kind == Kind::Note;
-            // A comment that both have written at the same place is written once.
-            let is_known =
-                |line: &&usize| is_note(line) && noted.contains(&&*text.lines[**line].text);
-            let fresh: Vec<usize> = lines.iter().filter(|line| !is_known(line)).copied().collect();
-            noted = lines.iter().filter(is_note).map(|line| &*text.lines[*line].text).collect();
-            self.take_new(copy, &fresh);
-        }
+        let [one, mut two] = [0, 1].map(|copy| self.added(copy, behind));
+        // A comment that both have written at the same place is written once.
+        two.retain(|line| !self.is_noted_by_the_first(&one, *line));
+        self.take_new(0, &one);
+        self.take_new(1, &two);
+    }
+
+    fn added(&self, copy: usize, behind: Option<usize>) -> Vec<usize> {
+        let added = self.fates[copy].added.iter().filter(|(place, _)| *place == behind);
+        added.map(|(_, line)| *line).collect()
+    }
+
+    /// Whether a line of the second copy is a comment or blank, and among these lines of the first.
+    fn is_noted_by_the_first(&self, lines: &[usize], line: usize) -> bool {
+        let [one, two] = self.texts.copies;
+        let note = &two.lines[line];
+        let is_same = |line: &usize| one.lines[*line].text == note.text;
+        note.kind == Kind::Note && lines.iter().any(is_same)
     }
 
     /// Takes lines of a copy, unless they are taken already or the other copy has the same.

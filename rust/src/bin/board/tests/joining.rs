@@ -4,6 +4,7 @@ use super::dice::Dice;
 use super::folder::files;
 use crate::join::{Joined, Text};
 use crate::sheet::read_sheet;
+use std::collections::HashSet;
 use std::fs;
 
 const BASE: &str = "\
@@ -226,7 +227,16 @@ fn drawn_copies_give_the_same_board_in_both_orders_and_a_copy_alone_is_itself() 
         let (text, other) = (joined(&base, &one, &two).0, joined(&base, &two, &one).0);
         let lines = [text.unwrap(), other.unwrap()].map(|text| said(&text));
         assert_eq!(lines[0], lines[1], "{name}");
+        let [base, one, two] = [&base, &one, &two].map(|text| set(&said(text)));
+        let joined = set(&lines[0]);
+        let left = base.iter().filter(|line| one.contains(*line) && two.contains(*line)).cloned();
+        let new = one.union(&two).filter(|line| !base.contains(*line)).cloned();
+        assert_eq!(joined, left.chain(new).collect::<HashSet<_>>(), "{name}");
     }
+}
+
+fn set(lines: &[Vec<String>]) -> HashSet<Vec<String>> {
+    lines.iter().cloned().collect()
 }
 
 /// What the lines of a text say, in any order.
