@@ -186,7 +186,7 @@ fn a_rule_that_one_strikes_and_the_other_changes_is_kept_and_told() {
     assert_eq!(notes, [note]);
 }
 
-/// A copy in which some rules are struck, some are doubled, some bookings are added, and some comments are changed.
+/// A copy in which some rules are struck, some comments are changed or added, and some bookings are added.
 fn drawn_copy(dice: &mut Dice, text: &str) -> String {
     let sheet = read_sheet(text).unwrap();
     let is_rule = |line: usize| {
