@@ -203,6 +203,27 @@ fn a_question_without_an_answer_ends_it_with_what_there_is_so_far() {
 }
 
 #[test]
+fn an_interrupt_ends_a_solver_that_has_a_limit_too() {
+    let begun = Instant::now();
+    let script = no_then("kill -INT $PPID; sleep 60");
+    let run = asked_why(AT_ODDS, &["--seconds", "59"], &script);
+    assert!(begun.elapsed() < Duration::from_secs(30));
+    assert!(run.complaint.contains("was interrupted"), "{}", run.complaint);
+    assert_eq!((lines_of(&run.printed), run.status), (vec![3, 4, 1], Some(5)));
+}
+
+#[test]
+fn whole_machines_are_left_out_first() {
+    let script = format!("[ -e \"$0.asked\" ] && exit 3; echo >\"$0.asked\"; {NO}");
+    let run = asked_why(TWO_CLASHES, &[], &script);
+    assert!(
+        run.complaint.starts_with("a solution without 2 lines from 1 to 2? "),
+        "{}",
+        run.complaint
+    );
+}
+
+#[test]
 fn a_yes_that_its_model_does_not_bear_out_ends_it_with_nothing() {
     let wrong = format!("echo s SATISFIABLE; echo v {}", model(3).replace(" 10 ", " -10 "));
     let run = asked_why(AT_ODDS, &[], &no_then(&wrong));

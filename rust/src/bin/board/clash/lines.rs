@@ -85,6 +85,12 @@ impl Spoken {
         self.rules.iter().filter(|rule| rule.is_subset(lines)).flatten().copied().collect()
     }
 
+    /// The lines that all of these rules speak of; none where there is no rule.
+    pub fn in_all(&self, rules: impl Iterator<Item = usize>) -> Lines {
+        let lines = rules.map(|rule| self.rules[rule].clone());
+        lines.reduce(|common, lines| &common & &lines).unwrap_or_default()
+    }
+
     /// All lines that any rule speaks of.
     pub fn all(&self) -> Lines {
         self.rules.iter().flatten().copied().collect()

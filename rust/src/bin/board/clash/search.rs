@@ -122,11 +122,14 @@ impl<'a> Search<'a> {
 
     /// The kept lines without which no solution was shown.
     fn unsure(&self) -> Lines {
-        let is_shown_without = |line: &usize| {
-            let rest = self.kept.iter().copied().filter(|kept| kept != line).collect();
-            self.is_shown(&rest)
-        };
-        self.kept.iter().copied().filter(|line| !is_shown_without(line)).collect()
+        let there = self.spoken.there(&self.kept);
+        let mut unsure = self.kept.clone();
+        for broken in &self.broken {
+            // A solution is one without a line if each rule that it breaks speaks of that line.
+            let broken = broken.iter().copied().filter(|rule| there[*rule]);
+            unsure = &unsure - &self.spoken.in_all(broken);
+        }
+        unsure
     }
 
     /// Puts the question to the solver whether these lines alone have a solution.
