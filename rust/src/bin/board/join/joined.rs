@@ -1,6 +1,6 @@
 //! The joined text: which lines of the base and the copies are in it, and in which order.
 
-use super::conflicts::Texts;
+use super::conflicts::{Texts, ALL_OR_NONE, BOTH_KEPT, KEPT_AS_CHANGED, SAME_LINE};
 use super::fates::{Fate, Fates};
 use super::texts::{Kind, Line, Text};
 use std::collections::{HashMap, HashSet};
@@ -43,6 +43,7 @@ impl<'a> Joined<'a> {
             joined.take_added(Some(line));
         }
         joined.find_names_declared_twice();
+        joined.find_another_week();
         joined
     }
 
@@ -107,21 +108,23 @@ impl<'a> Joined<'a> {
         match self.texts.base.lines[line].kind {
             _ if are_alike => self.take_new(0, one),
             Kind::Rule(_) => {
-                self.notes.push(self.texts.both_kept(line, [one, two]));
+                self.notes.push(self.texts.changed_twice(line, [one, two], BOTH_KEPT));
                 self.take_new(0, one);
                 self.take_new(1, two);
             }
-            _ => self.conflicts.push(self.texts.changed_twice(line, [one, two])),
+            _ => self.conflicts.push(self.texts.changed_twice(line, [one, two], SAME_LINE)),
         }
     }
 
     fn take_struck(&mut self, line: usize, changer: usize, forms: &[usize]) {
-        match self.texts.base.lines[line].kind {
-            Kind::Rule(_) => {
-                self.notes.push(self.texts.struck_and_kept(line, changer, forms));
-                self.take_new(changer, forms);
-            }
-            _ => self.conflicts.push(self.texts.struck_and_changed(line, changer, forms)),
+        let is_rule = matches!(self.texts.base.lines[line].kind, Kind::Rule(_));
+        let then = if is_rule { KEPT_AS_CHANGED } else { ALL_OR_NONE };
+        let words = self.texts.struck_and_changed(line, changer, forms, then);
+        if is_rule {
+            self.notes.push(words);
+            self.take_new(changer, forms);
+        } else {
+            self.conflicts.push(words);
         }
     }
 
@@ -170,6 +173,24 @@ impl<'a> Joined<'a> {
             }
         }
         self.conflicts.extend(twice);
+    }
+
+    /// Hours and steps mean something else in another week, so lines that are new in one copy need the week of the other.
+    fn find_another_week(&mut self) {
+        let [base, one, two] =
+            [self.texts.base, self.texts.copies[0], self.texts.copies[1]].map(Text::week_words);
+        let changer = match (one == base, two == base) {
+            (false, true) => 0,
+            (true, false) => 1,
+            _ => return,
+        };
+        let new_lines =
+            self.news.iter().filter(|(words, copy)| !words.is_empty() && **copy != changer);
+        let other = self.texts.copies[1 - changer];
+        let is_new = |line: &Line| new_lines.clone().any(|(words, _)| *words == line.words);
+        if let Some(line) = other.lines.iter().position(is_new) {
+            self.conflicts.push(self.texts.another_week(changer, line));
+        }
     }
 
     /// The names that a line declares.

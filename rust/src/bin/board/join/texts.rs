@@ -49,6 +49,15 @@ impl Text {
         Ok(Text { name: name.to_string(), lines })
     }
 
+    /// The line of the week.
+    pub fn week(&self) -> Option<usize> {
+        self.lines.iter().position(|line| line.kind == Kind::Week)
+    }
+
+    pub fn week_words(&self) -> Option<&Vec<String>> {
+        self.week().map(|line| &self.lines[line].words)
+    }
+
     /// `week.board, line 7`.
     pub fn place(&self, line: usize) -> String {
         format!("{}, line {}", self.name, line + 1)

@@ -83,7 +83,8 @@ fn what_one_side_does_is_done() {
     let beside = ("number a, b : 0 .. 9  # two", "number a,b:0..9 # both");
     gives(&[beside], &[rule], &[beside, rule]);
     let week = ("# a board", "# a board\nweek from Monday 00:00 step 1 h");
-    gives(&[week], &[change], &[week, change]);
+    gives(&[week], &[rule, comment], &[week, rule, comment]);
+    gives(&[week, change], &[week], &[week, change]);
 }
 
 #[test]
@@ -152,6 +153,20 @@ fn a_name_that_both_declare_anew_is_left_to_people() {
     leaves(
         &[("choice s", "choice s\nchoice loom")],
         &[("s or b <= 7", "s or b <= 7\nmachine loom")],
+        conflict,
+    );
+}
+
+#[test]
+fn what_is_new_was_written_for_its_own_week() {
+    let conflict = "one has another week than base, for which two, line 11, was written:\n  \
+        week from Monday 00:00 step 1 h\n  mugs >= 3\nChange the week in both copies or in none, and join again.";
+    leaves(
+        &[
+            ("# a board", "# a board\nweek from Monday 00:00 step 1 h"),
+            ("a + 1 <= b", "a + 2 <= b"),
+        ],
+        &[("mugs >= 2", "mugs >= 3")],
         conflict,
     );
 }
