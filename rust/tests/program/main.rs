@@ -13,3 +13,4 @@ mod show;
 mod solver;
 mod week;
 mod why;
+mod why_ends;
