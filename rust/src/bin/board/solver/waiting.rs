@@ -26,11 +26,15 @@ pub fn ended(command: &mut Command, until: Option<Instant>) -> io::Result<Option
     // In a group of its own, so that what the solver starts ends with it.
     let mut child = command.process_group(0).spawn()?;
     let mut pause = SHORTEST_PAUSE;
-    while !interrupt::is_heard() && Instant::now() < until {
+    loop {
         if let Some(status) = child.try_wait()? {
             return Ok(Some(status));
         }
-        thread::sleep(pause.min(until.saturating_duration_since(Instant::now())));
+        let left = until.saturating_duration_since(Instant::now());
+        if left.is_zero() || interrupt::is_heard() {
+            break;
+        }
+        thread::sleep(pause.min(left));
         pause = (2 * pause).min(LONGEST_PAUSE);
     }
     end_group(&child);
