@@ -1,12 +1,13 @@
 #!/usr/bin/env bash
 # Boards through real solvers and back: board cnf, then cadical and minisat, then board model and board show; board place;
-# and board earliest for every number.
+# board earliest for every number; and board why where there is no solution.
 #
 #     tests/solvers.sh [HOW MANY BOARDS TO DRAW, 100 IF NOT SAID]
 #
 # Both solvers have to say the same of every board, every model has to decode to values that Judge accepts, and where a
 # board is small, trying all values has to say the same as the solvers: whether there is a solution, and which value of each
-# number is the least. BASMUTHAR_LIB_DIR is as for the crate.
+# number is the least. The rules that board why names have no solution together, and without any one of them they have.
+# BASMUTHAR_LIB_DIR is as for the crate.
 set -euo pipefail
 cd "$(dirname "$0")/.."
 
@@ -68,6 +69,26 @@ earliest() {
     echo "$value"
 }
 
+# The status of board place on a drawn board with its declarations and only some of its rules.
+placed_with() {
+    local file=$1 lines=$2 solver=$3 status=0
+    awk -v lines="$lines" '/^(number|choice)/ || index(lines, " " FNR " ")' "$file" >"$work/part.board"
+    "$board" place "$work/part.board" -- "$solver" >"$work/placed" 2>"$work/trouble" || status=$?
+    echo "$status"
+}
+
+# The rules that board why names are at odds, and each of them is needed for that.
+clash() {
+    local solver=$1 file=$2 lines line
+    "$board" why "$file" -- "$solver" >"$work/clash" 2>"$work/trouble" || fail "board why: $solver: $file: $(cat "$work/trouble")"
+    lines=" $(sed -n '/: \(number\|choice\) /d; s/^line \([0-9]*\):.*/\1/p' "$work/clash" | tr '\n' ' ')"
+    [ "$(placed_with "$file" "$lines" "$solver")" = 3 ] || fail "the rules of board why are not at odds: $solver: $file"
+    for line in $lines; do
+        [ "$(placed_with "$file" "${lines/ $line / }" "$solver")" = 0 ] || fail "line $line is not needed: $solver: $file"
+    done
+    clashes=$((clashes + 1))
+}
+
 # The names of a board's numbers, in their order.
 numbers() {
     "$board" rules "$1" | sed -n 's/^number \([^ ]*\) :.*/\1/p'
@@ -116,7 +137,12 @@ through() {
     fi
     case $first in
     SATISFIABLE) satisfiable=$((satisfiable + 1)) ;;
-    *) unsatisfiable=$((unsatisfiable + 1)) ;;
+    *)
+        unsatisfiable=$((unsatisfiable + 1))
+        case $file in
+        "$work"/*) for solver in "${solvers[@]}"; do clash "$solver" "$file"; done ;;
+        esac
+        ;;
     esac
     least "$file" "$tried"
 }
@@ -136,7 +162,7 @@ built=${CARGO_TARGET_DIR:-rust/target}/release
 board=$built/board
 try_all=$built/examples/try_all
 
-small=0 satisfiable=0 unsatisfiable=0 found=0 none=0
+small=0 satisfiable=0 unsatisfiable=0 found=0 none=0 clashes=0
 for file in boards/*.board; do through "$file"; done
 for ((seed = 1; seed <= drawn; seed++)); do
     awk -v seed="$seed" -f tests/draw_board.awk >"$work/drawn_$seed.board"
@@ -145,4 +171,5 @@ done
 [ "$satisfiable" -gt 0 ] && [ "$unsatisfiable" -gt 0 ] || fail "only one kind of verdict was met"
 [ "$found" -gt 0 ] && [ "$none" -gt 0 ] || fail "least values were met always or never"
 echo "${solvers[*]}: $satisfiable boards satisfiable, $unsatisfiable not; all values tried on $small of them; all agree."
+echo "Rules at odds by board why: $clashes times, none of them too many."
 echo "Least values by board earliest: $found found, $none times none; all agree."

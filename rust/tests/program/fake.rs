@@ -56,9 +56,10 @@ impl Fake {
         self.board(&["place", &self.path("x.board"), "--"], solver)
     }
 
-    /// The command `board why x.board --` with a solver and its words.
-    pub fn asking_why(&self, solver: &[&str]) -> Command {
-        self.board(&["why", &self.path("x.board"), "--"], solver)
+    /// The command `board why x.board` with words of its own, and then a solver and its words.
+    pub fn asking_why(&self, words: &[&str], solver: &[&str]) -> Command {
+        let board = self.path("x.board");
+        self.board(&[&["why", &board], words, &["--"]].concat(), solver)
     }
 
     fn board(&self, words: &[&str], solver: &[&str]) -> Command {

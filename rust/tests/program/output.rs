@@ -2,12 +2,13 @@
 
 use crate::run::shell;
 
-const COMMANDS: [&str; 6] = [
+const COMMANDS: [&str; 7] = [
     "cnf boards/unequal_starts.board",
     "record boards/unequal_starts.board",
     "text boards/unequal_starts.record",
     "show boards/unequal_starts.board x=0 y=1",
     "place boards/unequal_starts.board -- sh -c 'echo s UNSATISFIABLE'",
+    "join boards/one_hour.board boards/one_hour.board boards/one_hour.board",
     "--help",
 ];
 

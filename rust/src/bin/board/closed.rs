@@ -9,7 +9,7 @@ use crate::words::{Word, Words};
 
 #[derive(Debug, Clone)]
 pub struct Closed {
-    spot: Spot,
+    pub spot: Spot,
     comment: String,
     /// The machines that are closed; none is named where all are.
     machines: Vec<usize>,
@@ -85,12 +85,12 @@ fn read_clock(words: &mut Words, sheet: &Sheet) -> Result<i64, Complaint> {
 pub fn make_rules(sheet: &mut Sheet) -> Result<(), Complaint> {
     for closed in sheet.closed.clone() {
         for job in sheet.jobs.clone() {
-            let unless = match closed.machines[..] {
-                [] => vec![String::new()],
-                _ => closed.unless_elsewhere(sheet, &job),
+            let machines = match closed.machines[..] {
+                [] => vec![None],
+                _ => closed.machines_of(&job),
             };
-            for unless in unless {
-                closed.keep_off(sheet, &job, &unless)?;
+            for machine in machines {
+                closed.keep_off(sheet, &job, machine)?;
             }
         }
     }
@@ -98,14 +98,29 @@ pub fn make_rules(sheet: &mut Sheet) -> Result<(), Complaint> {
 }
 
 impl Closed {
-    /// For each of the closed machines that a job may be on, the words that set the rule aside where it is on another.
-    fn unless_elsewhere(&self, sheet: &Sheet, job: &Job) -> Vec<String> {
-        let machines = self.machines.iter().filter(|machine| job.on(**machine).is_some());
-        machines.map(|machine| job.unless_elsewhere(sheet, *machine)).collect()
+    /// The closed hours of a machine that values from least to greatest can meet.
+    pub fn on(&self, machine: usize, least: i64, greatest: i64) -> Vec<(i64, i64)> {
+        if self.machines.is_empty() || self.machines.contains(&machine) {
+            self.within(least, greatest)
+        } else {
+            Vec::new()
+        }
     }
 
-    /// The job neither begins nor ends in these hours.
-    fn keep_off(&self, sheet: &mut Sheet, job: &Job, unless: &str) -> Result<(), Complaint> {
+    /// The closed machines that a job may be on.
+    fn machines_of(&self, job: &Job) -> Vec<Option<usize>> {
+        let machines = self.machines.iter().filter(|machine| job.on(**machine).is_some());
+        machines.copied().map(Some).collect()
+    }
+
+    /// The job neither begins nor ends in these hours, on this machine or on any.
+    fn keep_off(
+        &self,
+        sheet: &mut Sheet,
+        job: &Job,
+        machine: Option<usize>,
+    ) -> Result<(), Complaint> {
+        let unless = machine.map_or(String::new(), |machine| job.unless_elsewhere(sheet, machine));
         let made_for = format!("closed hours and job {}", job.name);
         let end = job.end_words(sheet);
         let sides = [(job.name.as_str(), job.begins, "begins"), (&end, job.ends(), "unloads")];
@@ -116,6 +131,7 @@ impl Closed {
                 let closed = if self.comment.is_empty() { "closed" } else { &self.comment };
                 let comment = format!("{closed}: nobody {what}");
                 make_rule(sheet, self.spot, text, comment, &made_for)?;
+                sheet.last_is_for(machine);
             }
         }
         Ok(())

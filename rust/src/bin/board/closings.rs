@@ -9,7 +9,7 @@ use crate::words::{Word, Words};
 
 #[derive(Debug, Clone)]
 pub struct Closing {
-    spot: Spot,
+    pub spot: Spot,
     name: String,
     number: u16,
     /// The jobs that it comes after; none is named where all are meant.

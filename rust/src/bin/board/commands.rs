@@ -2,6 +2,7 @@
 
 pub mod cnf;
 pub mod earliest;
+pub mod join;
 pub mod model;
 pub mod place;
 pub mod record;

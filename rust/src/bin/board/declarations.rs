@@ -102,11 +102,7 @@ fn declare(sheet: &mut Sheet, name: &str, spot: Spot, named: Named) -> Result<()
     let Some(before) = sheet.names.insert(name.to_string(), named) else {
         return Ok(());
     };
-    let line = match before {
-        Named::Number(number) => sheet.spots.numbers[usize::from(number)].name.line,
-        Named::Choice(number) => sheet.spots.choices[usize::from(number) - 1].line,
-        Named::Machine(machine) => sheet.machines[machine].spot.line,
-    };
+    let line = sheet.line_of(before);
     let words = format!("expected a new name: `{name}` is declared in line {line}");
     Err(Complaint::new(spot, words))
 }

@@ -3,6 +3,7 @@
 mod before;
 mod blame;
 mod board;
+mod clash;
 mod clauses;
 mod clock;
 mod closed;
@@ -12,6 +13,7 @@ mod complaint;
 mod conditions;
 mod declarations;
 mod jobs;
+mod join;
 mod judging;
 mod limits;
 mod literals;
@@ -19,6 +21,7 @@ mod opened;
 mod output;
 mod overlaps;
 mod placement;
+mod progress;
 mod reading;
 mod reply;
 mod rules;
@@ -38,6 +41,7 @@ mod wording;
 mod words;
 
 use commands::show::BROKEN;
+use commands::why::seconds_of;
 use solver::Solver;
 use std::ffi::OsString;
 use std::io::Write;
@@ -56,8 +60,11 @@ board place FILE.board -- SOLVER ARGUMENTS
                                asks a solver for values that keep to every rule, and writes them
 board earliest FILE.board NAME -- SOLVER ARGUMENTS
                                finds the least value of a number over all solutions by questions to a solver
-board why FILE.board -- SOLVER ARGUMENTS
-                               finds lines that cannot be kept together, where there is no solution
+board why FILE.board [--seconds N] -- SOLVER ARGUMENTS
+                               finds lines that cannot be kept together, where there is no solution; after N seconds,
+                               or an interrupt, it tells what it has so far
+board join BASE.board COPY1.board COPY2.board
+                               joins two copies of a board that were changed apart, and writes the text that they give
 board --help, board --version  write these lines, or the version
 
 {cnf} in ARGUMENTS stands for the clause file, which otherwise goes last, and {reply} for a file that the reply is
@@ -65,8 +72,8 @@ written to, otherwise to standard output (minisat is given one).
 
 The status is 0, or 1 where something was refused or does not hold, or 2 where the words after `board` are wrong or
 standard output takes nothing; with a solver also 3 where there is no solution, 4 where the solver says neither yes nor
-no, 5 where it cannot be started, is killed, ends with an error or contradicts itself, and 6 where it says yes and its
-model does not bear it out.
+no, 5 where it cannot be started, is killed, ends with an error or contradicts itself, 6 where it says yes and its
+model does not bear it out, and 7 where the seconds of `why` are over.
 ";
 
 fn main() -> ExitCode {
@@ -97,8 +104,15 @@ fn run(words: &[&str]) -> Result<bool, Trouble> {
         ["place", file, "--", program, words @ ..] => {
             commands::place::run(file, &Solver { program, words })
         }
+        ["join", base, one, two] => commands::join::run(base, [one, two]),
         ["why", file, "--", program, words @ ..] => {
-            commands::why::run(file, &Solver { program, words })
+            commands::why::run(file, &Solver { program, words }, None)
+        }
+        ["why", file, "--seconds", count, "--", program, words @ ..]
+        | ["why", "--seconds", count, file, "--", program, words @ ..]
+            if seconds_of(count).is_some() =>
+        {
+            commands::why::run(file, &Solver { program, words }, seconds_of(count))
         }
         ["earliest", file, name, "--", program, words @ ..] => {
             commands::earliest::run(file, name, &Solver { program, words })

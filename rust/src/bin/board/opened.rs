@@ -26,11 +26,12 @@ impl Opened {
     }
 
     /// The same with only some of its rules.
-    pub fn only(&self, is_kept: impl Fn(&Rule) -> bool) -> Result<Opened, String> {
+    pub fn only(&self, is_kept: impl FnMut(&Rule) -> bool) -> Result<Opened, String> {
         Opened::of(&self.name, self.text.clone(), self.sheet.only(is_kept))
     }
 
-    fn of(name: &str, text: String, sheet: Sheet) -> Result<Opened, String> {
+    /// A text that is read.
+    pub fn of(name: &str, text: String, sheet: Sheet) -> Result<Opened, String> {
         let builder = sheet.board.builder();
         let record = builder.record();
         let sizes = basmuthar::size(&record).map_err(|refusal| {
@@ -40,6 +41,10 @@ impl Opened {
             }
         })?;
         Ok(Opened { name: name.to_string(), text, sheet, record, sizes })
+    }
+
+    pub fn text(&self) -> &str {
+        &self.text
     }
 
     /// A line of the text, counted from 1.

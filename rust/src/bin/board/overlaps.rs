@@ -43,6 +43,7 @@ pub fn one_at_a_time(sheet: &mut Sheet, job: &Job) -> Result<(), Complaint> {
             let text = format!("{unless}{one} <= {} or {two} <= {}", job.name, other.name);
             let comment = format!("one at a time on {name}");
             make_rule(sheet, job.spot, text, comment, &made_for)?;
+            sheet.last_is_for(Some(machine));
         }
     }
     Ok(())

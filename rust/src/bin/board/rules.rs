@@ -62,7 +62,8 @@ pub fn add_rule(sheet: &mut Sheet, drafted: Drafted) -> Result<(), Complaint> {
         let here = || Complaint::new(spot, full_for(made_for.as_deref())).with_help(FEWER_RULES);
         return Err(blame::of_what_is_read(sheet).unwrap_or_else(here));
     }
-    sheet.rules.push(Rule { spot, text, comment, made_for, parts, placed, clauses });
+    let machine = None;
+    sheet.rules.push(Rule { spot, text, comment, made_for, machine, parts, placed, clauses });
     Ok(())
 }
 

@@ -56,6 +56,8 @@ pub struct Rule {
     pub comment: String,
     /// What it was made for, such as `job 3 on kiln_a`; a line that is a rule itself has none.
     pub made_for: Option<String>,
+    /// The machine without which it would not have been made.
+    pub machine: Option<usize>,
     pub parts: Vec<Part>,
     /// Its clauses, as long as they have no place on the board.
     pub placed: Vec<Placed>,
@@ -147,7 +149,7 @@ impl Sheet {
     }
 
     /// The sheet with only some of its rules.
-    pub fn only(&self, is_kept: impl Fn(&Rule) -> bool) -> Sheet {
+    pub fn only(&self, is_kept: impl FnMut(&Rule) -> bool) -> Sheet {
         let mut fewer = self.clone();
         fewer.rules.retain(is_kept);
         fewer.board.clauses.clear();
@@ -161,10 +163,26 @@ impl Sheet {
         fewer
     }
 
+    /// Notes of the rule that was made last which machine it was made for.
+    pub fn last_is_for(&mut self, machine: Option<usize>) {
+        if let Some(rule) = self.rules.last_mut() {
+            rule.machine = machine;
+        }
+    }
+
     /// The rule that a clause of the board belongs to.
     pub fn rule_of_clause(&self, clause: usize) -> Option<&Rule> {
         let after = self.rules.partition_point(|rule| rule.clauses.end <= clause);
         self.rules.get(after)
+    }
+
+    /// The line that declares a name.
+    pub fn line_of(&self, named: Named) -> usize {
+        match named {
+            Named::Number(number) => self.spots.numbers[usize::from(number)].name.line,
+            Named::Choice(number) => self.spots.choices[usize::from(number) - 1].line,
+            Named::Machine(machine) => self.machines[machine].spot.line,
+        }
     }
 
     /// The job whose start this number is.

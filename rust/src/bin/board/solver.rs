@@ -6,6 +6,7 @@ mod call;
 mod folder;
 mod interrupt;
 mod troubles;
+mod waiting;
 
 use crate::clauses::Clauses;
 use crate::reply::{read_reply, Fault, Reply, Unread};
@@ -16,6 +17,7 @@ use std::fs::{self, File};
 use std::io::{self, BufWriter, ErrorKind};
 use std::os::unix::process::ExitStatusExt;
 use std::process::{Command, ExitStatus, Stdio};
+use std::time::Instant;
 
 /// The statuses that solvers end with where they are in order: any verdict, yes, no.
 const ANY: i32 = 0;
@@ -46,6 +48,11 @@ pub enum Said {
 impl Solver<'_> {
     /// Puts a question to the solver, or says why there is no reply to go on with.
     pub fn ask(&self, question: &Question) -> Result<Said, Trouble> {
+        self.ask_until(question, None)
+    }
+
+    /// The same with an end to its time, where it has one.
+    pub fn ask_until(&self, question: &Question, until: Option<Instant>) -> Result<Said, Trouble> {
         interrupt::listen();
         let no_file = |file: &str, error| troubles::no_file(question, file, error);
         let folder = Folder::new().map_err(|error| no_file("temporary folder", error))?;
@@ -53,8 +60,10 @@ impl Solver<'_> {
         write_clauses(question, &cnf).map_err(|error| no_file(&cnf, error))?;
         let call = Call::new(self.program, self.words, &cnf, &reply);
         self.uninterrupted(question)?;
-        let ended = self.run(&call, &output).map_err(|error| self.not_started(question, error))?;
+        let ended =
+            self.run(&call, &output, until).map_err(|error| self.not_started(question, error))?;
         self.uninterrupted(question)?;
+        let ended = ended.ok_or_else(|| self.too_late(question))?;
         let written = read_lossy(&output).map_err(|error| no_file(&output, error))?;
         let status = self.status(question, ended, &written)?;
         if call.has_reply_file {
@@ -73,10 +82,15 @@ impl Solver<'_> {
         }
     }
 
-    fn run(&self, call: &Call, output: &str) -> io::Result<ExitStatus> {
+    fn run(
+        &self,
+        call: &Call,
+        output: &str,
+        until: Option<Instant>,
+    ) -> io::Result<Option<ExitStatus>> {
         let output = File::create(output)?;
         let mut command = Command::new(self.program);
-        command.args(&call.words).stdin(Stdio::null()).stdout(output).status()
+        waiting::ended(command.args(&call.words).stdin(Stdio::null()).stdout(output), until)
     }
 
     /// The status that the solver ended with, if it is one of those that are in order.

@@ -7,6 +7,7 @@ mod drawn_jobs;
 mod folder;
 mod hours;
 mod jobs;
+mod joining;
 mod limits;
 mod meaning;
 mod plain;

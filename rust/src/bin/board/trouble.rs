@@ -15,18 +15,26 @@ pub enum Status {
     SolverFailed = 5,
     /// The solver says yes, and its model does not bear it out.
     WrongYes = 6,
+    /// The time that the user gave is up.
+    TimeIsUp = 7,
 }
 
 #[derive(Debug, PartialEq, Eq)]
 pub struct Trouble {
     pub status: Status,
     pub words: String,
+    /// Whether what the solver said before is not to be gone by either.
+    pub casts_doubt: bool,
 }
 
 impl Trouble {
     pub fn new(status: Status, words: impl Into<String>) -> Trouble {
         let words = words.into();
-        Trouble { status, words }
+        Trouble { status, words, casts_doubt: false }
+    }
+
+    pub fn casting_doubt(self) -> Trouble {
+        Trouble { casts_doubt: true, ..self }
     }
 }
 

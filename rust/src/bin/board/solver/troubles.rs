@@ -15,7 +15,7 @@ impl Solver<'_> {
 
     pub fn contradiction(&self, question: &Question, words: &str) -> Trouble {
         let help = "Do not go by this solver; ask another one.";
-        self.trouble(question, Status::SolverFailed, words, help)
+        self.trouble(question, Status::SolverFailed, words, help).casting_doubt()
     }
 
     /// A yes whose model is refused in these words.
@@ -26,7 +26,7 @@ impl Solver<'_> {
     /// A yes that its model does not bear out.
     pub fn no_answer(&self, question: &Question, words: &str) -> Trouble {
         let help = "A yes like this is no answer: look at the solver, or ask another one.";
-        self.trouble(question, Status::WrongYes, words, help)
+        self.trouble(question, Status::WrongYes, words, help).casting_doubt()
     }
 
     pub(super) fn not_started(&self, question: &Question, error: io::Error) -> Trouble {
@@ -38,6 +38,11 @@ impl Solver<'_> {
     pub(super) fn interrupted(&self, question: &Question) -> Trouble {
         let help = "Replies that were printed before still hold.";
         self.trouble(question, Status::SolverFailed, "was interrupted.", help)
+    }
+
+    pub(super) fn too_late(&self, question: &Question) -> Trouble {
+        let help = "Give it more time (`--seconds`), or ask another solver.";
+        self.trouble(question, Status::TimeIsUp, "has not replied when its time was up.", help)
     }
 
     /// A solver that failed is shown with the last line that it wrote to standard output.
