@@ -7,6 +7,7 @@ mod fake;
 mod output;
 mod place;
 mod run;
+mod sheet;
 mod show;
 mod solver;
 mod week;
