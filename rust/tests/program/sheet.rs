@@ -50,7 +50,7 @@ fn one_value_changed_is_marked_in_words_and_is_1() {
         "✗ Do not work by this placement",
         "3 of 747 rules are broken.",
         "Clash on <bdi>Large kiln, back room</bdi>, Tue 10:00 to Tue 14:30",
-        "Line 8 is broken<bdi>: the night: nobody unloads</bdi>",
+        "Line 8 is broken: <bdi>the night: nobody unloads</bdi>",
         "<li>urn + 14 h = Wed 00:00 is not &lt; Tue 21:00</li>",
         "✗ CLASH of 2 and 3, 10:00 to 14:30",
     ] {

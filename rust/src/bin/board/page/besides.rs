@@ -9,9 +9,10 @@ pub fn besides(look: &Look) -> String {
     let choices = choices(look);
     let shown = look.setting.numbers.len() - numbers.len();
     let head = match (numbers.len() + choices.len(), shown) {
-        (0, 0) => return "<h2>Numbers</h2>\n<p>This board has no numbers and no choices.</p>\n".to_string(),
+        (0, 0) => return "<p>This board has no numbers and no choices.</p>\n".to_string(),
         (0, _) => {
-            return "<h2>Numbers</h2>\n<p>Every number and every choice of this board is in the pictures.</p>\n".to_string()
+            return "<p>Every number and every choice of this board is in the pictures.</p>\n"
+                .to_string()
         }
         (_, 0) => "Numbers: no picture shows them",
         _ => "Numbers that no picture shows",

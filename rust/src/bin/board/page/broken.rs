@@ -14,7 +14,7 @@ pub fn faults(look: &Look) -> String {
     let outside = look.checked.outside.iter().map(|number| outside_words(look, *number));
     let clashes = (0..look.bars.len()).map(|machine| clashes_words(look, machine));
     let nowhere = look.jobs_nowhere().into_iter().map(|job| {
-        let words = kept_apart(&look.job_words(job));
+        let words = look.job_words(job);
         fault("A job is on no machine", &format!("<p>{words}</p>"))
     });
     let rules = other_rules(look).into_iter().map(|rule| rule_words(look, rule));
@@ -34,7 +34,7 @@ fn outside_words(look: &Look, number: u16) -> String {
     let job = look
         .sheet
         .job_of(number)
-        .map_or(String::new(), |job| format!("<p>{}</p>\n", kept_apart(&look.job_words(job))));
+        .map_or(String::new(), |job| format!("<p>{}</p>\n", look.job_words(job)));
     let body = format!(
         "{job}<p>{name} = {value}; it may be from {bounds}, by line {line}:</p>\n{}",
         line_of(look, line)
@@ -61,14 +61,13 @@ fn clash_words(look: &Look, machine: usize, clash: &Clash) -> String {
         Some(rule) => format!(
             "<p>Line {} forbids this{}.</p>\n{}",
             rule.spot.line,
-            kept_apart(&why(rule)),
+            why(rule),
             sums_words(look, rule)
         ),
         None => "<p><b>No rule of this board forbids this.</b></p>\n".to_string(),
     };
-    let jobs = [clash.one, clash.other].map(|bar| {
-        format!("<li>no. {}: {}</li>\n", bar.number, kept_apart(&look.job_words(bar.job)))
-    });
+    let jobs = [clash.one, clash.other]
+        .map(|bar| format!("<li>no. {}: {}</li>\n", bar.number, look.job_words(bar.job)));
     fault(&head, &format!("<ul>\n{}</ul>\n{forbidden}", jobs.concat()))
 }
 
@@ -87,13 +86,12 @@ fn other_rules<'a>(look: &Look<'a>) -> Vec<&'a Rule> {
 /// A broken rule: what it is for, the jobs that it speaks of, the line, and every sum.
 fn rule_words(look: &Look, rule: &Rule) -> String {
     let jobs = look.sheet.jobs.iter().filter(|job| speaks_of(rule, job));
-    let jobs: Vec<String> =
-        jobs.map(|job| format!("<li>{}</li>\n", kept_apart(&look.job_words(job)))).collect();
+    let jobs: Vec<String> = jobs.map(|job| format!("<li>{}</li>\n", look.job_words(job))).collect();
     let jobs = match jobs[..] {
         [] => String::new(),
         _ => format!("<ul>\n{}</ul>\n", jobs.concat()),
     };
-    let head = format!("Line {} is broken{}", rule.spot.line, kept_apart(&why(rule)));
+    let head = format!("Line {} is broken{}", rule.spot.line, why(rule));
     fault(&head, &(jobs + &sums_words(look, rule)))
 }
 

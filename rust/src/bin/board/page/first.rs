@@ -20,8 +20,8 @@ pub fn first_page(look: &Look, hashes: &Hashes) -> String {
         judged_words(look),
         faults(look),
         machines_words(look),
-        tightest(look),
         besides(look),
+        tightest(look),
         signatures(look),
         hashes.words(),
     ];

@@ -1,8 +1,9 @@
 //! All that a page tells of: a board, a placement, Judge's answer, the page's own sums, and the bars of every machine.
 
-use super::bars::{bars_on, clashes_of, is_on, title, Bar, Clash};
+use super::bars::{bars_on, clashes_of, is_on, Bar, Clash};
 use super::calendar::Calendar;
 use super::checked::{checked, numbers_of, Checked};
+use super::html::{escaped, kept_apart};
 use crate::board::Setting;
 use crate::jobs::Job;
 use crate::literals::Said;
@@ -84,24 +85,26 @@ impl<'a> Look<'a> {
         self.sheet.jobs.iter().filter(|job| !is_shown(job)).collect()
     }
 
-    /// `Plates, biscuit (plates): Tue 14:30 to Tue 20:30 on Large kiln`.
+    /// `Plates, biscuit (plates): Tue 14:30 to Tue 20:30 on Large kiln`, ready for the page.
     pub fn job_words(&self, job: &Job) -> String {
         let begin = i64::from(self.setting.numbers[usize::from(job.number)]);
         let [from, to] = [begin, begin + job.takes].map(|value| self.time(value));
         let on = job.machines.iter().filter(|on| is_on(job, on.machine, self.setting));
-        let machines: Vec<&str> = on.map(|on| self.machine_title(on.machine)).collect();
+        let machines: Vec<String> =
+            on.map(|on| kept_apart(self.machine_title(on.machine))).collect();
         let machines = match machines[..] {
             [] => "no machine".to_string(),
             _ => machines.join(" and "),
         };
+        let name = escaped(&job.name);
         let named = match &job.title {
-            Some(_) => format!("{} ({})", title(job), job.name),
-            None => job.name.clone(),
+            Some(title) => format!("{} ({name})", kept_apart(title)),
+            None => name,
         };
         format!("{named}: {from} to {to} on {machines}")
     }
 
-    /// Everything that is wrong with a bar, in words.
+    /// Everything that is wrong with a bar, ready for the page.
     pub fn faults_of(&self, bar: &Bar, clashes: &[Clash]) -> Vec<String> {
         let own: Vec<&Clash> = clashes.iter().filter(|clash| clash.has(bar)).collect();
         let broken = &self.checked.broken;
@@ -120,11 +123,11 @@ impl<'a> Look<'a> {
     }
 }
 
-/// What a rule is for, where its line says so.
+/// What a rule is for, where its line says so, ready for the page.
 pub fn why(rule: &Rule) -> String {
     match &rule.comment[..] {
         "" => String::new(),
-        comment => format!(": {comment}"),
+        comment => format!(": {}", kept_apart(comment)),
     }
 }
 

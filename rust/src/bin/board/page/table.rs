@@ -24,10 +24,8 @@ fn row(look: &Look, bar: &Bar, faults: &[String], gap: &str) -> String {
         }
         None => escaped(&bar.job.name),
     };
-    let faults: String = faults
-        .iter()
-        .map(|fault| format!("<div class=\"fault\">✗ {}</div>", kept_apart(fault)))
-        .collect();
+    let faults: String =
+        faults.iter().map(|fault| format!("<div class=\"fault\">✗ {fault}</div>")).collect();
     let [begin, work_end, end] =
         [bar.begin, bar.work_end(), bar.end()].map(|value| look.time(value));
     format!(

@@ -8,35 +8,35 @@ use crate::literals::Part;
 use crate::sheet::Rule;
 use crate::shown::part_words;
 
-/// So many of each are shown.
+/// So many places are shown in all, and so many of them are rules where there are as many.
 const MOST: usize = 5;
+const RULES: usize = 2;
 
 pub fn tightest(look: &Look) -> String {
-    let gaps = gaps(look);
-    let rules = rules(look);
+    let (gaps, rules) = (gaps(look), rules(look));
     if gaps.is_empty() && rules.is_empty() {
         return String::new();
     }
-    format!(
-        "<h2>The tightest places</h2>\n{}{}",
-        list("Between two jobs", gaps),
-        list("Rules with the least room", rules)
-    )
+    let room_for_rules = RULES.max(MOST.saturating_sub(gaps.len())).min(rules.len());
+    let gaps = list("Between two jobs", gaps, MOST - room_for_rules);
+    let rules = list("Rules with the least room", rules, room_for_rules);
+    format!("<h2>The tightest places</h2>\n{gaps}{rules}")
 }
 
 /// How tight a place is, and its words.
 type Place = (i64, String);
 
-fn list(head: &str, mut places: Vec<Place>) -> String {
-    if places.is_empty() {
-        return String::new();
-    }
+/// The first places of a list, and how many more are as tight as the last of them.
+fn list(head: &str, mut places: Vec<Place>, most: usize) -> String {
     places.sort_by_key(|place| place.0);
-    let as_tight = places.iter().skip(MOST).filter(|place| place.0 == places[MOST - 1].0).count();
-    let items: String =
-        places.iter().take(MOST).map(|place| format!("<li>{}</li>\n", place.1)).collect();
-    let more = match as_tight {
+    let (shown, others) = places.split_at(most.min(places.len()));
+    let Some(last) = shown.last() else {
+        return String::new();
+    };
+    let items: String = shown.iter().map(|place| format!("<li>{}</li>\n", place.1)).collect();
+    let more = match others.iter().filter(|place| place.0 == last.0).count() {
         0 => String::new(),
+        1 => "<p class=\"small\">1 more is as tight as the last of these.</p>\n".to_string(),
         more => format!("<p class=\"small\">{more} more are as tight as the last of these.</p>\n"),
     };
     format!("<h3>{head}</h3>\n<ol>\n{items}</ol>\n{more}")
@@ -96,9 +96,9 @@ fn place(look: &Look, rule: &Rule) -> Option<Place> {
     };
     let sum = escaped(&part_words(look.sheet, part, look.setting, true));
     let jobs = numbers_of(rule).into_iter().filter_map(|number| look.sheet.job_of(number));
-    let jobs: Vec<&str> = jobs.map(title).collect();
-    let about = format!("{}{}", jobs.join(", "), why(rule));
-    let about = kept_apart(about.trim_start_matches(": "));
+    let jobs: Vec<String> = jobs.map(|job| kept_apart(title(job))).collect();
+    let about = jobs.join(", ") + &why(rule);
+    let about = about.trim_start_matches(": ");
     Some((
         room,
         format!(

@@ -99,3 +99,17 @@ fn nothing_is_fetched_from_anywhere() {
     let links = page.text.split("href=\"").skip(1).chain(page.text.split("url(").skip(1));
     assert!(links.clone().count() > 3 && links.clone().all(|link| link.starts_with('#')));
 }
+
+#[test]
+fn a_text_that_is_read_from_right_to_left_is_kept_apart() {
+    let text = "week from Monday 00:00 step 1 h\nmachine kiln \"\u{641}\u{631}\u{646}\"\njob a \"\u{643}\u{623}\u{633}\" on kiln takes 8 h\n";
+    let page = page_of(text, "a=Mon 08:00");
+    has(
+        &page,
+        &[
+            "1 &#x2068;\u{643}\u{623}\u{633}&#x2069;</text>",
+            "<td data-is=\"Job\"><bdi>\u{643}\u{623}\u{633}</bdi> <span",
+            "<h2><bdi>\u{641}\u{631}\u{646}</bdi> <span",
+        ],
+    );
+}

@@ -77,7 +77,13 @@ fn a_job_on_no_machine_is_told() {
         ],
     );
     let page = page_of(text, "rug=Mon 08:00 rug_on_a=yes rug_on_b=yes");
-    has(&page, &["rug: Mon 08:00 to Mon 11:00 on a and b", "rug is on no two machines"]);
+    has(
+        &page,
+        &[
+            "rug: Mon 08:00 to Mon 11:00 on <bdi>a</bdi> and <bdi>b</bdi>",
+            "rug is on no two machines",
+        ],
+    );
 }
 
 #[test]
