@@ -9,16 +9,30 @@ use crate::sheet::Rule;
 use crate::shown::part_words;
 use crate::wording::bounds_words;
 
+/// So many faults are printed; a screen has room for all.
+const MOST_PRINTED: usize = 12;
+
 /// Everything that is wrong; nothing where all is well.
 pub fn faults(look: &Look) -> String {
     let outside = look.checked.outside.iter().map(|number| outside_words(look, *number));
-    let clashes = (0..look.bars.len()).map(|machine| clashes_words(look, machine));
+    let clashes = (0..look.bars.len()).flat_map(|machine| clashes_words(look, machine));
     let nowhere = look.jobs_nowhere().into_iter().map(|job| {
         let words = look.job_words(job);
-        fault("A job is on no machine", &format!("<p>{words}</p>"))
+        fault("A job is on no machine", &format!("<p>{words}</p>\n"))
     });
     let rules = other_rules(look).into_iter().map(|rule| rule_words(look, rule));
-    clashes.chain(nowhere).chain(outside).chain(rules).collect()
+    let mut faults: Vec<String> = clashes.chain(nowhere).chain(outside).chain(rules).collect();
+    if faults.len() <= MOST_PRINTED {
+        return faults.concat();
+    }
+    let others = faults.split_off(MOST_PRINTED);
+    format!(
+        "{}<p class=\"on-paper\"><b>✗ {} more are wrong: the page on a screen has them all.</b></p>\n\
+         <div class=\"on-screen\">\n{}</div>\n",
+        faults.concat(),
+        others.len(),
+        others.concat()
+    )
 }
 
 fn fault(head: &str, body: &str) -> String {
@@ -47,7 +61,7 @@ fn line_of(look: &Look, line: usize) -> String {
     format!("<p><code>{}</code></p>\n", escaped(look.opened.line(line)))
 }
 
-fn clashes_words(look: &Look, machine: usize) -> String {
+fn clashes_words(look: &Look, machine: usize) -> Vec<String> {
     let bars = &look.bars[machine];
     let clashes = clashes_of(bars);
     clashes.iter().map(|clash| clash_words(look, machine, clash)).collect()

@@ -130,3 +130,16 @@ fn a_broken_rule_stands_as_it_is_written_with_its_sum() {
     );
     has_not(&page, &["class=\"machine\"", "which means"]);
 }
+
+#[test]
+fn of_many_faults_the_first_are_printed_and_the_screen_has_all() {
+    let jobs: String =
+        (1..=7).map(|job| format!("job j{job} on kiln takes 2 : 0 .. 30\n")).collect();
+    let values: String = (1..=7).map(|job| format!("j{job} = 4\n")).collect();
+    let page = page_of(&format!("machine kiln\n{jobs}"), &values);
+    let (printed, others) = page.text.split_once("<div class=\"on-screen\">").unwrap();
+    assert_eq!(printed.matches("<h3>✗ Clash on").count(), 12);
+    assert_eq!(others.matches("<h3>✗ Clash on").count(), 9);
+    has(&page, &["✗ 9 more are wrong: the page on a screen has them all."]);
+    has_not(&page_of(ACCIDENT, CLASH), &["<div class=\"on-screen\">", "more are wrong"]);
+}
