@@ -25,12 +25,13 @@ sheet() {
     rm "$folder/said"
 }
 
-# Where `board join` is known, the joined board is made from its two copies; otherwise the one that is kept here is taken.
+# Where `board join` is known, the joined board is made from its two copies, and has to be the one that is kept here.
 joined=$week/joined.board
 if "$board" --help | grep -q '^board join '; then
     joined=$folder/joined.board
     "$board" join "$week/joined_base.board" "$week/joined_copy_1.board" "$week/joined_copy_2.board" >"$folder/joined.new"
     mv "$folder/joined.new" "$joined"
+    cmp "$joined" "$week/joined.board"
 fi
 
 for solver in cadical minisat; do

@@ -25,19 +25,13 @@ impl Opened {
         Opened::of(name, text, sheet)
     }
 
-    /// A text as if it were a file.
-    #[cfg(test)]
-    pub fn of_text(text: &str) -> Opened {
-        let sheet = read_sheet(text).unwrap();
-        Opened::of("folder/the.board", text.to_string(), sheet).unwrap()
-    }
-
     /// The same with only some of its rules.
     pub fn only(&self, is_kept: impl Fn(&Rule) -> bool) -> Result<Opened, String> {
         Opened::of(&self.name, self.text.clone(), self.sheet.only(is_kept))
     }
 
-    fn of(name: &str, text: String, sheet: Sheet) -> Result<Opened, String> {
+    /// A text that is read.
+    pub fn of(name: &str, text: String, sheet: Sheet) -> Result<Opened, String> {
         let builder = sheet.board.builder();
         let record = builder.record();
         let sizes = basmuthar::size(&record).map_err(|refusal| {
@@ -47,17 +41,6 @@ impl Opened {
             }
         })?;
         Ok(Opened { name: name.to_string(), text, sheet, record, sizes })
-    }
-
-    /// The name of the file without its folders.
-    pub fn short_name(&self) -> &str {
-        self.name.rsplit('/').next().unwrap_or("")
-    }
-
-    /// The lines of the comment that the text begins with.
-    pub fn first_comment(&self) -> impl Iterator<Item = &str> {
-        let lines = self.text.lines().map(str::trim).skip_while(|line| line.is_empty());
-        lines.map_while(|line| line.strip_prefix('#')).map(str::trim)
     }
 
     /// A line of the text, counted from 1.
@@ -71,6 +54,17 @@ impl Opened {
             Some(spot) => Complaint::new(spot, refusal.to_string()).shown(&self.name, &self.text),
             None => format!("{}: {refusal}", self.name),
         }
+    }
+
+    /// The name of the file without its folders.
+    pub fn short_name(&self) -> &str {
+        self.name.rsplit('/').next().unwrap_or("")
+    }
+
+    /// The lines of the comment that the text begins with.
+    pub fn first_comment(&self) -> impl Iterator<Item = &str> {
+        let lines = self.text.lines().map(str::trim).skip_while(|line| line.is_empty());
+        lines.map_while(|line| line.strip_prefix('#')).map(str::trim)
     }
 }
 

@@ -144,11 +144,9 @@ impl<'a> Picture<'a> {
         let lines = self.look.sheet.closed.iter().filter(|closed| closed.is_of(self.machine));
         let hours = lines.flat_map(|closed| closed.within(values[0], values[1]));
         let minutes = hours.map(|(from, to)| (calendar.minute(from), calendar.minute(to)));
-        let here = minutes.filter(|(from, to)| *from < last && *to > first);
-        let shape = |(from, to): (i64, i64)| {
-            rectangle("closed", self.x(from, day), self.x(to, day), 0, "100%")
-        };
-        here.map(shape).collect()
+        let places = minutes.map(|(from, to)| (self.x(from, day), self.x(to, day)));
+        let drawn = places.filter(|(from, to)| from < to);
+        drawn.map(|(from, to)| rectangle("closed", from, to, 0, "100%")).collect()
     }
 
     /// A piece of a bar: its phases, its frame, and marks where it comes from or goes on.

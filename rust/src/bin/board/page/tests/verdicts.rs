@@ -1,7 +1,6 @@
 //! What the first page says: sound, broken, not forbidden, or not to be used.
 
-use super::{has, has_not, page_of, setting_of, ACCIDENT};
-use crate::opened::Opened;
+use super::{has, has_not, opened, page_of, setting_of, ACCIDENT};
 use crate::page::{page, page_judged, Verdict};
 use basmuthar::Refusal;
 
@@ -55,7 +54,7 @@ fn the_accident_is_crossed_framed_and_named() {
 
 #[test]
 fn an_overlap_that_no_rule_forbids_is_said_to_be_none() {
-    let opened = Opened::of_text(ACCIDENT).only(|_| false).unwrap();
+    let opened = opened(ACCIDENT).only(|_| false).unwrap();
     let setting = setting_of(&opened, CLASH);
     let page = page(&opened, &setting);
     assert_eq!(page.verdict, Verdict::Unforbidden(1));
@@ -72,7 +71,7 @@ fn an_overlap_that_no_rule_forbids_is_said_to_be_none() {
 
 #[test]
 fn where_judge_and_the_sums_disagree_the_sheet_is_not_to_be_used() {
-    let opened = Opened::of_text(ACCIDENT);
+    let opened = opened(ACCIDENT);
     let (sound, clash) = (setting_of(&opened, SOUND), setting_of(&opened, CLASH));
     let early = setting_of(&opened, "ana = Sat 11:00\nben = Sat 13:00");
     let refused = |number, detail| Err(Refusal { number, detail });
