@@ -102,5 +102,9 @@ for name in accident.both kilns.wrong mischief; do
     sections=$(grep -c '^<section' "$work/week/sheets/$name.html")
     [ "$count" -ge "$sections" ] && [ "$count" -le $((sections + 1)) ] || fail "$name is printed on $count pages, and has $sections parts"
     printed="$printed $name $count"
+    if command -v pdftohtml >/dev/null; then
+        least=$(pdftohtml -xml -i -zoom 1 -stdout "$work/page.pdf" | sed -n 's/.*<fontspec.* size="\([0-9]*\)".*/\1/p' | sort -n | head -n 1)
+        [ "${least:-0}" -ge 9 ] || fail "$name is printed in letters of $least pt"
+    fi
 done
 echo "sheets: $kept are as they are kept, $placed placements made anew, $measured measured in a browser; pages printed:$printed."

@@ -51,7 +51,7 @@ pub fn below(pieces: &[(&Piece, f64, f64, bool)], y: i64) -> String {
             }
             let number = number_words(piece.bar.number, *is_faulty);
             match groups.last_mut() {
-                Some((x, words)) if x.max(0.0) + medium.share(words) > *place => {
+                Some((before, words)) if *before + medium.share(words) > *place => {
                     *words += &format!(", {number}");
                 }
                 _ => groups.push((*place, number)),
@@ -112,4 +112,73 @@ impl Medium {
 fn number_words(number: usize, is_faulty: bool) -> String {
     let mark = if is_faulty { "✗" } else { "" };
     format!("{mark}{number}")
+}
+
+#[cfg(test)]
+mod tests {
+    use super::*;
+    use crate::board::Setting;
+    use crate::page::bars::bars_on;
+    use crate::page::calendar::Calendar;
+    use crate::page::days::pieces_of;
+    use crate::sheet::read_sheet;
+
+    /// Four jobs of an hour each, one after another from 08:00 on.
+    fn with_pieces<T>(look: impl Fn(&[Piece]) -> T) -> T {
+        let jobs = ["Mugs, glaze", "Urn", "Plates", "Bowls"].iter().enumerate();
+        let jobs: String = jobs
+            .map(|(index, title)| format!("job j{index} \"{title}\" on kiln takes 1 h\n"))
+            .collect();
+        let sheet = read_sheet(&format!("week from Monday 00:00 step 1 h\nmachine kiln\n{jobs}"));
+        let sheet = sheet.unwrap();
+        let setting = Setting { numbers: vec![8, 9, 10, 11], choices: Vec::new() };
+        let bars = bars_on(&sheet, &setting, 0);
+        look(&pieces_of(&bars, Calendar { week: sheet.week }, 0))
+    }
+
+    /// The first lines in a bar that takes this share of the row, on paper and on a phone.
+    fn first_lines(piece: &Piece, share: f64) -> [Option<String>; 2] {
+        [&MEDIA[0], &MEDIA[1]].map(|medium| medium.first_line(piece, share, false))
+    }
+
+    #[test]
+    fn a_bar_has_as_much_of_its_title_as_there_is_room_for() {
+        let isolated = |number, title| Some(format!("{number} &#x2068;{title}&#x2069;"));
+        let number = |number: &str| Some(number.to_string());
+        with_pieces(|pieces| {
+            assert_eq!(first_lines(&pieces[0], 50.0)[0], isolated(1, "Mugs, glaze"));
+            assert_eq!(first_lines(&pieces[0], 13.0), [isolated(1, "Mugs, g…"), number("1")]);
+            assert_eq!(first_lines(&pieces[0], 5.0), [number("1"), number("1")]);
+            assert_eq!(first_lines(&pieces[1], 8.0)[0], isolated(2, "Urn"), "short, and whole");
+            assert_eq!(first_lines(&pieces[0], 2.0), [number("1"), None]);
+            assert_eq!(first_lines(&pieces[0], 1.0), [None, None]);
+        });
+    }
+
+    #[test]
+    fn numbers_without_room_stand_below_and_join_where_they_would_meet() {
+        with_pieces(|pieces| {
+            let placed = |places: [f64; 4]| {
+                let rows: Vec<(&Piece, f64, f64, bool)> = pieces
+                    .iter()
+                    .zip(places)
+                    .map(|(piece, place)| (piece, place, 1.0, false))
+                    .collect();
+                below(&rows, 50)
+            };
+            let apart = placed([10.0, 30.0, 50.0, 99.9]);
+            assert_eq!(apart.matches("<text").count(), 8, "{apart}");
+            assert!(
+                apart.contains(">4</text>") && !apart.contains("99.9"),
+                "within the row: {apart}"
+            );
+            let close = placed([10.0, 11.0, 12.0, 60.0]);
+            let joined = "<text class=\"paper strong\" x=\"10.00%\" y=\"50\">1, 2, 3</text>";
+            assert!(close.starts_with(joined), "{close}");
+            assert_eq!(close.matches("<text").count(), 4, "{close}");
+            let rows: Vec<(&Piece, f64, f64, bool)> =
+                pieces.iter().map(|piece| (piece, 10.0, 30.0, false)).collect();
+            assert_eq!(below(&rows, 50), "", "all have room inside");
+        });
+    }
 }

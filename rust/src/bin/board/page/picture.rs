@@ -196,7 +196,9 @@ impl<'a> Picture<'a> {
         let calendar = self.look.calendar;
         let [begin, end] = [clash.from, clash.to].map(|value| calendar.minute(value));
         let (from, to) = (begin.max(day * DAY), end.min(day * DAY + DAY));
-        if from > to || (from == to && begin != end) || begin.div_euclid(DAY) > day {
+        // What takes no time meets at one minute, which is in one day only.
+        let is_here = if begin == end { begin.div_euclid(DAY) == day } else { from < to };
+        if !is_here {
             return String::new();
         }
         let (left, right) = (self.x(from, day), self.x(to, day));
@@ -205,7 +207,7 @@ impl<'a> Picture<'a> {
             clash.one.number,
             clash.other.number,
             calendar.clock(from, false),
-            calendar.clock(to, true)
+            calendar.clock(to, from < to)
         );
         *height += LINE;
         let bottom = depth - 1;
@@ -223,8 +225,10 @@ impl<'a> Picture<'a> {
         let words: Vec<String> = pieces
             .iter()
             .map(|piece| {
-                let (from, to) =
-                    (calendar.clock(piece.from, false), calendar.clock(piece.to, true));
+                let (from, to) = (
+                    calendar.clock(piece.from, false),
+                    calendar.clock(piece.to, piece.from < piece.to),
+                );
                 format!("no. {} from {from} to {to}", piece.bar.number)
             })
             .collect();

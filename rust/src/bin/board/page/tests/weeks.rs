@@ -46,6 +46,35 @@ fn a_job_up_to_midnight_is_in_one_row() {
 }
 
 #[test]
+fn a_clash_over_midnight_is_named_in_both_rows() {
+    let page = page_of(LONG, "rug=Tue 20:00 mat=Tue 21:00");
+    has(&page, &["Clash on <bdi>loom</bdi>, Tue 21:00 to Wed 02:00"]);
+    for words in ["✗ CLASH of 1 and 2, 21:00 to 24:00", "✗ CLASH of 1 and 2, 00:00 to 02:00"] {
+        assert_eq!(page.text.matches(words).count(), 2, "once on paper, once on a phone: {words}");
+    }
+    assert_eq!(
+        page.text.matches("<rect class=\"clash\" x=\"").count(),
+        3,
+        "two rows and the legend"
+    );
+}
+
+#[test]
+fn a_job_that_takes_no_time_is_drawn_and_can_clash() {
+    let text = "week from Monday 00:00 step 1 h\nmachine kiln\njob look on kiln takes 0 h\njob urn on kiln takes 30 h\n";
+    let page = page_of(text, "urn=Mon 20:00 look=Tue 00:00");
+    has(
+        &page,
+        &[
+            "✗ CLASH of 1 and 2, 00:00 to 00:00",
+            "Tuesday: no. 1 from 00:00 to 24:00, no. 2 from 00:00 to 00:00",
+        ],
+    );
+    assert_eq!(page.text.matches("<line class=\"cross\"").count(), 2, "in one row only");
+    assert_eq!(page_of(text, "urn=Mon 20:00 look=Mon 20:00").verdict, Verdict::Sound);
+}
+
+#[test]
 fn without_a_week_a_row_has_24_steps() {
     let text =
         "machine loom\njob rug on loom takes 30 : -40 .. 90\njob mat on loom takes 5 : -40 .. 90\n";
