@@ -2,12 +2,11 @@
 
 use crate::run::shell;
 
-const COMMANDS: [&str; 7] = [
+const COMMANDS: [&str; 6] = [
     "cnf boards/unequal_starts.board",
     "record boards/unequal_starts.board",
     "text boards/unequal_starts.record",
     "show boards/unequal_starts.board x=0 y=1",
-    "sheet boards/unequal_starts.board x=0 y=1",
     "place boards/unequal_starts.board -- sh -c 'echo s UNSATISFIABLE'",
     "--help",
 ];

@@ -123,3 +123,13 @@ fn words_and_values_that_are_wrong_are_complained_about() {
         assert_eq!(status, Some(2), "{line}");
     }
 }
+
+#[test]
+fn a_page_for_which_standard_output_has_no_room_is_2() {
+    for (output, words) in [(">&-", "it is closed"), (">/dev/full", "No space left")] {
+        let line = format!("board sheet {WEEK} 2>&1 {output}");
+        let (complaint, status) = shell(&line);
+        assert!(complaint.starts_with(&format!("standard output: {words}")), "{complaint}");
+        assert_eq!(status, Some(2), "{output}");
+    }
+}
