@@ -2,6 +2,7 @@
 
 mod agreement;
 mod mischief;
+mod tightest;
 mod verdicts;
 mod weeks;
 

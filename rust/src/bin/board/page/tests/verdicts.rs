@@ -142,3 +142,19 @@ fn of_many_faults_the_first_are_printed_and_the_screen_has_all() {
     has(&page, &["✗ 9 more are wrong: the page on a screen has them all."]);
     has_not(&page_of(ACCIDENT, CLASH), &["<div class=\"on-screen\">", "more are wrong"]);
 }
+
+#[test]
+fn a_job_that_begins_while_another_cools_clashes_with_it() {
+    let text = "machine kiln\njob urn on kiln takes 4 then 3 cooling : 0 .. 30\njob mug on kiln takes 2 : 0 .. 30\n";
+    let page = page_of(text, "urn=0 mug=5");
+    assert_eq!(page.verdict, Verdict::Broken);
+    has(
+        &page,
+        &[
+            "Clash on <bdi>kiln</bdi>, 5 to 7",
+            "✗ CLASH of 1 and 2, 5 to 7",
+            "begins 2 steps too early",
+        ],
+    );
+    assert_eq!(page_of(text, "urn=0 mug=7").verdict, Verdict::Sound);
+}

@@ -42,6 +42,11 @@ fn a_job_up_to_midnight_is_in_one_row() {
             "aria-label=\"Saturday: no. 2 from 22:00 to 24:00\"",
         ],
     );
+    assert_eq!(
+        page.text.matches("<path class=\"arrow\"").count(),
+        2,
+        "at the end of Saturday and the begin of Sunday"
+    );
     has_not(&page, &["<h3>Week"]);
 }
 
