@@ -2,6 +2,7 @@
 
 use super::html::escaped;
 use super::look::Look;
+use crate::board::Number;
 use crate::wording::{bounds_words, yes_or_no};
 
 pub fn besides(look: &Look) -> String {
@@ -28,7 +29,7 @@ fn numbers(look: &Look) -> Vec<String> {
         job.is_some_and(|job| !nowhere.iter().any(|other| other.number == job.number))
     };
     let numbers = (0_u16..).zip(&look.sheet.board.numbers).filter(|(number, _)| !is_drawn(*number));
-    let row = |(number, declared): (u16, &crate::board::Number)| {
+    let row = |(number, declared): (u16, &Number)| {
         let value = look.setting.numbers[usize::from(number)];
         let value = look.sheet.value_words(number, value.into());
         let is_outside = look.checked.outside.contains(&number);

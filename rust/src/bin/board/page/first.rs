@@ -1,5 +1,6 @@
-//! The first page: the verdict in words, Judge's answer beside the page's own sums, what to look at, and two lines to sign.
+//! The first page: the verdict in words, Judge's answer, the page's own sums, what to look at, and two lines to sign.
 
+use super::bars::{clashes_of, Bar};
 use super::besides::besides;
 use super::broken::faults;
 use super::hashes::Hashes;
@@ -106,7 +107,8 @@ fn judged_words(look: &Look) -> String {
         "<b>✗ They do not agree. Do not use this sheet.</b>"
     };
     format!(
-        "<p><b>Judge</b>, of the proved library, {judge}. <b>This sheet's own sums</b>, worked out without it: {sums}. {agree}</p>\n"
+        "<p><b>Judge</b>, of the proved library, {judge}. <b>This sheet's own sums</b>, worked out without it: {sums}. \
+         {agree}</p>\n"
     )
 }
 
@@ -115,8 +117,8 @@ fn machines_words(look: &Look) -> String {
     if look.bars.is_empty() {
         return String::new();
     }
-    let row = |(machine, bars): (usize, &Vec<super::bars::Bar>)| {
-        let clashes = super::bars::clashes_of(bars).len();
+    let row = |(machine, bars): (usize, &Vec<Bar>)| {
+        let clashes = clashes_of(bars).len();
         let clashes =
             if clashes == 0 { "none".to_string() } else { format!("<b>✗ {clashes}</b>") };
         let first = bars.first().map_or("–".to_string(), |bar| look.time(bar.begin));
@@ -138,6 +140,7 @@ fn signatures(look: &Look) -> String {
         Verdict::Sound => "Looked through, every box ticked",
         _ => "Not to be signed as good. Seen by",
     };
-    let line = "<p class=\"sign\"><span>Name</span><i></i><span>Signature</span><i></i><span>Day</span><i class=\"short\"></i></p>\n";
+    let line = "<p class=\"sign\"><span>Name</span><i></i><span>Signature</span><i></i>\
+        <span>Day</span><i class=\"short\"></i></p>\n";
     format!("<div class=\"signatures\"><h2>{}</h2>\n{line}{line}</div>\n", escaped(head))
 }

@@ -1,4 +1,4 @@
-//! The record and the values that a page was made from, named by SHA-256 so that others can make sure with their own tools.
+//! The record and the values that a page was made from, named by SHA-256, which others can work out by their own tools.
 
 use super::html::{escaped, kept_apart};
 use super::look::Look;
@@ -30,7 +30,8 @@ impl Hashes {
     pub fn words(&self) -> String {
         let Hashes { record, bytes, values, .. } = self;
         format!(
-            "<p class=\"hashes\">Record of {bytes} bytes, SHA-256 <code>{record}</code><br>\nValues, SHA-256 <code>{values}</code></p>\n"
+            "<p class=\"hashes\">Record of {bytes} bytes, SHA-256 <code>{record}</code><br>\n\
+             Values, SHA-256 <code>{values}</code></p>\n"
         )
     }
 

@@ -118,7 +118,8 @@ impl<'a> Picture<'a> {
         let calendar = self.look.calendar;
         let words = escaped(&self.row_words(&pieces, day));
         format!(
-            "<div class=\"day\"><span>{}</span><svg height=\"{height}\" role=\"img\" aria-label=\"{words}\">{inner}</svg></div>\n",
+            "<div class=\"day\"><span>{}</span><svg height=\"{height}\" role=\"img\" aria-label=\"{words}\">\
+             {inner}</svg></div>\n",
             calendar.short_day_words(day)
         )
     }

@@ -102,7 +102,8 @@ fn nothing_is_fetched_from_anywhere() {
 
 #[test]
 fn a_text_that_is_read_from_right_to_left_is_kept_apart() {
-    let text = "week from Monday 00:00 step 1 h\nmachine kiln \"\u{641}\u{631}\u{646}\"\njob a \"\u{643}\u{623}\u{633}\" on kiln takes 8 h\n";
+    let text = "week from Monday 00:00 step 1 h\nmachine kiln \"\u{641}\u{631}\u{646}\"\n\
+        job a \"\u{643}\u{623}\u{633}\" on kiln takes 8 h\n";
     let page = page_of(text, "a=Mon 08:00");
     has(
         &page,

@@ -33,8 +33,10 @@ fn of_rules_the_one_that_holds_with_the_least_room_comes_first() {
     has(
         &page,
         &[
-            "<b>30 min</b>, line 8: d = Mon 17:30 is &gt;= Mon 17:00 <span class=\"name\"><bdi>Dishes</bdi>, <bdi>Cups</bdi></span>",
-            "<b>30 min</b>, line 9: b = Mon 13:00 is &lt; Mon 14:00 <span class=\"name\"><bdi>Bowls</bdi>: <bdi>before the guests</bdi>",
+            "<b>30 min</b>, line 8: d = Mon 17:30 is &gt;= Mon 17:00 \
+             <span class=\"name\"><bdi>Dishes</bdi>, <bdi>Cups</bdi></span>",
+            "<b>30 min</b>, line 9: b = Mon 13:00 is &lt; Mon 14:00 \
+             <span class=\"name\"><bdi>Bowls</bdi>: <bdi>before the guests</bdi>",
         ],
     );
 }
