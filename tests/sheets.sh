@@ -28,7 +28,10 @@ export BOARD
 kept=0
 for values in boards/week/*.values; do
     name=$(basename "$values" .values)
-    "$BOARD" sheet "boards/week/${name%%.*}.board" "$values" >"$work/page" 2>"$work/said" || [ $? = 1 ] || fail "$(cat "$work/said")"
+    case ${name##*.} in both | wrong) wanted=1 ;; *) wanted=0 ;; esac
+    status=0
+    "$BOARD" sheet "boards/week/${name%%.*}.board" "$values" >"$work/page" 2>"$work/said" || status=$?
+    [ "$status" = "$wanted" ] || fail "$values: status $status: $(cat "$work/said")"
     cmp -s "$work/page" "boards/week/sheets/$name.html" || fail "sheets/$name.html is not made of $values: boards/week/make.sh boards/week renews it"
     kept=$((kept + 1))
 done

@@ -50,6 +50,33 @@ fn a_job_up_to_midnight_is_in_one_row() {
     has_not(&page, &["<h3>Week"]);
 }
 
+/// What an attribute of a shape is, without the sign of hundredths.
+fn attribute(shape: &str, name: &str) -> String {
+    let value = shape.split(&format!("{name}=\"")).nth(1).unwrap();
+    value.split(['"', '%']).next().unwrap().to_string()
+}
+
+#[test]
+fn bars_and_closed_hours_stand_where_their_hours_are() {
+    let text = "week from Monday 00:00 step 1 h\nmachine kiln\nclosed : every day 21:00 .. 03:00\n\
+        job urn on kiln takes 4 h then 2 h cooling then 3 h drying\njob mug on kiln takes 22 h\n";
+    let page = page_of(text, "urn=Mon 06:00 mug=Tue 06:00");
+    let monday =
+        page.text.split("aria-label=\"Monday").nth(1).unwrap().split("</div>").next().unwrap();
+    let expected = [
+        ["closed", "0.00", "12.50"],
+        ["closed", "87.50", "12.50"],
+        ["work", "25.00", "16.67"],
+        ["then0", "41.67", "8.33"],
+        ["then1", "50.00", "12.50"],
+        ["frame", "25.00", "37.50"],
+    ];
+    let shape = |rect: &str| ["class", " x", "width"].map(|name| attribute(rect, name));
+    let drawn: Vec<[String; 3]> = monday.split("<rect ").skip(1).map(shape).collect();
+    assert_eq!(drawn, expected);
+    has(&page, &["x=\"25.00%\" y=\"13\">06</text>", "x=\"75.00%\" y=\"13\">18</text>"]);
+}
+
 #[test]
 fn a_clash_over_midnight_is_named_in_both_rows() {
     let page = page_of(LONG, "rug=Tue 20:00 mat=Tue 21:00");
