@@ -77,7 +77,7 @@ fn broken_words(look: &Look) -> String {
         1 => " 1 number is outside its bounds.".to_string(),
         outside => format!(" {outside} numbers are outside their bounds."),
     };
-    format!("It is no solution of the board.{rules}{outside} What is wrong stands below, and is crossed in the pictures.")
+    format!("It is no solution of the board.{rules}{outside} What is wrong stands below, and is marked with ✗ in the pictures.")
 }
 
 /// `1 rule`, `12 rules`.
