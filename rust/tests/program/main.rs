@@ -9,6 +9,7 @@ mod join;
 mod output;
 mod place;
 mod run;
+mod sheet;
 mod show;
 mod solver;
 mod week;

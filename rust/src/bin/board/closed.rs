@@ -137,8 +137,13 @@ impl Closed {
         Ok(())
     }
 
+    /// Whether it speaks of a machine.
+    pub fn is_of(&self, machine: usize) -> bool {
+        self.machines.is_empty() || self.machines.contains(&machine)
+    }
+
     /// The closed hours that values from least to greatest can meet.
-    fn within(&self, least: i64, greatest: i64) -> Vec<(i64, i64)> {
+    pub fn within(&self, least: i64, greatest: i64) -> Vec<(i64, i64)> {
         let (first, last) = self.hours;
         let Some(again) = self.again else {
             return if first <= greatest && least < last { vec![self.hours] } else { Vec::new() };

@@ -7,6 +7,7 @@ pub mod model;
 pub mod place;
 pub mod record;
 pub mod rules;
+pub mod sheet;
 pub mod show;
 pub mod text;
 pub mod why;

@@ -18,8 +18,17 @@ pub struct Job {
     pub machines: Vec<OnMachine>,
     /// From its begin to its unloading, in steps.
     pub takes: i64,
+    /// The same, part by part.
+    pub phases: Vec<Phase>,
     /// The first and the last value at which it may begin.
     pub begins: (i64, i64),
+}
+
+/// A part of what a job takes, in steps, and the word for it; the job's own work comes first and has none.
+#[derive(Debug, Clone)]
+pub struct Phase {
+    pub steps: i64,
+    pub what: Option<String>,
 }
 
 #[derive(Debug, Clone, Copy)]
@@ -62,7 +71,8 @@ pub fn read_job(words: &mut Words, sheet: &mut Sheet) -> Result<(), Complaint> {
     words.word("on")?;
     let machines = read_machines(words, sheet)?;
     words.word("takes")?;
-    let takes = read_takes(words, sheet)?;
+    let phases = read_phases(words, sheet)?;
+    let takes = phases.iter().map(|phase| phase.steps).sum();
     let window = read_window(words, sheet, takes)?;
     words.end("the end of the line")?;
     let spots = NumberSpots { name: name_spot, lower: window.spot, upper: window.spot };
@@ -73,7 +83,7 @@ pub fn read_job(words: &mut Words, sheet: &mut Sheet) -> Result<(), Complaint> {
         sheet.clocks.insert(number);
     }
     let machines = add_machine_choices(sheet, &name, name_spot, &machines)?;
-    let job = Job { name, title, spot, number, machines, takes, begins: window.begins };
+    let job = Job { name, title, spot, number, machines, takes, phases, begins: window.begins };
     one_machine_each(sheet, &job)?;
     one_at_a_time(sheet, &job)?;
     sheet.jobs.push(job);
@@ -106,17 +116,18 @@ pub fn read_machine_name(words: &mut Words, sheet: &Sheet) -> Result<usize, Comp
     Err(words.expected("the name of a machine that is declared above"))
 }
 
-/// Reads `7 h then 6 h cooling`: how long the machine is taken, all in all.
-fn read_takes(words: &mut Words, sheet: &Sheet) -> Result<i64, Complaint> {
-    let mut takes = read_duration(words, sheet)?.steps;
+/// Reads `7 h then 6 h cooling`.
+fn read_phases(words: &mut Words, sheet: &Sheet) -> Result<Vec<Phase>, Complaint> {
+    let mut phases = vec![Phase { steps: read_duration(words, sheet)?.steps, what: None }];
     while words.take_if(Word::Name("then"))? {
-        takes += read_duration(words, sheet)?.steps;
-        let Word::Name(_) = words.peek()? else {
+        let steps = read_duration(words, sheet)?.steps;
+        let Word::Name(what) = words.peek()? else {
             return Err(words.expected("a word that says what for, such as `cooling`"));
         };
         words.take()?;
+        phases.push(Phase { steps, what: Some(what.to_string()) });
     }
-    Ok(takes)
+    Ok(phases)
 }
 
 struct Window {

@@ -20,11 +20,13 @@ mod literals;
 mod opened;
 mod output;
 mod overlaps;
+mod page;
 mod placement;
 mod progress;
 mod reading;
 mod reply;
 mod rules;
+mod sha256;
 mod sheet;
 mod shown;
 mod signs;
@@ -54,10 +56,12 @@ board text FILE.record         writes a record as a readable board
 board rules FILE.board         writes the plain rules that the lines of a board stand for, with their lines
 board show FILE.board VALUES   writes every rule with the values put in, and whether it holds (--broken: only those that
                                do not); VALUES are words such as kiln=12 shared=yes, or files of such words
+board sheet FILE.board VALUES  writes a page for the keepers, to be printed or read on a phone: verdict, pictures, tables
 board cnf FILE.board           writes the clause list of a board as DIMACS CNF
 board model FILE.board         reads a solver's reply from standard input and writes the values it stands for
 board place FILE.board -- SOLVER ARGUMENTS
-                               asks a solver for values that keep to every rule, and writes them
+                               asks a solver for values that keep to every rule, and writes them (with --sheet PAGE.html
+                               before FILE.board, the keepers' page too)
 board earliest FILE.board NAME -- SOLVER ARGUMENTS
                                finds the least value of a number over all solutions by questions to a solver
 board why FILE.board [--seconds N] -- SOLVER ARGUMENTS
@@ -98,11 +102,15 @@ fn run(words: &[&str]) -> Result<bool, Trouble> {
         ["record", file] => commands::record::run(file),
         ["text", file] => commands::text::run(file),
         ["show", values @ ..] if values.iter().any(|word| *word != BROKEN) => show(values),
+        ["sheet", file, values @ ..] => commands::sheet::run(file, values),
         ["rules", file] => commands::rules::run(file),
         ["cnf", file] => commands::cnf::run(file),
         ["model", file] => commands::model::run(file),
         ["place", file, "--", program, words @ ..] => {
-            commands::place::run(file, &Solver { program, words })
+            commands::place::run(file, None, &Solver { program, words })
+        }
+        ["place", "--sheet", page, file, "--", program, words @ ..] => {
+            commands::place::run(file, Some(page), &Solver { program, words })
         }
         ["join", base, one, two] => commands::join::run(base, [one, two]),
         ["why", file, "--", program, words @ ..] => {

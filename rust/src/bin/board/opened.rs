@@ -59,6 +59,17 @@ impl Opened {
             None => format!("{}: {refusal}", self.name),
         }
     }
+
+    /// The name of the file without its folders.
+    pub fn short_name(&self) -> &str {
+        self.name.rsplit('/').next().unwrap_or("")
+    }
+
+    /// The lines of the comment that the text begins with.
+    pub fn first_comment(&self) -> impl Iterator<Item = &str> {
+        let lines = self.text.lines().map(str::trim).skip_while(|line| line.is_empty());
+        lines.map_while(|line| line.strip_prefix('#')).map(str::trim)
+    }
 }
 
 /// The text of a file.

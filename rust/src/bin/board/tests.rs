@@ -2,9 +2,9 @@
 
 mod all_values;
 mod complaints;
-mod dice;
+pub mod dice;
 mod drawn_jobs;
-mod folder;
+pub mod folder;
 mod hours;
 mod jobs;
 mod joining;

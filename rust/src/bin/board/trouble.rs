@@ -5,7 +5,7 @@
 pub enum Status {
     /// A board, a name, a value or a reply is refused, or does not hold.
     Refused = 1,
-    /// The words after `board` are wrong, or standard output takes nothing.
+    /// The words after `board` are wrong, or standard output or a page takes nothing.
     WrongUse = 2,
     /// The solver says that there is no solution.
     NoSolution = 3,

@@ -31,6 +31,11 @@ pub fn parts_a_day(step: i64) -> bool {
     step > 0 && DAY % step == 0
 }
 
+/// The name of a day, counted from Monday of the first week.
+pub fn day_name(day: i64) -> &'static str {
+    DAYS[day.rem_euclid(7) as usize]
+}
+
 impl Week {
     /// A week whose value 0 is at this minute of a weekday.
     pub fn new(day: i64, minute: i64, step: i64) -> Week {
@@ -64,9 +69,14 @@ impl Week {
         (minutes % self.step == 0).then_some(minutes / self.step)
     }
 
+    /// The minute of a value, counted from Monday 00:00 of the first week.
+    pub fn minute(&self, value: i64) -> i64 {
+        self.start + value * self.step
+    }
+
     /// `Tue 08:00`, with its week where that is not the first.
     pub fn words(&self, value: i64) -> String {
-        let minute = (self.start + value * self.step).rem_euclid(WEEK);
+        let minute = self.minute(value).rem_euclid(WEEK);
         let day = &DAYS[(minute / DAY) as usize][..3];
         let (hours, minutes) = (minute % DAY / HOUR, minute % HOUR);
         let week = match value.div_euclid(self.steps_in_a_week()) {
