@@ -31,7 +31,9 @@ B c = boardOf (c .args .bytes .now)
 -- a literal was read
 read : (c : tie.After-literal Inv-loop μ-loop)
     → readLiteral (contextOf (B (c .before .before .before .before .before .before .before .before .before .before .before))) (c .before .before .before .before .before .before .before .before .before .before .before .args .rules .now) (c .before .before .before .before .loop .place) ≡ done (record { value = literalOf (c .before .before .before .before .before .before .before .before .before .before .before .args .rules .now) (c .literal .given .0 .0); next = c .literal .given .0 .1 .0 })
-read c = rw (c .before .before .before .before .before .before .context-of .ensures, context-is (c .before .before .before .before .before .before .before .before .before .before .before .pre .0 .opened)) at (told (saidLiteral (c .before .before .before .before .before .before .before .before .before .before .before .args .rules .now)) (c .before .before .literal-at .ensures .0) (c .literal .given .1))
+read c =
+    let s = c .before .before .before .before .before .before .before .before .before .before .before in
+    rw (c .before .before .before .before .before .before .context-of .ensures, context-is (s .pre .0 .opened)) at (told (saidLiteral (s .args .rules .now)) (c .before .before .literal-at .ensures .0) (c .literal .given .1))
 
 context-of-requires : tie.Need-context-of-requires Inv-loop μ-loop
 context-of-requires c κs = counts-small (c .before .before .before .before .pre .0 .opened)
@@ -43,7 +45,9 @@ cast-selectors : tie.Need-cast-selectors Inv-loop μ-loop
 cast-selectors c = search needs
 
 loop-holds : tie.Need-loop-holds Inv-loop μ-loop
-loop-holds c = record { readable = c .before .before .before .before .before .before .pre .2; same = refl; mentioned = c .before .before .before .before .before .before .pre .3 }
+loop-holds c =
+    let s = c .before .before .before .before .before .before in
+    record { readable = s .pre .2; same = refl; mentioned = s .pre .3 }
 
 literal-at-requires : tie.Need-literal-at-requires Inv-loop μ-loop
 literal-at-requires c κs = search needs
@@ -56,21 +60,25 @@ enum-told c = search needs
 
 returns : tie.Need-returns Inv-loop μ-loop
 returns c =
-    absurd (one-left (c .before .before .before .before .loop .inv) (c .before .before .before .loop-test .taken) (rw (c .before .before .before .before .before .before .context-of .ensures, context-is (c .before .before .before .before .before .before .before .before .before .before .before .pre .0 .opened)) at (told (saidLiteral (c .before .before .before .before .before .before .before .before .before .before .before .args .rules .now)) (c .before .before .literal-at .ensures .0) (c .enum-told .given .1))))
+    let s = c .before .before .before .before .before .before .before .before .before .before .before in
+    absurd (one-left (c .before .before .before .before .loop .inv) (c .before .before .before .loop-test .taken) (rw (c .before .before .before .before .before .before .context-of .ensures, context-is (s .pre .0 .opened)) at (told (saidLiteral (s .args .rules .now)) (c .before .before .literal-at .ensures .0) (c .enum-told .given .1))))
 
 literal-holds-requires : tie.Need-literal-holds-requires Inv-loop μ-loop
 literal-holds-requires c κs =
-    let n = literal-numbered (c .before .before .before .before .before .loop .inv) (c .before .before .before .before .loop-test .taken) (c .before .literal .given .0 .0) (read (c .before)) (c .before .before .before .before .before .before .before .before .before .before .before .before .pre .0 .long) in
-    rw (c .before .before .before .before .before .before .first-in .ensures, c .before .before .before .before .before .before .before .before .before .before .before .before .pre .1 (c .before .before .before .before .before .before .before .before .before .before .before .before .args .header .ints) (omega (arith, ints-is (c .before .before .before .before .before .before .before .before .before .before .before .before .pre .0 .opened))), selectors-are (c .before .before .before .before .before .before .before .before .before .before .before .before .pre .0 .opened)) (n .0, n .1, short (c .before .before .before .before .before .before .before .before .before .before .before .before .pre .0))
+    let s = c .before .before .before .before .before .before .before .before .before .before .before .before in
+    let n = literal-numbered (c .before .before .before .before .before .loop .inv) (c .before .before .before .before .loop-test .taken) (c .before .literal .given .0 .0) (read (c .before)) (s .pre .0 .long) in
+    rw (c .before .before .before .before .before .before .first-in .ensures, s .pre .1 (s .args .header .ints) (omega (arith, ints-is (s .pre .0 .opened))), selectors-are (s .pre .0 .opened)) (n .0, n .1, short (s .pre .0))
 
 returns-2 : tie.Need-returns-2 Inv-loop μ-loop
 returns-2 c =
-    literal-true (c .before .before .before .before .before .before .before .loop .inv) (c .before .before .before .before .before .before .loop-test .taken) (c .before .before .before .literal .given .0 .0) (read (c .before .before .before)) (rw (c .before .before .before .before .before .before .before .before .first-in .ensures, c .before .before .before .before .before .before .before .before .before .before .before .before .before .before .pre .1 (c .before .before .before .before .before .before .before .before .before .before .before .before .before .before .args .header .ints) (omega (arith, ints-is (c .before .before .before .before .before .before .before .before .before .before .before .before .before .before .pre .0 .opened))), selectors-are (c .before .before .before .before .before .before .before .before .before .before .before .before .before .before .pre .0 .opened)) at (sym (c .before .literal-holds .ensures) ∙ c .if1 .taken))
+    let s = c .before .before .before .before .before .before .before .before .before .before .before .before .before .before in
+    literal-true (c .before .before .before .before .before .before .before .loop .inv) (c .before .before .before .before .before .before .loop-test .taken) (c .before .before .before .literal .given .0 .0) (read (c .before .before .before)) (rw (c .before .before .before .before .before .before .before .before .first-in .ensures, s .pre .1 (s .args .header .ints) (omega (arith, ints-is (s .pre .0 .opened))), selectors-are (s .pre .0 .opened)) at (sym (c .before .literal-holds .ensures) ∙ c .if1 .taken))
 
 selector-after-requires : tie.Need-selector-after-requires Inv-loop μ-loop
 selector-after-requires c κs =
-    let n = literal-numbered (c .before .before .before .before .before .before .before .loop .inv) (c .before .before .before .before .before .before .loop-test .taken) (c .before .before .before .literal .given .0 .0) (read (c .before .before .before)) (c .before .before .before .before .before .before .before .before .before .before .before .before .before .before .pre .0 .long) in
-    omega (arith, n .2, short (c .before .before .before .before .before .before .before .before .before .before .before .before .before .before .pre .0))
+    let s = c .before .before .before .before .before .before .before .before .before .before .before .before .before .before in
+    let n = literal-numbered (c .before .before .before .before .before .before .before .loop .inv) (c .before .before .before .before .before .before .loop-test .taken) (c .before .before .before .literal .given .0 .0) (read (c .before .before .before)) (s .pre .0 .long) in
+    omega (arith, n .2, short (s .pre .0))
 
 sub-left : tie.Need-sub-left Inv-loop μ-loop
 sub-left c = omega arith
@@ -80,7 +88,8 @@ loop-less c = omega arith
 
 loop-again : tie.Need-loop-again Inv-loop μ-loop
 loop-again c =
-    rw (c .selector-after .ensures) (literal-false (c .before .before .before .before .before .before .before .before .loop .inv) (c .before .before .before .before .before .before .before .loop-test .taken) (c .before .before .before .before .literal .given .0 .0) (read (c .before .before .before .before)) (rw (c .before .before .before .before .before .before .before .before .before .first-in .ensures, c .before .before .before .before .before .before .before .before .before .before .before .before .before .before .before .pre .1 (c .before .before .before .before .before .before .before .before .before .before .before .before .before .before .before .args .header .ints) (omega (arith, ints-is (c .before .before .before .before .before .before .before .before .before .before .before .before .before .before .before .pre .0 .opened))), selectors-are (c .before .before .before .before .before .before .before .before .before .before .before .before .before .before .before .pre .0 .opened)) at (sym (c .before .before .literal-holds .ensures) ∙ c .before .if1 .left)))
+    let s = c .before .before .before .before .before .before .before .before .before .before .before .before .before .before .before in
+    rw (c .selector-after .ensures) (literal-false (c .before .before .before .before .before .before .before .before .loop .inv) (c .before .before .before .before .before .before .before .loop-test .taken) (c .before .before .before .before .literal .given .0 .0) (read (c .before .before .before .before)) (rw (c .before .before .before .before .before .before .before .before .before .first-in .ensures, s .pre .1 (s .args .header .ints) (omega (arith, ints-is (s .pre .0 .opened))), selectors-are (s .pre .0 .opened)) at (sym (c .before .before .literal-holds .ensures) ∙ c .before .if1 .left)))
 
 returns-3 : tie.Need-returns-3 Inv-loop μ-loop
 returns-3 c = none-left (c .before .loop .inv) (c .loop-test .left)

@@ -31,7 +31,8 @@ enum-known-piece c = search needs
 
 line-holds-requires : tie.Need-line-holds-requires
 line-holds-requires c κs =
-    (c .before .before .before .before .before .before .before .pre .0, c .before .before .before .before .before .before .before .pre .1, rw (c .before .piece .given .1) at (c .before .before .before .before .before .before .before .pre .2), (rw (c .before .piece .given .1) at (c .before .before .before .before .before .before .before .pre .3)) .1)
+    let s = c .before .before .before .before .before .before .before in
+    (s .pre .0, s .pre .1, rw (c .before .piece .given .1) at (s .pre .2), (rw (c .before .piece .given .1) at (s .pre .3)) .1)
 
 enum-told : tie.Need-enum-told
 enum-told c = search needs
@@ -59,8 +60,9 @@ returns-2 c = rw (c .enum-told .given .1)
 
 returns-3 : tie.Need-returns-3
 returns-3 c =
+    let s = c .before .before .before .before .before .before .before .before .before in
     let f = c .before in
-    rw (c .before .before .before .piece2 .given .1) (ap not (c .is-on .ensures ∙ ap (on (c .before .before .before .before .before .before .before .before .before .args .model .now)) (number-is f)) ∙ sym (negated-true (B f) (c .before .before .before .before .before .before .before .before .before .args .model .now) (c .before .before .before .piece2 .given .0 .0)))
+    rw (c .before .before .before .piece2 .given .1) (ap not (c .is-on .ensures ∙ ap (on (s .args .model .now)) (number-is f)) ∙ sym (negated-true (B f) (s .args .model .now) (c .before .before .before .piece2 .given .0 .0)))
 
 pub lead-holds-spec : {M : Type 1} → statement M
 lead-holds-spec =

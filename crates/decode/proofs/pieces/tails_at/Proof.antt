@@ -35,9 +35,10 @@ module _ (c : tie.After-least) where
 
 ready-requires : tie.Need-ready-requires
 ready-requires c κs =
-    let f = c .before .before .before .fits .constant in
-    let d = c .before .before .before .pre .2 in
-    simp toZ-ofZ (c .before .before .before .pre .0, firsts-small (boardOf (c .before .before .before .args .bytes .now)) (opens-admitted _ (c .before .before .before .pre .0)) (c .before .before .before .args .firsts .now) (c .before .before .before .pre .1), record { few = d .few; room = d .room }, d .good)
+    let s = c .before .before .before in
+    let f = s .fits .constant in
+    let d = s .pre .2 in
+    simp toZ-ofZ (s .pre .0, firsts-small (boardOf (s .args .bytes .now)) (opens-admitted _ (s .pre .0)) (s .args .firsts .now) (s .pre .1), record { few = d .few; room = d .room }, d .good)
 
 least-requires : tie.Need-least-requires
 least-requires c κs = c .ready .ensures .fair

@@ -29,16 +29,18 @@ enum-known-piece c = search needs
 
 tails-at-requires : tie.Need-tails-at-requires
 tails-at-requires c κs =
+    let s = c .before .before .before .before .before .before in
     let h = lone (c .before) in
-    let f = constant-fits _ _ h in simp toZ-ofZ (c .before .before .before .before .before .before .pre .0, c .before .before .before .before .before .before .pre .1, h)
+    let f = constant-fits _ _ h in simp toZ-ofZ (s .pre .0, s .pre .1, h)
 
 enum-known-piece-2 : tie.Need-enum-known-piece-2
 enum-known-piece-2 c = search needs
 
 tails-at-requires-2 : tie.Need-tails-at-requires-2
 tails-at-requires-2 c κs =
+    let s = c .before .before .before .before .before .before in
     let h = led (c .before) in
-    let f = constant-fits _ _ h in simp toZ-ofZ (c .before .before .before .before .before .before .pre .0, c .before .before .before .before .before .before .pre .1, h)
+    let f = constant-fits _ _ h in simp toZ-ofZ (s .pre .0, s .pre .1, h)
 
 returns : tie.Need-returns
 returns c = rw (c .before .enum-told .given .1) (line-tails (boardOf (c .before .before .before .before .before .before .args .bytes .now)) _ _ (c .single .ensures))

@@ -28,10 +28,11 @@ literal-at-requires c κs = search needs
 
 holds-requires : tie.Need-holds-requires
 holds-requires c κs =
-    let a = c .before .before .before .before .args in
+    let s = c .before .before .before .before in
+    let a = s .args in
     let f : SFits w32 (c .literal-at .result) = record { sfits = c .literal-at .ok } in
-    let p = rw (front-some (a .tails .n - 2) (getD (present (a .tails) (a .tuple)) 0 (pos 0)) (omega (arith, c .before .if1 .left))) at (c .before .before .before .before .pre .2) in
-    simp toZ-ofZ (rw (c .literal-at .ensures) (p .0 .0, p .0 .1, c .before .before .before .before .pre .3))
+    let p = rw (front-some (a .tails .n - 2) (getD (present (a .tails) (a .tuple)) 0 (pos 0)) (omega (arith, c .before .if1 .left))) at (s .pre .2) in
+    simp toZ-ofZ (rw (c .literal-at .ensures) (p .0 .0, p .0 .1, s .pre .3))
 
 returns-2 : tie.Need-returns-2
 returns-2 c =

@@ -21,8 +21,9 @@ holds-requires-2 c κs = search needs
 
 returns-2 : tie.Need-returns-2
 returns-2 c =
-    let f = c .before .before .before .before .fits .y in
-    let g = c .before .before .before .before .fits .z in
+    let s = c .before .before .before .before in
+    let f = s .fits .y in
+    let g = s .fits .z in
     rw (sym (simp toZ-ofZ at (c .before .before .holds .ensures)) ∙ c .before .if1 .left, or-false) (simp toZ-ofZ at (c .holds2 .ensures))
 
 pub pair-holds-spec : {M : Type 1} → statement M

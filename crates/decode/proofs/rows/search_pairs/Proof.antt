@@ -52,16 +52,19 @@ returns c =
 
 add-at : tie.Need-add-at Inv-loop μ-loop
 add-at c =
+    let s = c .before .before .before .before .before .before .before in
     let l = c .before .before .before .before .before .loop in
-    omega (arith, l .inv .0 .count, c .before .before .before .before .loop-test .taken, c .before .before .before .before .before .before .before .pre .6, length-map (rowFrom [] (l .p) (l .q) (l .left)) (trueTail (c .before .before .before .before .before .before .before .args .model .now)), row-count [] (l .p) (l .q) (l .left), length-map (rowFrom [] (c .before .before .before .before .before .before .before .args .y) (c .before .before .before .before .before .before .before .args .z) (c .before .before .before .before .before .before .before .args .count)) (trueTail (c .before .before .before .before .before .before .before .args .model .now)), row-count [] (c .before .before .before .before .before .before .before .args .y) (c .before .before .before .before .before .before .before .args .z) (c .before .before .before .before .before .before .before .args .count))
+    omega (arith, l .inv .0 .count, c .before .before .before .before .loop-test .taken, s .pre .6, length-map (rowFrom [] (l .p) (l .q) (l .left)) (trueTail (s .args .model .now)), row-count [] (l .p) (l .q) (l .left), length-map (rowFrom [] (s .args .y) (s .args .z) (s .args .count)) (trueTail (s .args .model .now)), row-count [] (s .args .y) (s .args .z) (s .args .count))
 
 up-requires : tie.Need-up-requires Inv-loop μ-loop
 up-requires c κs =
-    (c .before .before .before .before .before .loop .inv .1, omega (arith, c .before .before .before .before .before .loop .inv .3))
+    let here = c .before .before .before .before .before .loop in
+    (here .inv .1, omega (arith, here .inv .3))
 
 down-requires : tie.Need-down-requires Inv-loop μ-loop
 down-requires c κs =
-    (c .before .before .before .before .before .before .loop .inv .2, omega (arith, c .before .before .before .before .before .before .loop .inv .4))
+    let here = c .before .before .before .before .before .before .loop in
+    (here .inv .2, omega (arith, here .inv .4))
 
 sub-left : tie.Need-sub-left Inv-loop μ-loop
 sub-left c =

@@ -63,17 +63,20 @@ cast-result c = let h = small (c .before .before .before) in search needs
 
 add-result : tie.Need-add-result Inv-loop μ-loop
 add-result c =
-    let f = lower-fits (c .before .before .before .before .before .before .before .before .args .bounds) (c .before .before .before .before .before .before .before .before .pre .0) in
-    let e : toZ w32 (c .before .before .before .before .before .loop .k) ≡ pos (c .before .before .before .before .before .loop .k) = toZ-pos w32 (omega (arith, small (c .before .before .before .before .before))) in
+    let s = c .before .before .before .before .before .before .before .before in
+    let here = c .before .before .before .before .before .loop in
+    let f = lower-fits (s .args .bounds) (s .pre .0) in
+    let e : toZ w32 (here .k) ≡ pos (here .k) = toZ-pos w32 (omega (arith, small (c .before .before .before .before .before))) in
     simp (toZ-ofZ, e) (value-fits (c .before .before .before .before .before))
 
 returns : tie.Need-returns Inv-loop μ-loop
 returns c =
+    let here = c .before .before .before .before .before .loop in
     let s = c .before .before .before .before .before .before .before .before in
     let f = lower-fits (c .before .before .before .before .before .before .before .before .args .bounds) (c .before .before .before .before .before .before .before .before .pre .0) in
-    let e : toZ w32 (c .before .before .before .before .before .loop .k) ≡ pos (c .before .before .before .before .before .loop .k) = toZ-pos w32 (omega (arith, small (c .before .before .before .before .before))) in
+    let e : toZ w32 (here .k) ≡ pos (here .k) = toZ-pos w32 (omega (arith, small (c .before .before .before .before .before))) in
     let q = value-fits (c .before .before .before .before .before) in
-    simp (toZ-ofZ, e) (sym (value-hit (s .args .model .now) (s .args .first) (b s) (c .before .before .before .before .before .loop .k) (omega arith) (sym (c .before .before .before .is-on .ensures) ∙ c .before .before .if1 .taken)) ∙ c .before .before .before .before .before .loop .inv .2)
+    simp (toZ-ofZ, e) (sym (value-hit (s .args .model .now) (s .args .first) (b s) (here .k) (omega arith) (sym (c .before .before .before .is-on .ensures) ∙ c .before .before .if1 .taken)) ∙ here .inv .2)
 
 add-k : tie.Need-add-k Inv-loop μ-loop
 add-k c = omega (arith, small (c .before .before .before))
@@ -83,14 +86,16 @@ loop-less c = omega arith
 
 loop-again : tie.Need-loop-again Inv-loop μ-loop
 loop-again c =
+    let here = c .before .before .before .loop in
     let s = c .before .before .before .before .before .before in
-    (omega arith, c .before .before .before .loop .inv .1, sym (value-miss (s .args .model .now) (s .args .first) (b s) (c .before .before .before .loop .k) (omega arith) (sym (c .before .is-on .ensures) ∙ c .if1 .left)) ∙ c .before .before .before .loop .inv .2)
+    (omega arith, here .inv .1, sym (value-miss (s .args .model .now) (s .args .first) (b s) (here .k) (omega arith) (sym (c .before .is-on .ensures) ∙ c .if1 .left)) ∙ here .inv .2)
 
 returns-2 : tie.Need-returns-2 Inv-loop μ-loop
 returns-2 c =
+    let here = c .before .before .loop in
     let s = c .before .before .before .before .before in
     let f = upper-fits (s .args .bounds) (s .pre .0) in
-    simp toZ-ofZ (sym (value-last (s .args .model .now) (s .args .first) (b s) (c .before .before .loop .k) (s .pre .0) (omega arith)) ∙ c .before .before .loop .inv .2)
+    simp toZ-ofZ (sym (value-last (s .args .model .now) (s .args .first) (b s) (here .k) (s .pre .0) (omega arith)) ∙ here .inv .2)
 
 pub value-of-spec : {M : Type 1} → statement M
 value-of-spec =

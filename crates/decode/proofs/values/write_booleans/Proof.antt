@@ -33,19 +33,21 @@ loop-less c = omega (arith, c .before .before .loop .inv .1)
 
 loop-again : tie.Need-loop-again Inv-loop μ-loop
 loop-again c =
+    let here = c .before .before .loop in
     let a = c .before .before .before .args in
-    let i = c .before .before .loop .i in
-    let l = c .before .before .loop .inv .1 in
-    (omega (arith, l), simp length-set l, ap (λ z. set z i (getD (a .model .now) i 0)) (c .before .before .loop .inv .2) ∙ written-take 0 (a .model .now) (a .booleans .now) i (omega (arith, l)) (omega (arith, l)))
+    let i = here .i in
+    let l = here .inv .1 in
+    (omega (arith, l), simp length-set l, ap (λ z. set z i (getD (a .model .now) i 0)) (here .inv .2) ∙ written-take 0 (a .model .now) (a .booleans .now) i (omega (arith, l)) (omega (arith, l)))
 
 same-length : tie.Need-same-length Inv-loop μ-loop
 same-length c = c .before .loop .inv .1
 
 returns : tie.Need-returns Inv-loop μ-loop
 returns c =
-    let m = c .before .before .args .model .now in
+    let s = c .before .before in
+    let m = s .args .model .now in
     let i = c .before .loop .i in
-    let e : i ≡ length (c .before .before .args .booleans .now) = omega (arith, c .before .loop .inv .1) in
+    let e : i ≡ length (s .args .booleans .now) = omega (arith, c .before .loop .inv .1) in
     rw (← e) (c .before .loop .inv .2 ∙ written-all (take i m) _ (length-take-le i m (omega arith) ∙ e))
 
 pub write-booleans-spec : {M : Type 1} → statement M

@@ -61,7 +61,9 @@ loop-holds c =
     (omega arith, refl, rw (bools-is (c .before .before .before .pre .0 .opened)) (sym (first-none (B (c .before .before .before)))), written-none _)
 
 bounds-of-requires : tie.Need-bounds-of-requires Inv-loop μ-loop
-bounds-of-requires c κs = (c .before .before .before .before .before .before .pre .0 .opened .opens, omega (arith, ints-is (c .before .before .before .before .before .before .pre .0 .opened)))
+bounds-of-requires c κs =
+    let s = c .before .before .before .before .before .before in
+    (s .pre .0 .opened .opens, omega (arith, ints-is (s .pre .0 .opened)))
 
 value-of-requires : tie.Need-value-of-requires Inv-loop μ-loop
 value-of-requires c κs = let r = room (c) in (c .bounds-of .ensures .good, r .0, r .1, r .2)
@@ -89,16 +91,17 @@ loop-less c = omega arith
 
 loop-again : tie.Need-loop-again Inv-loop μ-loop
 loop-again c =
+    let here = c .before .before .before .before .before .loop in
     let s = c .before .before .before .before .before .before .before .before .before in
     let v = c .before .before in
     let m = s .args .model .now in
     let r : SFits w32 (c .before .value-of .result) = record { sfits = c .before .value-of .ok } in
-    let e = rw (c .before .before .before .before .before .loop .inv .2, bounds-same (B s) (x v) _ (c .before .before .bounds-of .ensures)) at (c .before .value-of .ensures) in (
+    let e = rw (here .inv .2, bounds-same (B s) (x v) _ (c .before .before .bounds-of .ensures)) at (c .before .value-of .ensures) in (
       omega arith,
-      simp length-set (c .before .before .before .before .before .loop .inv .1),
+      simp length-set (here .inv .1),
       omega (arith, first-more (B s) (x v) _ (there v) (c .before .before .bounds-of .ensures), c .width-of .ensures),
-      ap (set (c .before .before .before .before .before .loop .values) (x v)) (toZ-ofZ r ∙ e ∙ value-is (B s) m (x v) (ordered (c .before .before .before .before .before .before .before .before .before .pre .0) (x v) (c .before .before .before .if1 .taken) (c .before .before .bounds-of .ensures)) ∙ sym (values-at (B s) m (x v) (pos 0) (there v)))
-          ∙ ap (λ z. set z (x v) (getD (all s) (x v) (pos 0))) (c .before .before .before .before .before .loop .inv .3)
+      ap (set (here .values) (x v)) (toZ-ofZ r ∙ e ∙ value-is (B s) m (x v) (ordered (c .before .before .before .before .before .before .before .before .before .pre .0) (x v) (c .before .before .before .if1 .taken) (c .before .before .bounds-of .ensures)) ∙ sym (values-at (B s) m (x v) (pos 0) (there v)))
+          ∙ ap (λ z. set z (x v) (getD (all s) (x v) (pos 0))) (here .inv .3)
           ∙ written-take (pos 0) (all s) (s .args .values .now) (x v) (omega (arith, how-many s)) (omega (arith, how-many s)),
     )
 
@@ -107,9 +110,10 @@ same-length c = c .before .before .loop .inv .1
 
 returns : tie.Need-returns Inv-loop μ-loop
 returns c =
+    let here = c .before .before .loop in
     let s = c .before .before .before .before .before .before in
-    let e : take (c .before .before .loop .x) (all s) ≡ all s = take-all (c .before .before .loop .x) (all s) (omega (arith, how-many s)) in
-    c .before .before .loop .inv .3 ∙ ap (λ z. written z (s .args .values .now)) e
+    let e : take (here .x) (all s) ≡ all s = take-all (here .x) (all s) (omega (arith, how-many s)) in
+    here .inv .3 ∙ ap (λ z. written z (s .args .values .now)) e
 
 pub write-values-spec : {M : Type 1} → statement M
 write-values-spec =

@@ -38,7 +38,8 @@ slice-write-firsts c = omega (arith, c .before .before .before .before .pre .3)
 
 bounds-of-requires : tie.Need-bounds-of-requires Inv-loop μ-loop
 bounds-of-requires c κs =
-    (c .before .before .before .before .pre .0, omega (arith, c .before .before .before .before .pre .2))
+    let s = c .before .before .before .before in
+    (s .pre .0, omega (arith, s .pre .2))
 
 width-of-requires : tie.Need-width-of-requires Inv-loop μ-loop
 width-of-requires c κs = c .bounds-of .ensures .good
@@ -55,8 +56,10 @@ loop-less c = search needs
 
 loop-again : tie.Need-loop-again Inv-loop μ-loop
 loop-again c =
-    let e = first-more _ _ _ (omega (arith, c .before .before .before .before .before .before .pre .2)) (c .before .bounds-of .ensures) in
-    (firsts-more _ _ _ (c .before .before .before .loop .firsts) (c .before .before .before .loop .inv .1) (omega (arith, c .before .before .before .before .before .before .pre .3)) (c .before .before .before .loop .inv .0), omega (arith, e), omega arith, rw length-set (c .before .before .before .loop .inv .3))
+    let s = c .before .before .before .before .before .before in
+    let here = c .before .before .before .loop in
+    let e = first-more _ _ _ (omega (arith, s .pre .2)) (c .before .bounds-of .ensures) in
+    (firsts-more _ _ _ (here .firsts) (here .inv .1) (omega (arith, s .pre .3)) (here .inv .0), omega (arith, e), omega arith, rw length-set (here .inv .3))
 
 mul-firsts-2 : tie.Need-mul-firsts-2 Inv-loop μ-loop
 mul-firsts-2 c = search needs
@@ -69,9 +72,10 @@ same-length c = rw length-set (c .before .loop .inv .3)
 
 returns : tie.Need-returns Inv-loop μ-loop
 returns c =
-    let e : c .before .loop .x ≡ c .before .before .before .before .args .ints = omega arith in
-    let f = firsts-more (boardOf (c .before .before .before .before .args .bytes .now)) (c .before .before .before .before .args .ints) (c .before .loop .next) (c .before .loop .firsts) (c .before .loop .inv .1 ∙ ap (first (boardOf (c .before .before .before .before .args .bytes .now))) e) (omega (arith, c .before .before .before .before .pre .3)) (λ y h. c .before .loop .inv .0 y (omega arith)) in
-    λ y h. f y (omega (arith, c .before .before .before .before .pre .2))
+    let s = c .before .before .before .before in
+    let e : c .before .loop .x ≡ s .args .ints = omega arith in
+    let f = firsts-more (boardOf (s .args .bytes .now)) (s .args .ints) (c .before .loop .next) (c .before .loop .firsts) (c .before .loop .inv .1 ∙ ap (first (boardOf (s .args .bytes .now))) e) (omega (arith, s .pre .3)) (λ y h. c .before .loop .inv .0 y (omega arith)) in
+    λ y h. f y (omega (arith, s .pre .2))
 
 pub put-firsts-spec : {M : Type 1} → statement M
 put-firsts-spec =

@@ -24,8 +24,9 @@ next-requires c κs = search needs
 
 returns : tie.Need-returns
 returns c =
-    let w = c .before .before .before .before .before .before .before .args .w in
-    (over-along w (c .before .before .before .room .result) (c .next .result) (c .next .ensures .0), row-left w (c .before .before .before .before .before .before .before .pre) (c .next .result) (subst (λ i. left (Tuple (along w i)) ≡ seen (along w i) ∷ left (c .next .result)) (c .before .before .before .room .ensures) (c .next .ensures .1)))
+    let s = c .before .before .before .before .before .before .before in
+    let w = s .args .w in
+    (over-along w (c .before .before .before .room .result) (c .next .result) (c .next .ensures .0), row-left w (s .pre) (c .next .result) (subst (λ i. left (Tuple (along w i)) ≡ seen (along w i) ∷ left (c .next .result)) (c .before .before .before .room .ensures) (c .next .ensures .1)))
 
 pub after-row-spec : {M : Type 1} → statement M
 after-row-spec = tie.close (tie.spec room-requires add-b sub-c next-requires returns)

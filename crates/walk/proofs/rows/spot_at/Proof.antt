@@ -33,15 +33,17 @@ array-copy-out-p c = search needs
 
 magnitude-requires : tie.Need-magnitude-requires
 magnitude-requires c κs =
-    let a = c .before .before .before .before .before .before .before .before .args in let g = slot-fair (a .c) (c .before .before .before .before .before .before .before .before .pre .0) (a .i) (c .before .before .before .before .before .before .before .before .pre .2) in
+    let s = c .before .before .before .before .before .before .before .before in
+    let a = s .args in let g = slot-fair (a .c) (s .pre .0) (a .i) (s .pre .2) in
     let f : SFits w32 (slotAt (a .c) (a .i) .coefficient) = abs-fits (omega (arith, g .few)) in simp toZ-ofZ (g .few)
 
 until-requires : tie.Need-until-requires
 until-requires c κs =
-    let a = c .before .before .before .before .before .before .before .before .before .args in let g = slot-fair (a .c) (c .before .before .before .before .before .before .before .before .before .pre .0) (a .i) (c .before .before .before .before .before .before .before .before .before .pre .2) in
+    let s = c .before .before .before .before .before .before .before .before .before in
+    let a = s .args in let g = slot-fair (a .c) (s .pre .0) (a .i) (s .pre .2) in
     let f : SFits w32 (slotAt (a .c) (a .i) .coefficient) = abs-fits (omega (arith, g .few)) in
     let e = simp toZ-ofZ at (c .magnitude .ensures) in
-    let p = place-fine (a .c) (c .before .before .before .before .before .before .before .before .before .pre .0) (a .w) (c .before .before .before .before .before .before .before .before .before .pre .1) (a .i) (c .before .before .before .before .before .before .before .before .before .pre .2) in
+    let p = place-fine (a .c) (s .pre .0) (a .w) (s .pre .1) (a .i) (s .pre .2) in
     (omega (arith, e, g .some), omega (arith, p .inside, p .narrow), omega (arith, e, g .few))
 
 literal-at-requires : tie.Need-literal-at-requires
@@ -49,14 +51,15 @@ literal-at-requires c κs = search needs
 
 returns : tie.Need-returns
 returns c =
-    let a = c .before .before .before .before .before .before .before .before .before .before .before .args in let g = slot-fair (a .c) (c .before .before .before .before .before .before .before .before .before .before .before .pre .0) (a .i) (c .before .before .before .before .before .before .before .before .before .before .before .pre .2) in
+    let s = c .before .before .before .before .before .before .before .before .before .before .before in
+    let a = s .args in let g = slot-fair (a .c) (s .pre .0) (a .i) (s .pre .2) in
     let f : SFits w32 (slotAt (a .c) (a .i) .coefficient) = abs-fits (omega (arith, g .few)) in
     let e = simp toZ-ofZ at (c .before .before .magnitude .ensures) in
     let l : SFits w32 (c .literal-at .result) = record { sfits = c .literal-at .ok } in
     record {
       size = e;
       rest = c .before .until .ensures;
-      literal = toZ-ofZ l ∙ c .literal-at .ensures ∙ literal-read (a .c) (c .before .before .before .before .before .before .before .before .before .before .before .pre .0) (a .w) (c .before .before .before .before .before .before .before .before .before .before .before .pre .1) (a .i) (c .before .before .before .before .before .before .before .before .before .before .before .pre .2) ∙ ap (λ z. slotLiteral (slotAt (a .c) (a .i)) (z +ℤ pos (offsetAt (a .c) (a .w) (a .i)))) (low-is (a .c) (c .before .before .before .before .before .before .before .before .before .before .before .pre .0) (a .w) (c .before .before .before .before .before .before .before .before .before .before .before .pre .1) (a .i) (c .before .before .before .before .before .before .before .before .before .before .before .pre .2));
+      literal = toZ-ofZ l ∙ c .literal-at .ensures ∙ literal-read (a .c) (s .pre .0) (a .w) (s .pre .1) (a .i) (s .pre .2) ∙ ap (λ z. slotLiteral (slotAt (a .c) (a .i)) (z +ℤ pos (offsetAt (a .c) (a .w) (a .i)))) (low-is (a .c) (s .pre .0) (a .w) (s .pre .1) (a .i) (s .pre .2));
     }
 
 pub spot-at-spec : {M : Type 1} → statement M

@@ -39,11 +39,13 @@ enum-told c = search needs
 
 after-row-requires : tie.Need-after-row-requires Inv-loop μ-loop
 after-row-requires c κs =
-    walking-fine (c .before .before .before .before .before .args .c) (c .before .tuple .given .0 .0) (subst (Walking (c .before .before .before .before .before .args .c)) (c .before .tuple .given .1) (c .before .before .before .loop .inv .1))
+    let s = c .before .before .before .before .before in
+    walking-fine (s .args .c) (c .before .tuple .given .0 .0) (subst (Walking (s .args .c)) (c .before .tuple .given .1) (c .before .before .before .loop .inv .1))
 
 mul-put-run : tie.Need-mul-put-run Inv-loop μ-loop
 mul-put-run c =
-    let h : c .before .before .before .before .loop .at ≤ length (c .before .before .before .before .before .before .args .list .now) = omega (arith, room-before (c .before .before .before .before .loop .inv .0)) in search needs
+    let here = c .before .before .before .before .loop in
+    let h : here .at ≤ length (c .before .before .before .before .before .before .args .list .now) = omega (arith, room-before (here .inv .0)) in search needs
 
 sub-put-run : tie.Need-sub-put-run Inv-loop μ-loop
 sub-put-run c =
@@ -51,41 +53,51 @@ sub-put-run c =
 
 part-put-run-start : tie.Need-part-put-run-start Inv-loop μ-loop
 part-put-run-start c =
-    let h : c .before .before .before .before .loop .at ≤ length (c .before .before .before .before .loop .list) = omega (arith, room (c .before .before .before .before .loop .inv .0)) in search needs
+    let here = c .before .before .before .before .loop in
+    let h : here .at ≤ length (here .list) = omega (arith, room (here .inv .0)) in search needs
 
 part-put-run-end : tie.Need-part-put-run-end Inv-loop μ-loop
 part-put-run-end c = search needs
 
 put-run-requires : tie.Need-put-run-requires Inv-loop μ-loop
 put-run-requires c κs =
-    let o = subst (Walking (c .before .before .before .before .before .before .before .args .c)) (c .before .before .before .tuple .given .1) (c .before .before .before .before .before .loop .inv .1) in let w = c .before .before .before .tuple .given .0 .0 in let l = toZ w32 (ofZ w32 (c .before .before .before .before .before .before .before .args .lead)) in
-    let k = rowed (c .before .before .before .before .before .before .before .args .c) w (c .before .after-row .result) o (c .before .after-row .ensures) in
-    (c .before .before .before .before .before .before .before .pre .0, o, omega (arith, rest-length (c .before .before .before .before .before .loop .list) (c .before .before .before .before .before .loop .at), room-for (c .before .before .before .before .before .loop .inv .0) (led l (map (present (c .before .before .before .before .before .before .before .args .c)) (rowOf w))) (led l (toCome (c .before .before .before .before .before .before .before .args .c) (c .before .after-row .result))) (led-on (c .before .before .before .before .before .before .before .args .c) l (c .before .before .before .before .before .loop .tuple) w (c .before .before .before .tuple .given .1) _ (k .1))))
+    let s = c .before .before .before .before .before .before .before in
+    let here = c .before .before .before .before .before .loop in
+    let o = subst (Walking (s .args .c)) (c .before .before .before .tuple .given .1) (here .inv .1) in let w = c .before .before .before .tuple .given .0 .0 in let l = toZ w32 (ofZ w32 (s .args .lead)) in
+    let k = rowed (s .args .c) w (c .before .after-row .result) o (c .before .after-row .ensures) in
+    (s .pre .0, o, omega (arith, rest-length (here .list) (here .at), room-for (here .inv .0) (led l (map (present (s .args .c)) (rowOf w))) (led l (toCome (s .args .c) (c .before .after-row .result))) (led-on (s .args .c) l (here .tuple) w (c .before .before .before .tuple .given .1) _ (k .1))))
 
 add-at : tie.Need-add-at Inv-loop μ-loop
 add-at c =
-    let o = subst (Walking (c .before .before .before .before .before .before .before .before .before .args .c)) (c .before .before .before .before .before .tuple .given .1) (c .before .before .before .before .before .before .before .loop .inv .1) in let w = c .before .before .before .before .before .tuple .given .0 .0 in let l = toZ w32 (ofZ w32 (c .before .before .before .before .before .before .before .before .before .args .lead)) in
-    let k = rowed (c .before .before .before .before .before .before .before .before .before .args .c) w (c .before .before .before .after-row .result) o (c .before .before .before .after-row .ensures) in
-    let h : c .before .before .before .before .before .before .before .loop .at + c .before .put-run .result ≤ length (c .before .before .before .before .before .before .before .before .before .args .list .now) = omega (arith, c .before .put-run .ensures .0, c .before .before .before .before .before .before .before .loop .inv .0 .long, room-for (c .before .before .before .before .before .before .before .loop .inv .0) (led l (map (present (c .before .before .before .before .before .before .before .before .before .args .c)) (rowOf w))) (led l (toCome (c .before .before .before .before .before .before .before .before .before .args .c) (c .before .before .before .after-row .result))) (led-on (c .before .before .before .before .before .before .before .before .before .args .c) l (c .before .before .before .before .before .before .before .loop .tuple) w (c .before .before .before .before .before .tuple .given .1) _ (k .1))) in search needs
+    let s = c .before .before .before .before .before .before .before .before .before in
+    let here = c .before .before .before .before .before .before .before .loop in
+    let o = subst (Walking (s .args .c)) (c .before .before .before .before .before .tuple .given .1) (here .inv .1) in let w = c .before .before .before .before .before .tuple .given .0 .0 in let l = toZ w32 (ofZ w32 (s .args .lead)) in
+    let k = rowed (s .args .c) w (c .before .before .before .after-row .result) o (c .before .before .before .after-row .ensures) in
+    let h : here .at + c .before .put-run .result ≤ length (s .args .list .now) = omega (arith, c .before .put-run .ensures .0, here .inv .0 .long, room-for (here .inv .0) (led l (map (present (s .args .c)) (rowOf w))) (led l (toCome (s .args .c) (c .before .before .before .after-row .result))) (led-on (s .args .c) l (here .tuple) w (c .before .before .before .before .before .tuple .given .1) _ (k .1))) in search needs
 
 loop-less : tie.Need-loop-less Inv-loop μ-loop
 loop-less c =
-    let o = subst (Walking (c .before .before .before .before .before .before .before .before .before .args .c)) (c .before .before .before .before .before .tuple .given .1) (c .before .before .before .before .before .before .before .loop .inv .1) in let w = c .before .before .before .before .before .tuple .given .0 .0 in
-    let k = rowed (c .before .before .before .before .before .before .before .before .before .args .c) w (c .before .before .before .after-row .result) o (c .before .before .before .after-row .ensures) in
-    omega (arith, ap (λ z. length (toCome (c .before .before .before .before .before .before .before .before .before .args .c) z)) (c .before .before .before .before .before .tuple .given .1), ap length (k .1), length-append (map (present (c .before .before .before .before .before .before .before .before .before .args .c)) (rowOf w)) (toCome (c .before .before .before .before .before .before .before .before .before .args .c) (c .before .before .before .after-row .result)), row-some (c .before .before .before .before .before .before .before .before .before .args .c) w)
+    let s = c .before .before .before .before .before .before .before .before .before in
+    let o = subst (Walking (s .args .c)) (c .before .before .before .before .before .tuple .given .1) (c .before .before .before .before .before .before .before .loop .inv .1) in let w = c .before .before .before .before .before .tuple .given .0 .0 in
+    let k = rowed (s .args .c) w (c .before .before .before .after-row .result) o (c .before .before .before .after-row .ensures) in
+    omega (arith, ap (λ z. length (toCome (s .args .c) z)) (c .before .before .before .before .before .tuple .given .1), ap length (k .1), length-append (map (present (s .args .c)) (rowOf w)) (toCome (s .args .c) (c .before .before .before .after-row .result)), row-some (s .args .c) w)
 
 loop-again : tie.Need-loop-again Inv-loop μ-loop
 loop-again c =
-    let o = subst (Walking (c .before .before .before .before .before .before .before .before .before .args .c)) (c .before .before .before .before .before .tuple .given .1) (c .before .before .before .before .before .before .before .loop .inv .1) in let w = c .before .before .before .before .before .tuple .given .0 .0 in let l = toZ w32 (ofZ w32 (c .before .before .before .before .before .before .before .before .before .args .lead)) in
-    let k = rowed (c .before .before .before .before .before .before .before .before .before .args .c) w (c .before .before .before .after-row .result) o (c .before .before .before .after-row .ensures) in
-    (part (c .before .before .before .before .before .before .before .loop .inv .0) (led l (map (present (c .before .before .before .before .before .before .before .before .before .args .c)) (rowOf w))) (led l (toCome (c .before .before .before .before .before .before .before .before .before .args .c) (c .before .before .before .after-row .result))) (led-on (c .before .before .before .before .before .before .before .before .before .args .c) l (c .before .before .before .before .before .before .before .loop .tuple) w (c .before .before .before .before .before .tuple .given .1) _ (k .1)) _ _ (c .before .put-run .ensures .0) (c .before .put-run .ensures .1), k .0)
+    let s = c .before .before .before .before .before .before .before .before .before in
+    let here = c .before .before .before .before .before .before .before .loop in
+    let o = subst (Walking (s .args .c)) (c .before .before .before .before .before .tuple .given .1) (here .inv .1) in let w = c .before .before .before .before .before .tuple .given .0 .0 in let l = toZ w32 (ofZ w32 (s .args .lead)) in
+    let k = rowed (s .args .c) w (c .before .before .before .after-row .result) o (c .before .before .before .after-row .ensures) in
+    (part (here .inv .0) (led l (map (present (s .args .c)) (rowOf w))) (led l (toCome (s .args .c) (c .before .before .before .after-row .result))) (led-on (s .args .c) l (here .tuple) w (c .before .before .before .before .before .tuple .given .1) _ (k .1)) _ _ (c .before .put-run .ensures .0) (c .before .put-run .ensures .1), k .0)
 
 same-length : tie.Need-same-length Inv-loop μ-loop
 same-length c = c .before .before .loop .inv .0 .long
 
 returns : tie.Need-returns Inv-loop μ-loop
 returns c =
-    rw (toZ-ofZ (c .before .before .before .before .fits .lead)) at (ended (c .before .before .loop .inv .0) (led-end (c .before .before .before .before .args .c) (toZ w32 (ofZ w32 (c .before .before .before .before .args .lead))) (c .before .before .loop .tuple) (c .enum-told .given .1)))
+    let s = c .before .before .before .before in
+    let here = c .before .before .loop in
+    rw (toZ-ofZ (s .fits .lead)) at (ended (here .inv .0) (led-end (s .args .c) (toZ w32 (ofZ w32 (s .args .lead))) (here .tuple) (c .enum-told .given .1)))
 
 pub put-tuples-spec : {M : Type 1} → statement M
 put-tuples-spec =

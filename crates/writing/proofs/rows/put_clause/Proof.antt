@@ -20,34 +20,41 @@ put-fixed-requires c κs =
 
 mul-put-pair : tie.Need-mul-put-pair
 mul-put-pair c =
-    let f = c .before .before .before .fits .lead in let f2 = c .before .before .before .fits .literal in let f3 = c .before .before .before .fits .y in let f4 = c .before .before .before .fits .z in let e = simp toZ-ofZ at (c .before .put-fixed .ensures) in let h = staying (leadOf (c .before .before .before .args .lead)) (frontOf (c .before .before .before .args .front) (c .before .before .before .args .literal)) (c .before .before .before .args .y) (c .before .before .before .args .z) (c .before .before .before .args .list .now) (c .before .put-fixed .last .1 .1 .1 .0) (c .before .put-fixed .result) (c .before .before .before .pre) (e .0) (e .1) in let k : c .before .put-fixed .result ≤ length (c .before .before .before .args .list .now) = omega (arith, room-before h) in search needs
+    let s = c .before .before .before in
+    let f = s .fits .lead in let f2 = s .fits .literal in let f3 = s .fits .y in let f4 = s .fits .z in let e = simp toZ-ofZ at (c .before .put-fixed .ensures) in let h = staying (leadOf (s .args .lead)) (frontOf (s .args .front) (s .args .literal)) (s .args .y) (s .args .z) (s .args .list .now) (c .before .put-fixed .last .1 .1 .1 .0) (c .before .put-fixed .result) (s .pre) (e .0) (e .1) in let k : c .before .put-fixed .result ≤ length (s .args .list .now) = omega (arith, room-before h) in search needs
 
 sub-put-pair : tie.Need-sub-put-pair
 sub-put-pair c =
-    let f = c .before .before .before .fits .lead in let f2 = c .before .before .before .fits .literal in let f3 = c .before .before .before .fits .y in let f4 = c .before .before .before .fits .z in let e = simp toZ-ofZ at (c .before .put-fixed .ensures) in let h = staying (leadOf (c .before .before .before .args .lead)) (frontOf (c .before .before .before .args .front) (c .before .before .before .args .literal)) (c .before .before .before .args .y) (c .before .before .before .args .z) (c .before .before .before .args .list .now) (c .before .put-fixed .last .1 .1 .1 .0) (c .before .put-fixed .result) (c .before .before .before .pre) (e .0) (e .1) in omega (arith, room h)
+    let s = c .before .before .before in
+    let f = s .fits .lead in let f2 = s .fits .literal in let f3 = s .fits .y in let f4 = s .fits .z in let e = simp toZ-ofZ at (c .before .put-fixed .ensures) in let h = staying (leadOf (s .args .lead)) (frontOf (s .args .front) (s .args .literal)) (s .args .y) (s .args .z) (s .args .list .now) (c .before .put-fixed .last .1 .1 .1 .0) (c .before .put-fixed .result) (s .pre) (e .0) (e .1) in omega (arith, room h)
 
 part-put-pair-start : tie.Need-part-put-pair-start
 part-put-pair-start c =
-    let f = c .before .before .before .fits .lead in let f2 = c .before .before .before .fits .literal in let f3 = c .before .before .before .fits .y in let f4 = c .before .before .before .fits .z in let e = simp toZ-ofZ at (c .before .put-fixed .ensures) in let h = staying (leadOf (c .before .before .before .args .lead)) (frontOf (c .before .before .before .args .front) (c .before .before .before .args .literal)) (c .before .before .before .args .y) (c .before .before .before .args .z) (c .before .before .before .args .list .now) (c .before .put-fixed .last .1 .1 .1 .0) (c .before .put-fixed .result) (c .before .before .before .pre) (e .0) (e .1) in omega (arith, room h)
+    let s = c .before .before .before in
+    let f = s .fits .lead in let f2 = s .fits .literal in let f3 = s .fits .y in let f4 = s .fits .z in let e = simp toZ-ofZ at (c .before .put-fixed .ensures) in let h = staying (leadOf (s .args .lead)) (frontOf (s .args .front) (s .args .literal)) (s .args .y) (s .args .z) (s .args .list .now) (c .before .put-fixed .last .1 .1 .1 .0) (c .before .put-fixed .result) (s .pre) (e .0) (e .1) in omega (arith, room h)
 
 part-put-pair-end : tie.Need-part-put-pair-end
 part-put-pair-end c = search needs
 
 put-pair-requires : tie.Need-put-pair-requires
 put-pair-requires c κs =
-    let f = c .before .before .before .before .fits .lead in let f2 = c .before .before .before .before .fits .literal in let f3 = c .before .before .before .before .fits .y in let f4 = c .before .before .before .before .fits .z in let e = simp toZ-ofZ at (c .before .before .put-fixed .ensures) in let h = staying (leadOf (c .before .before .before .before .args .lead)) (frontOf (c .before .before .before .before .args .front) (c .before .before .before .before .args .literal)) (c .before .before .before .before .args .y) (c .before .before .before .before .args .z) (c .before .before .before .before .args .list .now) (c .before .before .put-fixed .last .1 .1 .1 .0) (c .before .before .put-fixed .result) (c .before .before .before .before .pre) (e .0) (e .1) in omega (arith, paired (c .before .before .before .before .args .y) (c .before .before .before .before .args .z) (c .before .before .before .before .args .y ∷ c .before .before .before .before .args .y ∷ c .before .before .before .before .args .y ∷ []) (omega arith) .0, room h, rest-length (c .before .before .put-fixed .last .1 .1 .1 .0) (c .before .before .put-fixed .result))
+    let s = c .before .before .before .before in
+    let f = s .fits .lead in let f2 = s .fits .literal in let f3 = s .fits .y in let f4 = s .fits .z in let e = simp toZ-ofZ at (c .before .before .put-fixed .ensures) in let h = staying (leadOf (s .args .lead)) (frontOf (s .args .front) (s .args .literal)) (s .args .y) (s .args .z) (s .args .list .now) (c .before .before .put-fixed .last .1 .1 .1 .0) (c .before .before .put-fixed .result) (s .pre) (e .0) (e .1) in omega (arith, paired (s .args .y) (s .args .z) (s .args .y ∷ s .args .y ∷ s .args .y ∷ []) (omega arith) .0, room h, rest-length (c .before .before .put-fixed .last .1 .1 .1 .0) (c .before .before .put-fixed .result))
 
 add-result : tie.Need-add-result
 add-result c =
-    let f = c .before .before .before .before .before .before .fits .lead in let f2 = c .before .before .before .before .before .before .fits .literal in let f3 = c .before .before .before .before .before .before .fits .y in let f4 = c .before .before .before .before .before .before .fits .z in let e = simp toZ-ofZ at (c .before .before .before .before .put-fixed .ensures) in let d = simp toZ-ofZ at (c .before .put-pair .ensures) in let h = staying (leadOf (c .before .before .before .before .before .before .args .lead)) (frontOf (c .before .before .before .before .before .before .args .front) (c .before .before .before .before .before .before .args .literal)) (c .before .before .before .before .before .before .args .y) (c .before .before .before .before .before .before .args .z) (c .before .before .before .before .before .before .args .list .now) (c .before .before .before .before .put-fixed .last .1 .1 .1 .0) (c .before .before .before .before .put-fixed .result) (c .before .before .before .before .before .before .pre) (e .0) (e .1) in let k : c .before .before .before .before .put-fixed .result + c .before .put-pair .result ≤ length (c .before .before .before .before .before .before .args .list .now) = omega (arith, d .0, room-before h) in search needs
+    let s = c .before .before .before .before .before .before in
+    let f = s .fits .lead in let f2 = s .fits .literal in let f3 = s .fits .y in let f4 = s .fits .z in let e = simp toZ-ofZ at (c .before .before .before .before .put-fixed .ensures) in let d = simp toZ-ofZ at (c .before .put-pair .ensures) in let h = staying (leadOf (s .args .lead)) (frontOf (s .args .front) (s .args .literal)) (s .args .y) (s .args .z) (s .args .list .now) (c .before .before .before .before .put-fixed .last .1 .1 .1 .0) (c .before .before .before .before .put-fixed .result) (s .pre) (e .0) (e .1) in let k : c .before .before .before .before .put-fixed .result + c .before .put-pair .result ≤ length (s .args .list .now) = omega (arith, d .0, room-before h) in search needs
 
 same-length : tie.Need-same-length
 same-length c =
-    let f = c .before .before .before .before .before .before .fits .lead in let f2 = c .before .before .before .before .before .before .fits .literal in let f3 = c .before .before .before .before .before .before .fits .y in let f4 = c .before .before .before .before .before .before .fits .z in let e = simp toZ-ofZ at (c .before .before .before .before .put-fixed .ensures) in let d = simp toZ-ofZ at (c .before .put-pair .ensures) in let h = staying (leadOf (c .before .before .before .before .before .before .args .lead)) (frontOf (c .before .before .before .before .before .before .args .front) (c .before .before .before .before .before .before .args .literal)) (c .before .before .before .before .before .before .args .y) (c .before .before .before .before .before .before .args .z) (c .before .before .before .before .before .before .args .list .now) (c .before .before .before .before .put-fixed .last .1 .1 .1 .0) (c .before .before .before .before .put-fixed .result) (c .before .before .before .before .before .before .pre) (e .0) (e .1) in last h _ _ (d .0) (d .1) .2
+    let s = c .before .before .before .before .before .before in
+    let f = s .fits .lead in let f2 = s .fits .literal in let f3 = s .fits .y in let f4 = s .fits .z in let e = simp toZ-ofZ at (c .before .before .before .before .put-fixed .ensures) in let d = simp toZ-ofZ at (c .before .put-pair .ensures) in let h = staying (leadOf (s .args .lead)) (frontOf (s .args .front) (s .args .literal)) (s .args .y) (s .args .z) (s .args .list .now) (c .before .before .before .before .put-fixed .last .1 .1 .1 .0) (c .before .before .before .before .put-fixed .result) (s .pre) (e .0) (e .1) in last h _ _ (d .0) (d .1) .2
 
 returns : tie.Need-returns
 returns c =
-    let f = c .before .before .before .before .before .before .fits .lead in let f2 = c .before .before .before .before .before .before .fits .literal in let f3 = c .before .before .before .before .before .before .fits .y in let f4 = c .before .before .before .before .before .before .fits .z in let e = simp toZ-ofZ at (c .before .before .before .before .put-fixed .ensures) in let d = simp toZ-ofZ at (c .before .put-pair .ensures) in let h = staying (leadOf (c .before .before .before .before .before .before .args .lead)) (frontOf (c .before .before .before .before .before .before .args .front) (c .before .before .before .before .before .before .args .literal)) (c .before .before .before .before .before .before .args .y) (c .before .before .before .before .before .before .args .z) (c .before .before .before .before .before .before .args .list .now) (c .before .before .before .before .put-fixed .last .1 .1 .1 .0) (c .before .before .before .before .put-fixed .result) (c .before .before .before .before .before .before .pre) (e .0) (e .1) in let r = last h _ _ (d .0) (d .1) in (r .0, r .1)
+    let s = c .before .before .before .before .before .before in
+    let f = s .fits .lead in let f2 = s .fits .literal in let f3 = s .fits .y in let f4 = s .fits .z in let e = simp toZ-ofZ at (c .before .before .before .before .put-fixed .ensures) in let d = simp toZ-ofZ at (c .before .put-pair .ensures) in let h = staying (leadOf (s .args .lead)) (frontOf (s .args .front) (s .args .literal)) (s .args .y) (s .args .z) (s .args .list .now) (c .before .before .before .before .put-fixed .last .1 .1 .1 .0) (c .before .before .before .before .put-fixed .result) (s .pre) (e .0) (e .1) in let r = last h _ _ (d .0) (d .1) in (r .0, r .1)
 
 pub put-clause-spec : {M : Type 1} → statement M
 put-clause-spec =

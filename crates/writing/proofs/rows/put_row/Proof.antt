@@ -39,14 +39,16 @@ returns c =
 
 put-stepped-requires : tie.Need-put-stepped-requires
 put-stepped-requires c κs =
-    let f = c .before .before .before .before .fits .lead in let g = c .before .before .before .before .fits .literal in simp toZ-ofZ (c .before .before .before .before .pre)
+    let s = c .before .before .before .before in
+    let f = s .fits .lead in let g = s .fits .literal in simp toZ-ofZ (s .pre)
 
 same-length-2 : tie.Need-same-length-2
 same-length-2 c = search needs
 
 returns-2 : tie.Need-returns-2
 returns-2 c =
-    let f = c .before .before .before .before .before .before .fits .lead in let g = c .before .before .before .before .before .before .fits .literal in simp toZ-ofZ at (c .before .put-stepped .ensures)
+    let s = c .before .before .before .before .before .before in
+    let f = s .fits .lead in let g = s .fits .literal in simp toZ-ofZ at (c .before .put-stepped .ensures)
 
 pub put-row-spec : {M : Type 1} → statement M
 put-row-spec =

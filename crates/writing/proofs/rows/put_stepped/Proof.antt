@@ -46,29 +46,35 @@ part-put-clause-end c = search needs
 
 put-clause-requires : tie.Need-put-clause-requires Inv-loop μ-loop
 put-clause-requires c κs =
-    let p = c .before .before .before .before .loop .p in let q = c .before .before .before .before .loop .q in
-    let f : SFits w32 (p .literal) = abs-fits (omega (arith, c .before .before .before .before .loop .inv .3)) in
-    let g : SFits w32 (q .literal) = abs-fits (omega (arith, c .before .before .before .before .loop .inv .4)) in
-    let l = toZ w32 (ofZ w32 (c .before .before .before .before .before .args .lead)) in let x = frontOf (c .before .before .before .before .before .args .front) (toZ w32 (ofZ w32 (c .before .before .before .before .before .args .literal))) in
-    let h = room-for (c .before .before .before .before .loop .inv .0) (clause (leadOf l ++ (x ++ (p .literal ∷ q .literal ∷ [])))) (led l (rowFrom x (raised p) (lowered q) (c .before .before .before .before .loop .left - 1))) (row-more l x p q (c .before .before .before .before .loop .left) (c .before .before .before .loop-test .taken)) in
-    rw (toZ-ofZ f, toZ-ofZ g) (omega (arith, rest-length (c .before .before .before .before .loop .list) (c .before .before .before .before .loop .at), h))
+    let s = c .before .before .before .before .before in
+    let here = c .before .before .before .before .loop in
+    let p = here .p in let q = here .q in
+    let f : SFits w32 (p .literal) = abs-fits (omega (arith, here .inv .3)) in
+    let g : SFits w32 (q .literal) = abs-fits (omega (arith, here .inv .4)) in
+    let l = toZ w32 (ofZ w32 (s .args .lead)) in let x = frontOf (s .args .front) (toZ w32 (ofZ w32 (s .args .literal))) in
+    let h = room-for (here .inv .0) (clause (leadOf l ++ (x ++ (p .literal ∷ q .literal ∷ [])))) (led l (rowFrom x (raised p) (lowered q) (here .left - 1))) (row-more l x p q (here .left) (c .before .before .before .loop-test .taken)) in
+    rw (toZ-ofZ f, toZ-ofZ g) (omega (arith, rest-length (here .list) (here .at), h))
 
 add-at : tie.Need-add-at Inv-loop μ-loop
 add-at c =
-    let p = c .before .before .before .before .before .before .loop .p in let q = c .before .before .before .before .before .before .loop .q in
-    let f : SFits w32 (p .literal) = abs-fits (omega (arith, c .before .before .before .before .before .before .loop .inv .3)) in
-    let g : SFits w32 (q .literal) = abs-fits (omega (arith, c .before .before .before .before .before .before .loop .inv .4)) in
-    let l = toZ w32 (ofZ w32 (c .before .before .before .before .before .before .before .args .lead)) in let x = frontOf (c .before .before .before .before .before .before .before .args .front) (toZ w32 (ofZ w32 (c .before .before .before .before .before .before .before .args .literal))) in
+    let s = c .before .before .before .before .before .before .before in
+    let here = c .before .before .before .before .before .before .loop in
+    let p = here .p in let q = here .q in
+    let f : SFits w32 (p .literal) = abs-fits (omega (arith, here .inv .3)) in
+    let g : SFits w32 (q .literal) = abs-fits (omega (arith, here .inv .4)) in
+    let l = toZ w32 (ofZ w32 (s .args .lead)) in let x = frontOf (s .args .front) (toZ w32 (ofZ w32 (s .args .literal))) in
     let e = rw (toZ-ofZ f, toZ-ofZ g) at (c .before .put-clause .ensures) in
-    let h : c .before .before .before .before .before .before .loop .at + c .before .put-clause .result ≤ length (c .before .before .before .before .before .before .before .args .list .now) = omega (arith, e .0, c .before .before .before .before .before .before .loop .inv .0 .long, room-for (c .before .before .before .before .before .before .loop .inv .0) (clause (leadOf l ++ (x ++ (p .literal ∷ q .literal ∷ [])))) (led l (rowFrom x (raised p) (lowered q) (c .before .before .before .before .before .before .loop .left - 1))) (row-more l x p q (c .before .before .before .before .before .before .loop .left) (c .before .before .before .before .before .loop-test .taken))) in search needs
+    let h : here .at + c .before .put-clause .result ≤ length (s .args .list .now) = omega (arith, e .0, here .inv .0 .long, room-for (here .inv .0) (clause (leadOf l ++ (x ++ (p .literal ∷ q .literal ∷ [])))) (led l (rowFrom x (raised p) (lowered q) (here .left - 1))) (row-more l x p q (here .left) (c .before .before .before .before .before .loop-test .taken))) in search needs
 
 up-requires : tie.Need-up-requires Inv-loop μ-loop
 up-requires c κs =
-    (c .before .before .before .before .before .before .loop .inv .1, omega (arith, c .before .before .before .before .before .before .loop .inv .3))
+    let here = c .before .before .before .before .before .before .loop in
+    (here .inv .1, omega (arith, here .inv .3))
 
 down-requires : tie.Need-down-requires Inv-loop μ-loop
 down-requires c κs =
-    (c .before .before .before .before .before .before .before .loop .inv .2, omega (arith, c .before .before .before .before .before .before .before .loop .inv .4))
+    let here = c .before .before .before .before .before .before .before .loop in
+    (here .inv .2, omega (arith, here .inv .4))
 
 sub-left : tie.Need-sub-left Inv-loop μ-loop
 sub-left c =
@@ -80,21 +86,24 @@ loop-less c =
 
 loop-again : tie.Need-loop-again Inv-loop μ-loop
 loop-again c =
-    let p = c .before .before .before .before .before .before .before .before .loop .p in let q = c .before .before .before .before .before .before .before .before .loop .q in
-    let f : SFits w32 (p .literal) = abs-fits (omega (arith, c .before .before .before .before .before .before .before .before .loop .inv .3)) in
-    let g : SFits w32 (q .literal) = abs-fits (omega (arith, c .before .before .before .before .before .before .before .before .loop .inv .4)) in
-    let l = toZ w32 (ofZ w32 (c .before .before .before .before .before .before .before .before .before .args .lead)) in let x = frontOf (c .before .before .before .before .before .before .before .before .before .args .front) (toZ w32 (ofZ w32 (c .before .before .before .before .before .before .before .before .before .args .literal))) in
+    let s = c .before .before .before .before .before .before .before .before .before in
+    let here = c .before .before .before .before .before .before .before .before .loop in
+    let p = here .p in let q = here .q in
+    let f : SFits w32 (p .literal) = abs-fits (omega (arith, here .inv .3)) in
+    let g : SFits w32 (q .literal) = abs-fits (omega (arith, here .inv .4)) in
+    let l = toZ w32 (ofZ w32 (s .args .lead)) in let x = frontOf (s .args .front) (toZ w32 (ofZ w32 (s .args .literal))) in
     let e = rw (toZ-ofZ f, toZ-ofZ g) at (c .before .before .before .put-clause .ensures) in
-    let a = raised-steady p (c .before .before .before .before .before .before .before .before .loop .inv .1) in let b = lowered-steady q (c .before .before .before .before .before .before .before .before .loop .inv .2) in
-    rw (c .before .up .ensures, c .down .ensures) (part (c .before .before .before .before .before .before .before .before .loop .inv .0) (clause (leadOf l ++ (x ++ (p .literal ∷ q .literal ∷ [])))) (led l (rowFrom x (raised p) (lowered q) (c .before .before .before .before .before .before .before .before .loop .left - 1))) (row-more l x p q (c .before .before .before .before .before .before .before .before .loop .left) (c .before .before .before .before .before .before .before .loop-test .taken)) _ _ (e .0) (e .1), a .0, b .0, omega (arith, a .1, c .before .before .before .before .before .before .before .before .loop .inv .3, c .before .before .before .before .before .before .before .loop-test .taken), omega (arith, b .1, c .before .before .before .before .before .before .before .before .loop .inv .4, c .before .before .before .before .before .before .before .loop-test .taken))
+    let a = raised-steady p (here .inv .1) in let b = lowered-steady q (here .inv .2) in
+    rw (c .before .up .ensures, c .down .ensures) (part (here .inv .0) (clause (leadOf l ++ (x ++ (p .literal ∷ q .literal ∷ [])))) (led l (rowFrom x (raised p) (lowered q) (here .left - 1))) (row-more l x p q (here .left) (c .before .before .before .before .before .before .before .loop-test .taken)) _ _ (e .0) (e .1), a .0, b .0, omega (arith, a .1, here .inv .3, c .before .before .before .before .before .before .before .loop-test .taken), omega (arith, b .1, here .inv .4, c .before .before .before .before .before .before .before .loop-test .taken))
 
 same-length : tie.Need-same-length Inv-loop μ-loop
 same-length c = c .before .loop .inv .0 .long
 
 returns : tie.Need-returns Inv-loop μ-loop
 returns c =
-    let f = c .before .before .fits .lead in let g = c .before .before .fits .literal in
-    simp toZ-ofZ at (ended (c .before .loop .inv .0) (row-end (toZ w32 (ofZ w32 (c .before .before .args .lead))) (frontOf (c .before .before .args .front) (toZ w32 (ofZ w32 (c .before .before .args .literal)))) (c .before .loop .p) (c .before .loop .q) (c .before .loop .left) (omega (arith, c .loop-test .left))))
+    let s = c .before .before in
+    let f = s .fits .lead in let g = s .fits .literal in
+    simp toZ-ofZ at (ended (c .before .loop .inv .0) (row-end (toZ w32 (ofZ w32 (s .args .lead))) (frontOf (s .args .front) (toZ w32 (ofZ w32 (s .args .literal)))) (c .before .loop .p) (c .before .loop .q) (c .before .loop .left) (omega (arith, c .loop-test .left))))
 
 pub put-stepped-spec : {M : Type 1} → statement M
 put-stepped-spec =

@@ -45,24 +45,30 @@ part-put-clause-end c = search needs
 
 put-clause-requires : tie.Need-put-clause-requires Inv-loop μ-loop
 put-clause-requires c κs =
-    let y = toZ w32 (c .before .before .loop .p) in let z = toZ w32 (c .before .before .loop .q) in
-    let l = toZ w32 (ofZ w32 (c .before .before .before .args .lead)) in let x = frontOf (c .before .before .before .args .front) (toZ w32 (ofZ w32 (c .before .before .before .args .literal))) in
-    let h = room-for (c .before .before .loop .inv .0) (clause (leadOf l ++ (x ++ (y ∷ z ∷ [])))) (led l (rowFrom x (unit (y +ℤ pos 1)) (unit (z -ℤ pos 1)) (c .before .before .loop .left - 1))) (units-more l x y z (c .before .before .loop .left) (c .before .loop-test .taken)) in
-    omega (arith, rest-length (c .before .before .loop .list) (c .before .before .loop .at), h)
+    let s = c .before .before .before in
+    let here = c .before .before .loop in
+    let y = toZ w32 (here .p) in let z = toZ w32 (here .q) in
+    let l = toZ w32 (ofZ w32 (s .args .lead)) in let x = frontOf (s .args .front) (toZ w32 (ofZ w32 (s .args .literal))) in
+    let h = room-for (here .inv .0) (clause (leadOf l ++ (x ++ (y ∷ z ∷ [])))) (led l (rowFrom x (unit (y +ℤ pos 1)) (unit (z -ℤ pos 1)) (here .left - 1))) (units-more l x y z (here .left) (c .before .loop-test .taken)) in
+    omega (arith, rest-length (here .list) (here .at), h)
 
 add-at : tie.Need-add-at Inv-loop μ-loop
 add-at c =
-    let y = toZ w32 (c .before .before .before .before .loop .p) in let z = toZ w32 (c .before .before .before .before .loop .q) in
-    let l = toZ w32 (ofZ w32 (c .before .before .before .before .before .args .lead)) in let x = frontOf (c .before .before .before .before .before .args .front) (toZ w32 (ofZ w32 (c .before .before .before .before .before .args .literal))) in
-    let h : c .before .before .before .before .loop .at + c .before .put-clause .result ≤ length (c .before .before .before .before .before .args .list .now) = omega (arith, c .before .put-clause .ensures .0, c .before .before .before .before .loop .inv .0 .long, room-for (c .before .before .before .before .loop .inv .0) (clause (leadOf l ++ (x ++ (y ∷ z ∷ [])))) (led l (rowFrom x (unit (y +ℤ pos 1)) (unit (z -ℤ pos 1)) (c .before .before .before .before .loop .left - 1))) (units-more l x y z (c .before .before .before .before .loop .left) (c .before .before .before .loop-test .taken))) in search needs
+    let s = c .before .before .before .before .before in
+    let here = c .before .before .before .before .loop in
+    let y = toZ w32 (here .p) in let z = toZ w32 (here .q) in
+    let l = toZ w32 (ofZ w32 (s .args .lead)) in let x = frontOf (s .args .front) (toZ w32 (ofZ w32 (s .args .literal))) in
+    let h : here .at + c .before .put-clause .result ≤ length (s .args .list .now) = omega (arith, c .before .put-clause .ensures .0, here .inv .0 .long, room-for (here .inv .0) (clause (leadOf l ++ (x ++ (y ∷ z ∷ [])))) (led l (rowFrom x (unit (y +ℤ pos 1)) (unit (z -ℤ pos 1)) (here .left - 1))) (units-more l x y z (here .left) (c .before .before .before .loop-test .taken))) in search needs
 
 add-p : tie.Need-add-p Inv-loop μ-loop
 add-p c =
-    abs-fits (omega (arith, abs-add (toZ w32 (c .before .before .before .before .loop .p)) (pos 1), c .before .before .before .before .loop .inv .1))
+    let here = c .before .before .before .before .loop in
+    abs-fits (omega (arith, abs-add (toZ w32 (here .p)) (pos 1), here .inv .1))
 
 sub-q : tie.Need-sub-q Inv-loop μ-loop
 sub-q c =
-    abs-fits (omega (arith, abs-sub (toZ w32 (c .before .before .before .before .loop .q)) (pos 1), c .before .before .before .before .loop .inv .2))
+    let here = c .before .before .before .before .loop in
+    abs-fits (omega (arith, abs-sub (toZ w32 (here .q)) (pos 1), here .inv .2))
 
 sub-left : tie.Need-sub-left Inv-loop μ-loop
 sub-left c = omega (arith, c .before .before .before .loop-test .taken)
@@ -72,19 +78,22 @@ loop-less c = omega (arith, c .before .before .before .loop-test .taken)
 
 loop-again : tie.Need-loop-again Inv-loop μ-loop
 loop-again c =
-    let y = toZ w32 (c .before .before .before .before .loop .p) in let z = toZ w32 (c .before .before .before .before .loop .q) in
-    let l = toZ w32 (ofZ w32 (c .before .before .before .before .before .args .lead)) in let x = frontOf (c .before .before .before .before .before .args .front) (toZ w32 (ofZ w32 (c .before .before .before .before .before .args .literal))) in
-    let f : SFits w32 (toZ w32 (c .before .before .before .before .loop .p) +ℤ pos 1) = abs-fits (omega (arith, abs-add (toZ w32 (c .before .before .before .before .loop .p)) (pos 1), c .before .before .before .before .loop .inv .1)) in
-    let g : SFits w32 (toZ w32 (c .before .before .before .before .loop .q) -ℤ pos 1) = abs-fits (omega (arith, abs-sub (toZ w32 (c .before .before .before .before .loop .q)) (pos 1), c .before .before .before .before .loop .inv .2)) in
-    rw (toZ-ofZ f, toZ-ofZ g) (part (c .before .before .before .before .loop .inv .0) (clause (leadOf l ++ (x ++ (y ∷ z ∷ [])))) (led l (rowFrom x (unit (y +ℤ pos 1)) (unit (z -ℤ pos 1)) (c .before .before .before .before .loop .left - 1))) (units-more l x y z (c .before .before .before .before .loop .left) (c .before .before .before .loop-test .taken)) _ _ (c .before .put-clause .ensures .0) (c .before .put-clause .ensures .1), omega (arith, abs-add (toZ w32 (c .before .before .before .before .loop .p)) (pos 1), c .before .before .before .before .loop .inv .1, c .before .before .before .loop-test .taken), omega (arith, abs-sub (toZ w32 (c .before .before .before .before .loop .q)) (pos 1), c .before .before .before .before .loop .inv .2, c .before .before .before .loop-test .taken))
+    let s = c .before .before .before .before .before in
+    let here = c .before .before .before .before .loop in
+    let y = toZ w32 (here .p) in let z = toZ w32 (here .q) in
+    let l = toZ w32 (ofZ w32 (s .args .lead)) in let x = frontOf (s .args .front) (toZ w32 (ofZ w32 (s .args .literal))) in
+    let f : SFits w32 (toZ w32 (here .p) +ℤ pos 1) = abs-fits (omega (arith, abs-add (toZ w32 (here .p)) (pos 1), here .inv .1)) in
+    let g : SFits w32 (toZ w32 (here .q) -ℤ pos 1) = abs-fits (omega (arith, abs-sub (toZ w32 (here .q)) (pos 1), here .inv .2)) in
+    rw (toZ-ofZ f, toZ-ofZ g) (part (here .inv .0) (clause (leadOf l ++ (x ++ (y ∷ z ∷ [])))) (led l (rowFrom x (unit (y +ℤ pos 1)) (unit (z -ℤ pos 1)) (here .left - 1))) (units-more l x y z (here .left) (c .before .before .before .loop-test .taken)) _ _ (c .before .put-clause .ensures .0) (c .before .put-clause .ensures .1), omega (arith, abs-add (toZ w32 (here .p)) (pos 1), here .inv .1, c .before .before .before .loop-test .taken), omega (arith, abs-sub (toZ w32 (here .q)) (pos 1), here .inv .2, c .before .before .before .loop-test .taken))
 
 same-length : tie.Need-same-length Inv-loop μ-loop
 same-length c = c .before .loop .inv .0 .long
 
 returns : tie.Need-returns Inv-loop μ-loop
 returns c =
-    let f = c .before .before .fits .lead in let g = c .before .before .fits .literal in let h = c .before .before .fits .y in let k = c .before .before .fits .z in
-    simp toZ-ofZ at (ended (c .before .loop .inv .0) (row-end (toZ w32 (ofZ w32 (c .before .before .args .lead))) (frontOf (c .before .before .args .front) (toZ w32 (ofZ w32 (c .before .before .args .literal)))) (unit (toZ w32 (c .before .loop .p))) (unit (toZ w32 (c .before .loop .q))) (c .before .loop .left) (omega (arith, c .loop-test .left))))
+    let s = c .before .before in
+    let f = s .fits .lead in let g = s .fits .literal in let h = s .fits .y in let k = s .fits .z in
+    simp toZ-ofZ at (ended (c .before .loop .inv .0) (row-end (toZ w32 (ofZ w32 (s .args .lead))) (frontOf (s .args .front) (toZ w32 (ofZ w32 (s .args .literal)))) (unit (toZ w32 (c .before .loop .p))) (unit (toZ w32 (c .before .loop .q))) (c .before .loop .left) (omega (arith, c .loop-test .left))))
 
 pub put-units-spec : {M : Type 1} → statement M
 put-units-spec =
