@@ -100,7 +100,7 @@ pub fn make_rules(sheet: &mut Sheet) -> Result<(), Complaint> {
 impl Closed {
     /// The closed hours of a machine that values from least to greatest can meet.
     pub fn on(&self, machine: usize, least: i64, greatest: i64) -> Vec<(i64, i64)> {
-        if self.machines.is_empty() || self.machines.contains(&machine) {
+        if self.is_of(machine) {
             self.within(least, greatest)
         } else {
             Vec::new()
@@ -143,7 +143,7 @@ impl Closed {
     }
 
     /// The closed hours that values from least to greatest can meet.
-    pub fn within(&self, least: i64, greatest: i64) -> Vec<(i64, i64)> {
+    fn within(&self, least: i64, greatest: i64) -> Vec<(i64, i64)> {
         let (first, last) = self.hours;
         let Some(again) = self.again else {
             return if first <= greatest && least < last { vec![self.hours] } else { Vec::new() };

@@ -142,8 +142,8 @@ impl<'a> Picture<'a> {
         let calendar = self.look.calendar;
         let (first, last) = (day * DAY, day * DAY + DAY);
         let values = [first, last].map(|minute| calendar.value_before(minute));
-        let lines = self.look.sheet.closed.iter().filter(|closed| closed.is_of(self.machine));
-        let hours = lines.flat_map(|closed| closed.within(values[0], values[1]));
+        let lines = self.look.sheet.closed.iter();
+        let hours = lines.flat_map(|closed| closed.on(self.machine, values[0], values[1]));
         let minutes = hours.map(|(from, to)| (calendar.minute(from), calendar.minute(to)));
         let places = minutes.map(|(from, to)| (self.x(from, day), self.x(to, day)));
         let drawn = places.filter(|(from, to)| from < to);
