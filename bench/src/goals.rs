@@ -21,12 +21,16 @@ enum Limit {
     Nothing,
 }
 
+const OTHERS: &[Kind] = &[Kind::Small, Kind::Worst, Kind::Huge];
+
 /// A line for each goal; the other programs are named in the order of their times.
 pub fn goals(all: &[Measured], others: &[&str]) -> String {
     let place = |name| others.iter().position(|&other| other == name);
     let (strong, earlier) = (place("strong"), place("earlier"));
     let compile =
         |kinds: &[Kind]| over(all, Operation::Compile, strong, |kind| kinds.contains(&kind));
+    let decode =
+        |kinds: &[Kind]| over(all, Operation::Decode, earlier, |kind| kinds.contains(&kind));
     let (most, least) = (Limit::AtMost, Limit::AtLeast);
     let goals = [
         goal("Compile over strong, wide boards", most(2.5), compile(&[Kind::Wide])),
@@ -40,7 +44,8 @@ pub fn goals(all: &[Measured], others: &[&str]) -> String {
         goal("the same of strong", Limit::Nothing, shares(all, strong)),
         goal("instructions for each number, wide boards", most(6.0), values(all, instructions)),
         goal("Compile on 1,024 variables over that on 16", most(1.5), many_over_few(all)),
-        goal("Decode over earlier", most(0.333), over(all, Operation::Decode, earlier, |_| true)),
+        goal("Decode over earlier, wide boards", most(0.333), decode(&[Kind::Wide])),
+        goal("Decode over earlier, others", Limit::Nothing, decode(OTHERS)),
     ];
     goals.iter().map(Goal::line).collect()
 }
