@@ -16,7 +16,7 @@ use Rattle.definitions.specs.Operations.{readBoard}
 use Rattle.laws.specs.Readings.{same, never, place}
 use Rattle.laws.specs.Grammar.{reads-times, found}
 use Rattle.laws.specs.Reads.{reads-bounds, reads-clause}
-use Rattle.laws.specs.Reread.{table-read}
+use Rattle.laws.specs.Reread.{theVersion, tableStart, table-read}
 use Rattle.fields.proofs.Laws.{unsigned-got}
 use Rattle.opening.specs.declared.Counts.{Counts}
 use Rattle.opening.specs.declared.Header.{Header}
@@ -69,9 +69,9 @@ module _ (s : List ℕ) where
   abbrev closed : Got Board → Result Board
   closed g = need 8 (g .next) (eqb (g .next) (length s)) >> done (g .value)
 
-  module _ (z : Counts) (at : ℕ) (begins : at ≡ 11) where
+  module _ (z : Counts) (at : ℕ) (begins : at ≡ tableStart) where
     abbrev ctx : Context
-    ctx = record { version = 1; ints = z .ints; bools = z .bools }
+    ctx = record { version = theVersion; ints = z .ints; bools = z .bools }
 
     abbrev board : Result (Got Board)
     board =
@@ -82,12 +82,12 @@ module _ (s : List ℕ) where
     abbrev header : Result Header
     header =
         result._>>=_ (past (times (z .ints) readBounds s at)) λ rules.
-        result._>>=_ (rulesFrom (headed 1 z at rules) s) λ _.
-        done (headed 1 z at rules)
+        result._>>=_ (rulesFrom (headed theVersion z at rules) s) λ _.
+        done (headed theVersion z at rules)
 
     ended : (g : Got (List Bounds)) (h : Got (List Clause)) → times (z .ints) readBounds s at ≡ done g → times (z .clauses) (readClause ctx) s (g .next) ≡ done h → (t : Bool)
         → mapDone headerOf (need 8 (h .next) t >> done (record { bounds = g .value; bools = z .bools; clauses = h .value }))
-        ≡ result._>>=_ (result._>>=_ (need 8 (h .next) t) (λ _. done (h .next))) (λ _. done (headed 1 z at (g .next)))
+        ≡ result._>>=_ (result._>>=_ (need 8 (h .next) t) (λ _. done (h .next))) (λ _. done (headed theVersion z at (g .next)))
     ended g h b c false = refl
     ended g h b c true =
         let t = table-read (z .ints) s at (g .next) (g .value) b in
@@ -109,7 +109,7 @@ module _ (s : List ℕ) where
 
   -- ---- and the counts before them
   abbrev InParts : Type 0
-  InParts = mapDone headerOf (result._>>=_ (readBody 1 s 5) closed) ≡ headerFrom 1 s 5
+  InParts = mapDone headerOf (result._>>=_ (readBody theVersion s 5) closed) ≡ headerFrom theVersion s 5
 
   clauses : (v m : Got ℕ) → count 0 1024 2 s 5 ≡ done v → count 0 4096 2 s (v .next) ≡ done m → (r : Result (Got ℕ)) → count 0 4096 2 s (m .next) ≡ r → InParts
   unfolding readBody readCounts headerFrom
@@ -171,16 +171,16 @@ module _ (s : List ℕ) (short : length s ≤ 65536) where
       pub begins : (body ≡ 5) × (5 ≤ length s)
       begins = let u = unsigned-got 4 s next f in omega (arith, next-is, ap (λ g. g .next) (u .0), u .1)
 
-      pub version-wrong : (version ≡ 1 → ⊥) → opened ≡ refused 3 0
+      pub version-wrong : (version ≡ theVersion → ⊥) → opened ≡ refused 3 0
       unfolding readBoard
       version-wrong h = rw (le-leb _ _ short, le-leb _ _ (begins .1), ← version-is, ne-eqb _ _ h)
 
-      pub length-wrong : version ≡ 1 → (stated ≡ length s - body → ⊥) → opened ≡ refused 2 0
+      pub length-wrong : version ≡ theVersion → (stated ≡ length s - body → ⊥) → opened ≡ refused 2 0
       unfolding readBoard
       length-wrong one h =
           rw (le-leb _ _ short, le-leb _ _ (begins .1), ← version-is, one, ne-eqb (big s 1 4) (length s - 5) (λ x. h (omega (arith, stated-is, begins .0, x))))
 
-      pub board-is : version ≡ 1 → stated ≡ length s - body → opened ≡ headerFrom version s body
+      pub board-is : version ≡ theVersion → stated ≡ length s - body → opened ≡ headerFrom version s body
       unfolding readBoard
       board-is one h =
           let l : big s 1 4 ≡ length s - 5 = omega (arith, stated-is, begins .0) in

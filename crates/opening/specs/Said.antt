@@ -4,7 +4,7 @@ use Rattle.definitions.specs.Board.{Board}
 use Rattle.definitions.specs.Result.{Result, done, refused}
 use Rattle.definitions.specs.Reading.{Got, Context}
 use Rattle.definitions.specs.Answers.{refusal}
-use Rattle.laws.specs.Reread.{contextOf, tableEnd}
+use Rattle.laws.specs.Reread.{theVersion, tableStart, tableEnd}
 use Rattle.reader.specs.Said.{fault}
 use Rattle.opening.specs.declared.Counts.{Counts}
 use Rattle.opening.specs.declared.CountsRead.{CountsRead}
@@ -27,11 +27,11 @@ saidHeader (HeaderRead.Refused f) = fault f
 -- the version and the counts of a board, and where its variable table and its clauses begin
 abbrev pub headerOf : Board → Header
 headerOf B = record {
-  version = contextOf B .version;
+  version = theVersion;
   ints = length (B .bounds);
   bools = B .bools;
   clauses = length (B .clauses);
-  table = 11;
+  table = tableStart;
   rules = tableEnd B;
 }
 

@@ -6,7 +6,7 @@ use native.Mathlib.Omega.{arith}
 use Rattle.definitions.specs.Board.{Board}
 use Rattle.definitions.specs.Encoding.{clauses}
 use Rattle.laws.specs.Boards.{boardOf}
-use Rattle.opening.specs.Headers.{admitted, rules-inside, tail-is}
+use Rattle.opening.specs.Headers.{recorded, rules-inside, tail-is}
 use Rattle.decode.specs.declared.Checked.{Checked}
 use Rattle.decode.specs.Truth.{tests}
 use Rattle.decode.specs.Goes.{Goes, goes-start, goes-part, goes-fails}
@@ -45,7 +45,7 @@ part-search-rules-end c = search needs
 search-rules-requires : tie.Need-search-rules-requires
 search-rules-requires c κs =
     let s = c .before .before .before .before .before .before .before in
-    (s .pre, tail-is (s .pre .opened), omega (arith, rules-left (c .before .before .before .before) _ (c .before .before .number2 .given .1) .count, clauses-fit (B s) (s .args .model .now) (admitted (s .pre .opened))))
+    (s .pre, tail-is (s .pre .opened), omega (arith, rules-left (c .before .before .before .before) _ (c .before .before .number2 .given .1) .count, clauses-fit (B s) (s .args .model .now) (recorded (s .pre .opened))))
 
 returns : tie.Need-returns
 returns c =
