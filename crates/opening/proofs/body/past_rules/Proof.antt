@@ -1,12 +1,10 @@
 -- The clauses in the tail, moved to their places in the record, and nothing after them.
 use borrow.Author.Needs.{needs}
+use mathlib.Core.Path.{sym}
 use native.Mathlib.Omega.{arith}
-use borrow.Author.Tests.{eq-eqb, ne-eqb}
 use Rattle.fields.proofs.Laws.{told}
 use Rattle.reader.specs.Said.{saidStep}
-use Rattle.opening.specs.Said.{contextIn}
-use Rattle.opening.specs.Parts.{rulesFrom}
-use Rattle.opening.proofs.Moved.{tail-next, tail-refused}
+use Rattle.opening.proofs.Moved.{fault-inside, rules-refused, end-inside, rules-left-over, rules-done}
 use Rattle.opening.proofs.body.past_rules.Statement.{statement}
 use Rattle.opening.proofs.body.past_rules.Tie as tie
 
@@ -36,36 +34,23 @@ of-step-requires c κs = search needs
 
 add-t14 : tie.Need-add-t14
 add-t14 c =
-    let a = c .before .before .before .before .before .before .before .before .args in
-    let e = rw (c .before .before .before .before .before .context-of .ensures) at (told saidStep (c .before .before .before .before .past-clauses .ensures) (c .before .of-step .ensures)) in
-    omega (arith, tail-refused (a .header .clauses) (contextIn (a .header)) (a .bytes .now) (a .header .rules) (c .before .before .before .before .before .before .before .before .pre .0) e .1)
+    omega (arith, fault-inside (c .before .before .before .before .before .before .before .before .args .header) (c .before .before .before .before .before .before .before .before .args .bytes .now) (c .before .before .before .before .before .before .before .before .pre .0) _ (c .before .before .before .before .before .context-of .ensures) (told saidStep (c .before .before .before .before .past-clauses .ensures) (c .before .of-step .ensures)))
 
 returns : tie.Need-returns
-unfolding rulesFrom
 returns c =
-    let a = c .before .before .before .before .before .before .before .before .args in
-    let e = rw (c .before .before .before .before .before .context-of .ensures) at (told saidStep (c .before .before .before .before .past-clauses .ensures) (c .before .of-step .ensures)) in
-    rw (tail-refused (a .header .clauses) (contextIn (a .header)) (a .bytes .now) (a .header .rules) (c .before .before .before .before .before .before .before .before .pre .0) e .0)
+    sym (rules-refused _ _ (c .before .before .before .before .before .before .before .before .pre .0) _ (c .before .before .before .before .before .context-of .ensures) (told saidStep (c .before .before .before .before .past-clauses .ensures) (c .before .of-step .ensures)))
 
 add-place : tie.Need-add-place
 add-place c =
-    let a = c .before .before .before .before .before .before .before .args in
-    let e = rw (c .before .before .before .before .context-of .ensures) at (told saidStep (c .before .before .before .past-clauses .ensures) (c .before .passed .given .1)) in
-    omega (arith, tail-next (a .header .clauses) (contextIn (a .header)) (a .bytes .now) (a .header .rules) (c .before .before .before .before .before .before .before .pre .0) e .1)
+    omega (arith, end-inside (c .before .before .before .before .before .before .before .args .header) (c .before .before .before .before .before .before .before .args .bytes .now) (c .before .before .before .before .before .before .before .pre .0) _ (c .before .before .before .before .context-of .ensures) (told saidStep (c .before .before .before .past-clauses .ensures) (c .before .passed .given .1)))
 
 returns-2 : tie.Need-returns-2
-unfolding rulesFrom
 returns-2 c =
-    let a = c .before .before .before .before .before .before .before .before .args in
-    let e = rw (c .before .before .before .before .before .context-of .ensures) at (told saidStep (c .before .before .before .before .past-clauses .ensures) (c .before .before .passed .given .1)) in
-    rw (tail-next (a .header .clauses) (contextIn (a .header)) (a .bytes .now) (a .header .rules) (c .before .before .before .before .before .before .before .before .pre .0) e .0, ne-eqb _ _ (c .if1 .taken))
+    sym (rules-left-over _ _ (c .before .before .before .before .before .before .before .before .pre .0) _ (c .before .before .before .before .before .context-of .ensures) (told saidStep (c .before .before .before .before .past-clauses .ensures) (c .before .before .passed .given .1)) (c .if1 .taken))
 
 returns-3 : tie.Need-returns-3
-unfolding rulesFrom
 returns-3 c =
-    let a = c .before .before .before .before .before .before .before .before .args in
-    let e = rw (c .before .before .before .before .before .context-of .ensures) at (told saidStep (c .before .before .before .before .past-clauses .ensures) (c .before .before .passed .given .1)) in
-    rw (tail-next (a .header .clauses) (contextIn (a .header)) (a .bytes .now) (a .header .rules) (c .before .before .before .before .before .before .before .before .pre .0) e .0, eq-eqb _ _ (c .if1 .left))
+    sym (rules-done _ _ (c .before .before .before .before .before .before .before .before .pre .0) _ (c .before .before .before .before .before .context-of .ensures) (told saidStep (c .before .before .before .before .past-clauses .ensures) (c .before .before .passed .given .1)) (c .if1 .left))
 
 pub past-rules-spec : {M : Type 1} → statement M
 past-rules-spec =
