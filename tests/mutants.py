@@ -16,7 +16,7 @@ MUTANTS = [
     ("the same list each time", [
         ("compile/src/lib.rt",
          "put_list(bytes, header, list)",
-         r'put_list(b"\x01\0\0\0\x0A\0\x01\0\0\0\0\0\x05\0\x05", Header { ints: 1, bools: 0, clauses: 0, rules: 15 }, list)')]),
+         r'put_list(b"\x01\0\0\0\x0A\0\x01\0\0\0\0\0\x05\0\x05", Header { version: 1, ints: 1, bools: 0, clauses: 0, table: 11, rules: 15 }, list)')]),
     ("nothing written, the sizes right", [
         ("compile/src/lib.rt",
          "let k = put_list(bytes, header, list);",

@@ -12,7 +12,7 @@ use Rattle.definitions.specs.Board.{Board, boundsOf}
 use Rattle.definitions.specs.Encoding.{SatClause, order, plus, minus, axiomsOf, axioms, width, first, number, M}
 use Rattle.definitions.specs.Meaning.{on, satisfies, inModel}
 use Rattle.laws.specs.Lists.{map-same, all-every, countUp-shift, countUp-first, countUp-none, length-flatten}
-use Rattle.laws.specs.Admitted.{Admitted}
+use Rattle.laws.specs.Reread.{Recorded}
 use Rattle.laws.specs.Fits.{M-fits}
 use Rattle.laws.specs.Axioms.{axiomsFrom, axioms-more, before-value, at-value, lowest-number, highest-number}
 use Rattle.laws.specs.Layout.{width-range}
@@ -115,6 +115,6 @@ module _ (B : Board) (model : List ℕ) where
       ∙ map-append (trueClause B model) (axiomsOf (boundsOf B) x) (axiomsFrom B (x + 1))
       ∙ ap (λ l. l ++ tests B model (axiomsFrom B (x + 1))) (axioms-tests B model x o)
 
-  pub axioms-fit : Admitted B → length (tests B model (flatten (axioms B))) < 2 ^ 63
+  pub axioms-fit : Recorded B → length (tests B model (flatten (axioms B))) < 2 ^ 63
   unfolding M
   axioms-fit g = omega (arith, length-map (flatten (axioms B)) (trueClause B model), length-flatten (axioms B), M-fits B g)

@@ -12,11 +12,10 @@ use Rattle.definitions.specs.Board.{Board, boundsOf}
 use Rattle.definitions.specs.Result.{done, refused, each}
 use Rattle.definitions.specs.Encoding.{SatClause, N, axioms, rules, clauses}
 use Rattle.laws.specs.Lists.{append-all}
-use Rattle.laws.specs.Admitted.{Admitted}
 use Rattle.laws.specs.Sizes.{M-is}
 use Rattle.laws.specs.Fits.{M-fits}
 use Rattle.laws.specs.Boards.{boardOf, opens-board}
-use Rattle.laws.specs.Reread.{contextOf, tableEnd}
+use Rattle.laws.specs.Reread.{Recorded, contextOf, tableEnd}
 use Rattle.laws.specs.Ahead.{literalsAt, clausesAt, coming}
 use Rattle.laws.specs.Pieces.{Piece, pieceClauses, piecesFrom, clausesIn, left-start, rules-pieces}
 use Rattle.laws.specs.Mentions as Mentions
@@ -177,5 +176,5 @@ module _ (B : Board) (model : List ℕ) where
   unfolding clauses
   clauses-split = map-append (trueClause B model) (flatten (axioms B)) (flatten (rules B))
 
-  pub clauses-fit : Admitted B → length (tests B model (clauses B)) < 2 ^ 63
+  pub clauses-fit : Recorded B → length (tests B model (clauses B)) < 2 ^ 63
   clauses-fit g = omega (arith, length-map (clauses B) (trueClause B model), M-is B, M-fits B g)

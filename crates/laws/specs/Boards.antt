@@ -6,7 +6,7 @@ use Rattle.definitions.specs.Board.{Board}
 use Rattle.definitions.specs.Result.{Result, done, refused}
 use Rattle.definitions.specs.Operations.{readBoard}
 use Rattle.laws.specs.Admitted.{Admitted}
-use Rattle.laws.specs.Reread.{BoardRead, reading-admitted, board-read}
+use Rattle.laws.specs.Reread.{BoardRead, Recorded, reading-admitted, reading-recorded, board-read}
 
 abbrev boardIn : Result Board → Board
 boardIn (done B) = B
@@ -36,3 +36,6 @@ opens-board s r = board-read s (boardOf s) (opens-is s r)
 
 pub opens-admitted : (s : List ℕ) → Opens s → Admitted (boardOf s)
 opens-admitted s r = reading-admitted s (boardOf s) (opens-is s r)
+
+pub opens-recorded : (s : List ℕ) → Opens s → Recorded (boardOf s)
+opens-recorded s r = reading-recorded s (boardOf s) (opens-is s r)

@@ -1,7 +1,7 @@
 -- How great the numbers of an admitted board can be: generous bounds, so that what is counted fits its width.
 use mathlib.Core.Path.{_≡_, refl, ap}
 use mathlib.Core.Bool.{Bool, true, false, not}
-use mathlib.Core.List.{List, [], _∷_, _++_, map}
+use mathlib.Core.List.{List, [], _∷_, _++_, map, flatten}
 use Prim.Native.Nat.{ℕ, suc, _+_, _*_, _^_, _≤_, _<_}
 use native.Mathlib.Nat.{mul-le-mul}
 use native.Mathlib.Omega.{arith}
@@ -13,6 +13,7 @@ use mir.Val.{SFits}
 use Rattle.definitions.specs.Tools.{All, if_then_else_, sum}
 use Rattle.definitions.specs.Board.{Board, Bounds, Term, Comparison, Clause, isTrue, isFalse, atMost, boundsOf}
 use Rattle.definitions.specs.Encoding.{termBounds, least, tuplesOf, comparisons, selected, axioms, rules, SatClause, places, width, first, N, M, K}
+use Rattle.laws.specs.Limits.{sumsLimit, tuplesLimit}
 use Rattle.laws.specs.Whole.{whole, add-law, sub-law, part-law, abs-law, abs-le, abs-add, abs-fits}
 use Rattle.laws.specs.Lists.{all-impl, sum-append, sum-most}
 use Rattle.laws.specs.Admitted.{Admitted, GoodBounds, GoodTerm, GoodComparison, GoodClause}
@@ -22,6 +23,8 @@ use Rattle.laws.specs.Counting.{above, ways-most, tri-fits, tuples-count
 use Rattle.laws.specs.Pieces.{Piece, line, under, compared, lone, opening, piecesFrom, used}
 use Rattle.laws.specs.Mentions.{Sound, pieces-sound}
 use Rattle.laws.specs.Sizes.{piecePlaces, K-sum}
+use Rattle.laws.specs.Spelling.{span, span-append, several, literals-span, clauseFields, boundsFields}
+use Rattle.laws.specs.Reread.{Recorded}
 
 pub width-most : (b : Bounds) → GoodBounds b → width b ≤ 8193
 unfolding width
@@ -57,14 +60,14 @@ module _ (B : Board) (g : Admitted B) where
       omega (arith, s .0, least-size ts (h .1), abs-add (termBounds of t .lo) (least of ts))
 
   -- ---- a comparison's tuples
-  pub above-fits : (q : Comparison) → GoodComparison ints q → suc (above of q) < 2 ^ 21
+  pub above-fits : (q : Comparison) → GoodComparison ints q → suc (above of q) < sumsLimit
   above-fits q h =
       let L = least of (q .terms) in
       let k = q .constant in
       let s = least-size (q .terms) (h .terms) in
       omega (whole, s, abs-law L, h .few, h .most, add-law (k -ℤ L) (pos 1), sub-law k L, part-law (k -ℤ L +ℤ pos 1))
 
-  pub tuples-fit : (q : Comparison) → GoodComparison ints q → least of (q .terms) ≤ℤ q .constant → length (tuplesOf of q) < 2 ^ 41
+  pub tuples-fit : (q : Comparison) → GoodComparison ints q → least of (q .terms) ≤ℤ q .constant → length (tuplesOf of q) < tuplesLimit
   tuples-fit q h l =
       let ws = widths (ranges of (q .terms)) in
       let few : length ws ≤ 3 = omega (arith, h .few, widths-length of (q .terms)) in
@@ -75,7 +78,7 @@ module _ (B : Board) (g : Admitted B) where
       omega (arith, tuples-count of q ordered l, ways-most ws (above of q) few, tri-fits (suc (above of q)) (above-fits q h))
 
   -- ---- the list
-  piece-most : (p : Piece) → Sound B p → piecePlaces of p ≤ 2 ^ 41 * 5
+  piece-most : (p : Piece) → Sound B p → piecePlaces of p ≤ tuplesLimit * 5
   unfolding piecePlaces
   piece-most (line c) h = omega (arith, h .0)
   piece-most (under lead q) h = go (leZ (least of (q .terms)) (q .constant)) refl
@@ -83,10 +86,10 @@ module _ (B : Board) (g : Admitted B) where
       n : ℕ
       n = length lead + length (q .terms) + 1
 
-      go : (b : Bool) → leZ (least of (q .terms)) (q .constant) ≡ b → (if b then length (tuplesOf of q) * n else length lead + 1) ≤ 2 ^ 41 * 5
+      go : (b : Bool) → leZ (least of (q .terms)) (q .constant) ≡ b → (if b then length (tuplesOf of q) * n else length lead + 1) ≤ tuplesLimit * 5
       go true e =
           let t = tuples-fit q (h .2) (omega whole) in
-          let most : length (tuplesOf of q) ≤ 2 ^ 41 = omega arith in
+          let most : length (tuplesOf of q) ≤ tuplesLimit = omega arith in
           let few : n ≤ 5 = omega (arith, h .0, h .2 .few) in
           mul-le-mul most few
       go false e = omega (arith, h .0)
@@ -108,10 +111,11 @@ opening-few : (alone : Bool) (j : ℕ) (C : Clause) → length (opening alone j 
 opening-few true j C = omega arith
 opening-few false j C = omega arith
 
-pieces-few : (ints m j : ℕ) (Cs : List Clause) → All (GoodClause ints m) Cs → length (piecesFrom j Cs) ≤ length Cs * 65
-unfolding piecesFrom
-pieces-few ints m j [] h = omega arith
-pieces-few ints m j (C ∷ Cs) h =
+-- a line has its clause's count for a byte, a comparison those of its literal
+pieces-few : (j : ℕ) (Cs : List Clause) → length (piecesFrom j Cs) ≤ span (several clauseFields Cs)
+unfolding piecesFrom flatten
+pieces-few j [] = omega arith
+pieces-few j (C ∷ Cs) =
     let qs = compared (not (lone C)) j (comparisons C) in
     let n = used (not (lone C)) (length (comparisons C)) in
     let rest = piecesFrom (j + n) Cs in
@@ -122,21 +126,25 @@ pieces-few ints m j (C ∷ Cs) h =
       opening-few (lone C) j C,
       compared-length (not (lone C)) j (comparisons C),
       comparisons-few C,
-      h .0 .few,
-      pieces-few ints m (j + n) Cs (h .1),
+      literals-span C,
+      span-append (clauseFields C) (several clauseFields Cs),
+      pieces-few (j + n) Cs,
     )
 
-pub K-fits : (B : Board) → Admitted B → K B < 2 ^ 63
-K-fits B g =
+-- by the bytes of the record, whatever its counts are
+pub K-fits : (B : Board) → Recorded B → K B < 2 ^ 63
+K-fits B r =
+    let g = r .admitted in
     let ps = piecesFrom 0 (B .clauses) in
     omega (
       arith,
       K-sum B (g .bounds),
       g .ints,
-      g .rules,
+      r .short,
+      span-append (several boundsFields (B .bounds)) (several clauseFields (B .clauses)),
       sum-most (λ b. 3 * width b + 1) GoodBounds 24580 (λ b h. omega (arith, width-most b h)) (B .bounds) (g .bounds),
-      sum-most (piecePlaces (boundsOf B)) (Sound B) (2 ^ 41 * 5) (piece-most B g) ps (pieces-sound B g),
-      pieces-few (length (B .bounds)) (B .bools) 0 (B .clauses) (g .clauses),
+      sum-most (piecePlaces (boundsOf B)) (Sound B) (tuplesLimit * 5) (piece-most B g) ps (pieces-sound B g),
+      pieces-few 0 (B .clauses),
     )
 
 -- a clause has a place for its end
@@ -145,9 +153,9 @@ unfolding places
 places-most [] = omega arith
 places-most (c ∷ cs) = omega (arith, places-most cs)
 
-pub M-fits : (B : Board) → Admitted B → M B < 2 ^ 63
+pub M-fits : (B : Board) → Recorded B → M B < 2 ^ 63
 unfolding M K
-M-fits B g = omega (arith, most (axioms B), most (rules B), K-fits B g)
+M-fits B r = omega (arith, most (axioms B), most (rules B), K-fits B r)
   where
     most : (ls : List (List SatClause)) → sum (map length ls) ≤ sum (map places ls)
     most [] = omega arith

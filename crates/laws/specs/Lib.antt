@@ -1,3 +1,4 @@
+pub mod Limits
 pub mod Whole
 pub mod Division
 pub mod Lists

@@ -20,17 +20,24 @@ use Rattle.definitions.specs.Operations.{readBoard, accepted}
 use Rattle.laws.specs.Lists.{counted-at}
 use Rattle.laws.specs.Admitted.{Admitted, GoodComparison}
 use Rattle.laws.specs.Readings.{same, never, from-start}
-use Rattle.laws.specs.Spelling.{Field, several, integer, Stand, none, more, append-stand, stand-onward, boundsFields, termFields, comparisonFields, bodyFields}
+use Rattle.laws.specs.Spelling.{Field, several, integer, Stand, none, more, append-stand, stand-onward, stand-span, span, boundsFields, termFields, comparisonFields, bodyFields}
 use Rattle.laws.specs.Grammar.{spelt, finds, found, reads-times}
 use Rattle.laws.specs.Reads.{reads-bounds, reads-comparison, reads-clause, reads-body}
+
+-- the one version, and where its variable table begins
+abbrev pub theVersion : ℕ
+theVersion = 1
+
+abbrev pub tableStart : ℕ
+tableStart = 11
 
 -- ---- the record around its body
 pub record Wrapped (s : List ℕ) (B : Board) : Type 0 where
   pub short : length s ≤ 65536
   pub head : 5 ≤ length s
-  pub version : getD s 0 0 ≡ 1
+  pub version : getD s 0 0 ≡ theVersion
   pub stated : big s 1 4 ≡ length s - 5
-  pub body : readBody 1 s 5 ≡ finds B (length s)
+  pub body : readBody theVersion s 5 ≡ finds B (length s)
 
 met : {A : Type 0} {a : A} (n d : ℕ) (t : Bool) (m : Result A) → result._>>_ (need n d t) m ≡ done a → T t × (m ≡ done a)
 met n d true m e = (tt, e)
@@ -48,9 +55,9 @@ unfolding readBoard
 wrapped s B e =
     let a = met 1 0 (leb (length s) 65536) _ e in
     let b = met 2 0 (leb 5 (length s)) _ (a .1) in
-    let c = met 3 0 (eqb (getD s 0 0) 1) _ (b .1) in
+    let c = met 3 0 (eqb (getD s 0 0) theVersion) _ (b .1) in
     let d = met 2 0 (eqb (big s 1 4) (length s - 5)) _ (c .1) in
-    let one : getD s 0 0 ≡ 1 = eqb→eq (getD s 0 0) 1 (c .0) in
+    let one : getD s 0 0 ≡ theVersion = eqb→eq (getD s 0 0) theVersion (c .0) in
     record {
       short = leb→le (length s) 65536 (a .0);
       head = leb→le 5 (length s) (b .0);
@@ -65,7 +72,7 @@ unwrapped s B w = rw (le-leb (length s) 65536 (w .short), le-leb 5 (length s) (w
 
 -- the board is good, and its fields stand after the first 5 bytes
 pub body-read : (s : List ℕ) (B : Board) → readBoard s ≡ done B → Admitted B × Stand s 5 (bodyFields B) (length s)
-body-read s B e = found (reads-body 1 .told s 5 B (length s) (wrapped s B e .body))
+body-read s B e = found (reads-body theVersion .told s 5 B (length s) (wrapped s B e .body))
 
 -- all operations' checks
 pub accepted-parts : (s : List ℕ) (B : Board) → (accepted s ≡ done B) ↔ ((readBoard s ≡ done B) × (K B ≤ 2000000000))
@@ -169,23 +176,23 @@ table-read n s at end bs e =
     (d .0 .0, stand-row (boundsAt s) 4 boundsFields s (one-bounds s) at end bs (d .1) .1)
 
 abbrev pub contextOf : Board → Context
-contextOf B = record { version = 1; ints = length (B .bounds); bools = B .bools }
+contextOf B = record { version = theVersion; ints = length (B .bounds); bools = B .bools }
 
 -- where the variable table ends
 abbrev pub tableEnd : Board → ℕ
-tableEnd B = 11 + 4 * length (B .bounds)
+tableEnd B = tableStart + 4 * length (B .bounds)
 
 pub record BoardRead (s : List ℕ) (B : Board) : Type 0 where
   pub ints : length (B .bounds) ≡ big s 5 2
   pub bools : B .bools ≡ big s 7 2
   pub rules : length (B .clauses) ≡ big s 9 2
   pub room : tableEnd B ≤ length s
-  pub bounds : (x : ℕ) → x < length (B .bounds) → boundsOf B x ≡ boundsAt s (11 + 4 * x)
+  pub bounds : (x : ℕ) → x < length (B .bounds) → boundsOf B x ≡ boundsAt s (tableStart + 4 * x)
   pub clauses : times (length (B .clauses)) (readClause (contextOf B)) (drop (tableEnd B) s) 0 ≡ finds (B .clauses) (length (drop (tableEnd B) s))
 
-bounds-read : (s : List ℕ) (B : Board) → B .bounds ≡ row (boundsAt s) 4 11 (length (B .bounds)) → (x : ℕ) → x < length (B .bounds) → boundsOf B x ≡ boundsAt s (11 + 4 * x)
+bounds-read : (s : List ℕ) (B : Board) → B .bounds ≡ row (boundsAt s) 4 tableStart (length (B .bounds)) → (x : ℕ) → x < length (B .bounds) → boundsOf B x ≡ boundsAt s (tableStart + 4 * x)
 unfolding boundsOf
-bounds-read s B e x h = ap (λ bs. getD bs x zeros) e ∙ row-at (boundsAt s) 4 zeros 11 (length (B .bounds)) x h
+bounds-read s B e x h = ap (λ bs. getD bs x zeros) e ∙ row-at (boundsAt s) 4 zeros tableStart (length (B .bounds)) x h
   where
     zeros : Bounds
     zeros = record { lo = pos 0; hi = pos 0 }
@@ -193,7 +200,7 @@ bounds-read s B e x h = ap (λ bs. getD bs x zeros) e ∙ row-at (boundsAt s) 4 
 board-stand : (s : List ℕ) (B : Board) (end : ℕ) → end ≡ length s → Admitted B → Stand s 5 (bodyFields B) end → BoardRead s B
 board-stand s B end e g (more h v (more h′ m (more h″ c p))) =
     let d = append-stand (several boundsFields (B .bounds)) _ p in
-    let r = stand-row (boundsAt s) 4 boundsFields s (one-bounds s) 11 (d .mid) (B .bounds) (d .front) in
+    let r = stand-row (boundsAt s) 4 boundsFields s (one-bounds s) tableStart (d .mid) (B .bounds) (d .front) in
     let i : tableEnd B ≤ length s = omega (arith, stand-onward (d .back)) in
     let c′ = reads-times (reads-clause (contextOf B)) (length (B .clauses)) in
     let k = c′ .read s (d .mid) (B .clauses) end _ (spelt (refl, g .clauses)) (d .back) in
@@ -208,6 +215,16 @@ board-stand s B end e g (more h v (more h′ m (more h″ c p))) =
 
 pub reading-admitted : (s : List ℕ) (B : Board) → readBoard s ≡ done B → Admitted B
 reading-admitted s B e = body-read s B e .0
+
+-- the board of a record: its fields take no more bytes than a record has
+pub record Recorded (B : Board) : Type 0 where
+  pub admitted : Admitted B
+  pub short : span (bodyFields B) ≤ 65536
+
+pub reading-recorded : (s : List ℕ) (B : Board) → readBoard s ≡ done B → Recorded B
+reading-recorded s B e =
+    let b = body-read s B e in
+    record { admitted = b .0; short = omega (arith, stand-span (b .1), wrapped s B e .short) }
 
 pub accepted-admitted : (s : List ℕ) (B : Board) → accepted s ≡ done B → Admitted B
 accepted-admitted s B e = reading-admitted s B (accepted-parts s B .0 e .0)

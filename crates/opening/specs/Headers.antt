@@ -5,8 +5,8 @@ use Prim.Native.Nat.{ℕ, _≤_}
 use native.Mathlib.Omega.{arith}
 use lib.ListN.{length, drop}
 use Rattle.laws.specs.Admitted.{Admitted}
-use Rattle.laws.specs.Boards.{boardOf, Opens, opens-board, opens-admitted}
-use Rattle.laws.specs.Reread.{contextOf, tableEnd}
+use Rattle.laws.specs.Boards.{boardOf, Opens, opens-board, opens-admitted, opens-recorded}
+use Rattle.laws.specs.Reread.{Recorded, contextOf, tableStart, tableEnd}
 use Rattle.laws.specs.Written.{rest, rest-drop}
 use Rattle.opening.specs.declared.Header.{Header}
 use Rattle.opening.specs.Said.{headerOf, contextIn}
@@ -25,11 +25,17 @@ module _ {s : List ℕ} {h : Header} (o : Opened s h) where
   pub clauses-is : h .clauses ≡ length (boardOf s .clauses)
   clauses-is = ap (λ z. z .clauses) (o .header)
 
+  pub table-is : h .table ≡ tableStart
+  table-is = ap (λ z. z .table) (o .header)
+
   pub rules-is : h .rules ≡ tableEnd (boardOf s)
   rules-is = ap (λ z. z .rules) (o .header)
 
   pub context-is : contextIn h ≡ contextOf (boardOf s)
   context-is = ap contextIn (o .header)
+
+  pub recorded : Recorded (boardOf s)
+  recorded = opens-recorded s (o .opens)
 
   pub admitted : Admitted (boardOf s)
   admitted = opens-admitted s (o .opens)

@@ -1,17 +1,12 @@
--- readBoard in the parts that the code has; Opened.antt puts them together again.
-use Rattle.definitions.specs.Tools.{ℕ, _-_, List, length, getD, leb, eqb}
-use Rattle.definitions.specs.Result.{Result, _>>_, need, done}
+-- What follows the stated length, in the parts that the code has; Opened.antt puts them together again.
+use Rattle.definitions.specs.Tools.{ℕ, List, length, eqb}
+use Rattle.definitions.specs.Result.{Result, need, done}
 use Rattle.definitions.specs.Result as result
-use Rattle.definitions.specs.Reading.{Got, Reader, _>>=_, give, times, big, count, readBounds, readClause}
+use Rattle.definitions.specs.Reading.{Reader, _>>=_, give, times, count, readBounds, readClause}
 use Rattle.reader.specs.Parts.{past}
 use Rattle.opening.specs.declared.Counts.{Counts}
 use Rattle.opening.specs.declared.Header.{Header}
-
--- the version, and where the body begins
-unfoldable pub envelope : List ℕ → Result (Got ℕ)
-envelope s =
-    need 1 0 (leb (length s) 65536) >> need 2 0 (leb 5 (length s)) >> need 3 0 (eqb (getD s 0 0) 1) >>
-    need 2 0 (eqb (big s 1 4) (length s - 5)) >> done (record { value = getD s 0 0; next = 5 })
+use Rattle.opening.specs.Said.{contextIn}
 
 unfoldable pub readCounts : Reader Counts
 readCounts = do
@@ -20,10 +15,21 @@ readCounts = do
   c ← count 0 4096 2
   give (record { ints = v; bools = m; clauses = c })
 
--- the variable table, the clauses, and nothing after them
-unfoldable pub bodyFrom : ℕ → Counts → List ℕ → ℕ → Result Header
-bodyFrom version z s at =
-    result._>>=_ (past (times (z .ints) readBounds s at)) λ rules.
-    result._>>=_ (past (times (z .clauses) (readClause (record { version = version; ints = z .ints; bools = z .bools })) s rules)) λ end.
+-- where the clauses end, and nothing after them
+unfoldable pub rulesFrom : Header → List ℕ → Result ℕ
+rulesFrom h s =
+    result._>>=_ (past (times (h .clauses) (readClause (contextIn h)) s (h .rules))) λ end.
     result._>>=_ (need 8 end (eqb end (length s))) λ _.
-    done (record { ints = z .ints; bools = z .bools; clauses = z .clauses; rules = rules })
+    done end
+
+abbrev pub headed : ℕ → Counts → ℕ → ℕ → Header
+headed version z table rules =
+    record { version = version; ints = z .ints; bools = z .bools; clauses = z .clauses; table = table; rules = rules }
+
+-- the counts, the variable table, the clauses
+unfoldable pub headerFrom : ℕ → List ℕ → ℕ → Result Header
+headerFrom version s at =
+    result._>>=_ (readCounts s at) λ g.
+    result._>>=_ (past (times (g .value .ints) readBounds s (g .next))) λ rules.
+    result._>>=_ (rulesFrom (headed version (g .value) (g .next) rules) s) λ _.
+    done (headed version (g .value) (g .next) rules)

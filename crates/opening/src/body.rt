@@ -1,83 +1,70 @@
-// What follows the counts: the variable table, the clauses, and nothing after them.
+// What follows the stated length: the counts, the variable table, the clauses, and nothing after them.
 ghost use mathlib.Core.Path.{_≡_};
-ghost use Prim.Native.Nat.{_+_, _≤_, _<_, _^_};
+ghost use Prim.Native.Nat.{_≤_};
 ghost use lib.ListN.{length};
-ghost use Rattle.definitions.specs.Reading.{times, readClause};
-ghost use Rattle.definitions.specs.Answers.{said};
-ghost use Rattle.reader.specs.Said.{contextOf, saidStep};
-ghost use Rattle.reader.specs.Parts.{past};
-ghost use Rattle.opening.specs.Said.{saidOpening};
-ghost use Rattle.opening.specs.Parts.{bodyFrom};
-use super::Counts;
+ghost use Rattle.reader.specs.Said.{saidStep};
+ghost use Rattle.opening.specs.Said.{saidHeader};
+ghost use Rattle.opening.specs.Parts.{rulesFrom, headerFrom};
+use super::CountsRead;
 use super::Header;
-use super::Opening;
+use super::HeaderRead;
+use super::context_of;
+use super::faults::of_counts;
+use super::head::counts_at;
 use super::table::past_table;
-use definitions::Refusal;
-use reader::Context;
+use reader::Fault;
 use reader::Step;
+use reader::Why;
 use reader::clauses::past_clauses;
+use reader::faults::of_step;
 
-// A refusal whose place was counted from base.
-fn moved(r: Refusal, base: usize) -> Refusal
-    requires { ⌜ ((4 ≤ said r .0) × (said r .0 ≤ 8)) × (base + said r .1 < 2 ^ 64) ⌝ }
-    ensures { λ v. ⌜ said v ≡ (said r .0, base + said r .1) ⌝ }
+// The clauses are read in the record's tail, where places are counted from its start; nothing follows them.
+fn past_rules(bytes: &[u8], header: Header) -> Step
+    requires { ⌜ (header .rules ≤ length (now bytes)) × ((header .ints ≤ 1024) × (header .bools ≤ 4096)) ⌝ }
+    ensures { λ r. ⌜ saidStep r ≡ rulesFrom header (now (bytes .entry)) ⌝ }
 {
-    match r {
-        Refusal::CountWrong { place } => Refusal::CountWrong {
-            place: base + place,
-        },
-        Refusal::BoundWrong { place } => Refusal::BoundWrong {
-            place: base + place,
-        },
-        Refusal::LiteralWrong { place } => Refusal::LiteralWrong {
-            place: base + place,
-        },
-        Refusal::TermWrong { place } => Refusal::TermWrong {
-            place: base + place,
-        },
-        Refusal::EndWrong { place } => Refusal::EndWrong {
-            place: base + place,
-        },
-        _ => r,
-    }
-}
-
-// The clauses are read in the record's tail, and places are counted from there.
-fn past_rules(bytes: &[u8], known: Context, n: u32, rules: usize) -> Step
-    requires { ⌜ rules ≤ length (now bytes) ⌝ }
-    ensures { λ r. ⌜ saidStep r ≡ past (times n (readClause (contextOf known)) (now (bytes .entry)) rules) ⌝ }
-{
-    match past_clauses(&bytes[rules..], known, n, 0) {
-        Step::Next(end) => Step::Next(rules + end),
-        Step::Refused(r) => Step::Refused(moved(r, rules)),
-    }
-}
-
-pub fn body_at(bytes: &[u8], version: u32, counts: Counts, at: usize) -> Opening
-    requires { ⌜ at ≤ length (now bytes) ⌝ }
-    ensures { λ r. ⌜ saidOpening r ≡ bodyFrom version counts (now (bytes .entry)) at ⌝ }
-{
-    let known = Context {
-        version,
-        ints: counts.ints,
-        bools: counts.bools,
+    let base = header.rules;
+    let passed = past_clauses(&bytes[base..], context_of(header), header.clauses, 0);
+    let Step::Next(read) = passed else {
+        let fault = of_step(passed);
+        let why = fault.why;
+        return Step::Refused(Fault {
+            why,
+            place: base + fault.place,
+        });
     };
-    match past_table(bytes, counts.ints, at) {
-        Step::Next(rules) => match past_rules(bytes, known, counts.clauses, rules) {
-            Step::Next(end) => {
-                if end == bytes.len() {
-                    Opening::Board(Header {
-                        ints: counts.ints as usize,
-                        bools: counts.bools as usize,
-                        clauses: counts.clauses as usize,
-                        rules,
-                    })
-                } else {
-                    Opening::Refused(Refusal::EndWrong { place: end })
-                }
-            }
-            Step::Refused(r) => Opening::Refused(r),
-        },
-        Step::Refused(r) => Opening::Refused(r),
+    let place = base + read;
+    if place != bytes.len() {
+        return Step::Refused(Fault {
+            why: Why::End,
+            place,
+        });
     }
+    Step::Next(place)
+}
+
+pub fn header_at(bytes: &[u8], version: u32, at: usize) -> HeaderRead
+    ensures { λ r. ⌜ saidHeader r ≡ headerFrom version (now (bytes .entry)) at ⌝ }
+{
+    let counted = counts_at(bytes, at);
+    let CountsRead::Got(counts, table) = counted else {
+        return HeaderRead::Refused(of_counts(counted));
+    };
+    let passed = past_table(bytes, counts.ints, table);
+    let Step::Next(rules) = passed else {
+        return HeaderRead::Refused(of_step(passed));
+    };
+    let header = Header {
+        version,
+        ints: counts.ints as usize,
+        bools: counts.bools as usize,
+        clauses: counts.clauses as usize,
+        table,
+        rules,
+    };
+    let ended = past_rules(bytes, header);
+    let Step::Next(_) = ended else {
+        return HeaderRead::Refused(of_step(ended));
+    };
+    HeaderRead::Got(header)
 }

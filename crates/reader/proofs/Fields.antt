@@ -9,10 +9,10 @@ use lib.IntN.{ℤ, pos, negsuc}
 use Rattle.definitions.specs.Tools.{if_then_else_, neg, eqZ, within}
 use Rattle.definitions.specs.Result.{Result, done, refused}
 use Rattle.definitions.specs.Result as result
-use Rattle.definitions.specs.Reading.{Got, big, signed}
-use Rattle.definitions.specs.declared.Refusal.{Refusal}
+use Rattle.definitions.specs.Reading.{Got, big, unsigned, signed}
+use Rattle.reader.specs.declared.Why.{Why}
 use Rattle.fields.proofs.Laws.{unsigned-got}
-use Rattle.definitions.specs.Answers.{said}
+use Rattle.reader.specs.Said.{number}
 use Rattle.reader.specs.Parts.{numberFrom, wholeFrom, coefficient}
 use Rattle.reader.proofs.Steps.{asked-got}
 
@@ -30,15 +30,15 @@ module _ {A : Type 0} where
 
 -- ---- the definitions' fields
 module _ (s : List ℕ) (at : ℕ) where
-  pub coefficient-is : coefficient s at ≡ result._>>=_ (wholeFrom (Refusal.TermWrong at) (neg 64) (pos 64) 1 s at) (λ g. if not (eqZ (g .value) (pos 0)) then done g else refused 7 at)
+  pub coefficient-is : coefficient s at ≡ result._>>=_ (wholeFrom Why.Term (neg 64) (pos 64) 1 s at) (λ g. if not (eqZ (g .value) (pos 0)) then done g else refused 7 at)
   unfolding coefficient wholeFrom
   coefficient-is = asked-and 7 at (within (neg 64) (pos 64)) (λ a. not (eqZ a (pos 0))) (signed 1 s at)
 
 -- ---- what was read where a field is in its range
-pub number-got : (wrong : Refusal) (least most n : ℕ) (s : List ℕ) (at : ℕ) {g : Got ℕ} → numberFrom wrong least most n s at ≡ done g
+pub number-got : (why : Why) (least most n : ℕ) (s : List ℕ) (at : ℕ) {g : Got ℕ} → numberFrom why least most n s at ≡ done g
     → (g ≡ record { value = big s at n; next = at + n }) × (at + n ≤ length s)
 unfolding numberFrom
-number-got wrong least most n s at e = unsigned-got n s at (asked-got (said wrong .0) (said wrong .1) (λ v. leb least v && leb v most) e)
+number-got why least most n s at e = unsigned-got n s at (asked-got (number why) at (λ v. leb least v && leb v most) (unsigned n s at) e)
 
 pub not-zero : (z : ℤ) → (z ≡ pos 0 → ⊥) → eqZ z (pos 0) ≡ false
 not-zero (pos zero) h = absurd (h refl)

@@ -10,11 +10,11 @@ use Rattle.definitions.specs.Board.{isTrue, isFalse, atMost}
 use Rattle.definitions.specs.Result.{Result, done, refused}
 use Rattle.definitions.specs.Result as result
 use Rattle.definitions.specs.Reading.{Got, Context, mapped, unsigned, boolean, readComparison, ofKind, readLiteral}
-use Rattle.definitions.specs.declared.Refusal.{Refusal}
+use Rattle.reader.specs.declared.Why.{Why}
 use Rattle.reader.specs.Parts.{numberFrom}
 
 module _ (ctx : Context) (s : List ℕ) (at : ℕ) where
-  pub literal-is : readLiteral ctx s at ≡ result._>>=_ (numberFrom (Refusal.LiteralWrong at) 0 2 1 s at) (λ g. ofKind ctx (g .value) s (g .next))
+  pub literal-is : readLiteral ctx s at ≡ result._>>=_ (numberFrom Why.Literal 0 2 1 s at) (λ g. ofKind ctx (g .value) s (g .next))
   unfolding readLiteral numberFrom
   literal-is = go (unsigned 1 s at)
     where

@@ -2,11 +2,12 @@
 use mathlib.Core.Path.{_≡_, refl, sym, _∙_}
 use mathlib.Core.Bool.{Bool, true, false}
 use Prim.Native.Nat.{ℕ}
+use lib.Dec.{T}
 use Rattle.definitions.specs.Tools.{if_then_else_}
 use Rattle.definitions.specs.Result.{Result, done, refused}
 use Rattle.definitions.specs.Result as result
 use Rattle.definitions.specs.Reading.{Got}
-use Rattle.laws.specs.Readings.{never}
+use Rattle.laws.specs.Readings.{same, never}
 use Rattle.reader.specs.Parts.{past}
 
 -- the first of two was done, and the second
@@ -40,16 +41,25 @@ module _ {A : Type 0} where
   past-refused (done g) e = never (sym e)
   past-refused (refused n d) e = cc
 
-  -- a test that holds changes nothing
-  pub asked-got : (why at : ℕ) (good : A → Bool) {m : Result (Got A)} {g : Got A} → result._>>=_ m (λ g. if good (g .value) then done g else refused why at) ≡ done g → m ≡ done g
-  asked-got why at good {m} {g} e = go (good (p .got .value)) (p .rest)
-    where
-      p : Passed m (λ g. if good (g .value) then done g else refused why at) g
-      p = passed m _ e
+  module _ (why at : ℕ) (good : A → Bool) (m : Result (Got A)) {g : Got A} (e : result._>>=_ m (λ g. if good (g .value) then done g else refused why at) ≡ done g) where
+    tested : Passed m (λ g. if good (g .value) then done g else refused why at) g
+    tested = passed m _ e
 
-      go : (t : Bool) → (if t then done (p .got) else refused why at) ≡ done g → m ≡ done g
-      go true d = p .read ∙ d
-      go false d = never d
+    -- a test that holds changes nothing
+    pub asked-got : m ≡ done g
+    asked-got = go (good (tested .got .value)) (tested .rest)
+      where
+        go : (t : Bool) → (if t then done (tested .got) else refused why at) ≡ done g → m ≡ done g
+        go true d = tested .read ∙ d
+        go false d = never d
+
+    -- and what is read has passed it
+    pub asked-good : T (good (g .value))
+    asked-good = go (good (tested .got .value)) refl (tested .rest)
+      where
+        go : (t : Bool) → good (tested .got .value) ≡ t → (if t then done (tested .got) else refused why at) ≡ done g → T (good (g .value))
+        go true h d = rw (← same d, h) tt
+        go false h d = never d
 
 -- ---- of what is read, only the place after it
 -- what is made of a value does not matter

@@ -13,8 +13,8 @@ use Rattle.definitions.specs.Tools.{any, neg, eqZ, within}
 use Rattle.definitions.specs.Board.{Term}
 use Rattle.definitions.specs.Result.{Result, done, refused}
 use Rattle.definitions.specs.Result as result
-use Rattle.definitions.specs.Reading.{Got, Context, big, twos, count, readTerms, readComparison}
-use Rattle.definitions.specs.declared.Refusal.{Refusal}
+use Rattle.definitions.specs.Reading.{Got, Context, big, twos, unsigned, signed, count, readTerms, readComparison}
+use Rattle.reader.specs.declared.Why.{Why}
 use Rattle.laws.specs.Readings.{same}
 use Rattle.fields.proofs.Laws.{unsigned-got, signed-got}
 use Rattle.reader.specs.Parts.{past, numberFrom, coefficient, variable, readTerm, constant}
@@ -37,11 +37,11 @@ module _ (s : List ℕ) (first x : ℕ) where
 -- ---- one term
 coefficient-got : (s : List ℕ) (at : ℕ) {g : Got ℤ} → coefficient s at ≡ done g → (g ≡ record { value = twos 1 (big s at 1); next = at + 1 }) × (at + 1 ≤ length s)
 unfolding coefficient
-coefficient-got s at e = signed-got 1 s at (asked-got 7 at (λ a. within (neg 64) (pos 64) a && not (eqZ a (pos 0))) e)
+coefficient-got s at e = signed-got 1 s at (asked-got 7 at (λ a. within (neg 64) (pos 64) a && not (eqZ a (pos 0))) (signed 1 s at) e)
 
 variable-got : (ctx : Context) (seen : List ℕ) (s : List ℕ) (at : ℕ) {g : Got ℕ} → variable ctx seen s at ≡ done g → (g ≡ record { value = big s at 2; next = at + 2 }) × (at + 2 ≤ length s)
 unfolding variable
-variable-got ctx seen s at e = unsigned-got 2 s at (asked-got 7 at (λ x. ltb x (ctx .ints)) (asked-got 7 at (λ x. not (any (eqb x) seen)) e))
+variable-got ctx seen s at e = unsigned-got 2 s at (asked-got 7 at (λ x. ltb x (ctx .ints)) (unsigned 2 s at) (asked-got 7 at (λ x. not (any (eqb x) seen)) _ e))
 
 module _ (ctx : Context) (seen : List ℕ) (s : List ℕ) (at : ℕ) where
   pub term-past : past (readTerm ctx seen s at) ≡ result._>>=_ (past (coefficient s at)) (λ p. past (variable ctx seen s p))
@@ -124,7 +124,7 @@ module _ (ctx : Context) (s : List ℕ) (first : ℕ) where
     passing-all {i} h o = let e : n - i ≡ 0 = omega arith in rw (← o .others, e)
 
 -- ---- the comparison: a count, terms that are passed, a constant
-module _ (ctx : Context) (s : List ℕ) (at : ℕ) {n first : ℕ} (counted : numberFrom (Refusal.CountWrong at) 1 3 1 s at ≡ done (record { value = n; next = first })) where
+module _ (ctx : Context) (s : List ℕ) (at : ℕ) {n first : ℕ} (counted : numberFrom Why.Count 1 3 1 s at ≡ done (record { value = n; next = first })) where
   pub terms-refused : {why d : ℕ} → past (readTerms ctx [] n s first) ≡ refused why d → readComparison ctx s at ≡ refused why d
   unfolding readComparison count numberFrom
   terms-refused e = rw (counted, past-refused (readTerms ctx [] n s first) e)

@@ -1,25 +1,22 @@
 -- The definitions' readers in the parts that the code has: fields with a range, and a term. Laws.antt puts them together again.
-use Rattle.definitions.specs.Tools.{ℕ, ℤ, pos, not, _&&_, List, leb, ltb, eqb, any, neg, eqZ, within, if_then_else_}
+use Rattle.definitions.specs.Tools.{ℕ, ℤ, pos, not, _&&_, List, leb, ltb, eqb, any, neg, eqZ, within}
 use Rattle.definitions.specs.Board.{Term}
 use Rattle.definitions.specs.Result.{Result, done, refused}
-use Rattle.definitions.specs.Result as result
 use Rattle.definitions.specs.Reading.{Got, Reader, Context, asked, _>>=_, give, unsigned, signed}
-use Rattle.definitions.specs.declared.Refusal.{Refusal}
-use Rattle.reader.specs.Said.{refusal}
+use Rattle.reader.specs.declared.Why.{Why}
+use Rattle.reader.specs.Said.{number}
 
 -- of what is read, only the place after it
 abbrev pub past : {A : Type 0} → Result (Got A) → Result ℕ
 past (done g) = done (g .next)
 past (refused n d) = refused n d
 
--- fields with a range; `wrong` is the refusal of a value outside it
-unfoldable pub numberFrom : Refusal → ℕ → ℕ → ℕ → Reader ℕ
-numberFrom wrong least most n s at =
-    result._>>=_ (unsigned n s at) λ g. if leb least (g .value) && leb (g .value) most then done g else refusal wrong
+-- fields with a range; `why` is what a value outside it is refused for
+unfoldable pub numberFrom : Why → ℕ → ℕ → ℕ → Reader ℕ
+numberFrom why least most n = asked (number why) (λ v. leb least v && leb v most) (unsigned n)
 
-unfoldable pub wholeFrom : Refusal → ℤ → ℤ → ℕ → Reader ℤ
-wholeFrom wrong least most n s at =
-    result._>>=_ (signed n s at) λ g. if within least most (g .value) then done g else refusal wrong
+unfoldable pub wholeFrom : Why → ℤ → ℤ → ℕ → Reader ℤ
+wholeFrom why least most n = asked (number why) (within least most) (signed n)
 
 -- a term; seen: the variables of the terms before
 unfoldable pub coefficient : Reader ℤ

@@ -3,8 +3,8 @@ use Rattle.definitions.specs.Tools.{_≡_, ℕ, ℤ, List}
 use Rattle.definitions.specs.Board.{Literal, isTrue, isFalse, atMost}
 use Rattle.definitions.specs.Result.{Result, done, refused}
 use Rattle.definitions.specs.Reading.{Got, Context}
-use Rattle.definitions.specs.Answers.{said}
-use Rattle.definitions.specs.declared.Refusal.{Refusal}
+use Rattle.reader.specs.declared.Why.{Why}
+use Rattle.reader.specs.declared.Fault.{Fault}
 use Rattle.reader.specs.declared.Number.{Number}
 use Rattle.reader.specs.declared.Whole.{Whole}
 use Rattle.reader.specs.declared.Step.{Step}
@@ -16,20 +16,28 @@ use Rattle.laws.specs.Reread.{comparisonAt}
 abbrev pub contextOf : known.Context → Context
 contextOf k = record { version = k .version; ints = k .ints; bools = k .bools }
 
-abbrev pub refusal : {A : Type 0} → Refusal → Result A
-refusal r = refused (said r .0) (said r .1)
+-- 01's number
+abbrev pub number : Why → ℕ
+number Why.Count = 4
+number Why.Bound = 5
+number Why.Literal = 6
+number Why.Term = 7
+number Why.End = 8
+
+abbrev pub fault : {A : Type 0} → Fault → Result A
+fault f = refused (number (f .why)) (f .place)
 
 abbrev pub saidNumber : Number → Result (Got ℕ)
 saidNumber (Number.Value value next) = done (record { value = value; next = next })
-saidNumber (Number.Refused r) = refusal r
+saidNumber (Number.Refused f) = fault f
 
 abbrev pub saidWhole : Whole → Result (Got ℤ)
 saidWhole (Whole.Value value next) = done (record { value = value; next = next })
-saidWhole (Whole.Refused r) = refusal r
+saidWhole (Whole.Refused f) = fault f
 
 abbrev pub saidStep : Step → Result ℕ
 saidStep (Step.Next place) = done place
-saidStep (Step.Refused r) = refusal r
+saidStep (Step.Refused f) = fault f
 
 -- rules: the bytes in which a comparison's place stands
 abbrev pub literalOf : List ℕ → code.Literal → Literal
@@ -42,8 +50,8 @@ abbrev pub Placed : ℕ → LiteralRead → Type 0
 Placed at (LiteralRead.Got (code.Literal.Comparison place constant) next) = place ≡ at
 Placed at (LiteralRead.Got (code.Literal.Boolean b) next) = Unit {0}
 Placed at (LiteralRead.Got (code.Literal.Negated b) next) = Unit {0}
-Placed at (LiteralRead.Refused r) = Unit {0}
+Placed at (LiteralRead.Refused f) = Unit {0}
 
 abbrev pub saidLiteral : List ℕ → LiteralRead → Result (Got Literal)
 saidLiteral rules (LiteralRead.Got l next) = done (record { value = literalOf rules l; next = next })
-saidLiteral rules (LiteralRead.Refused r) = refusal r
+saidLiteral rules (LiteralRead.Refused f) = fault f

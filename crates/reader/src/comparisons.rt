@@ -9,30 +9,34 @@ ghost use Rattle.reader.specs.Said.{contextOf, saidWhole, saidStep, said
 ghost use Rattle.reader.specs.Parts.{past, coefficient, variable, readTerm, constant};
 ghost use Rattle.reader.specs.Seen.{seenAt};
 use super::Context;
+use super::Fault;
 use super::Literal;
 use super::LiteralRead;
 use super::Number;
 use super::Step;
 use super::Whole;
+use super::Why;
 use super::checks::number_at;
 use super::checks::whole_at;
-use definitions::Refusal;
+use super::faults::of_number;
+use super::faults::of_step;
+use super::faults::of_whole;
 use fields::Unsigned;
 
 fn past_coefficient(rules: &[u8], at: usize) -> Step
     ensures { λ r. ⌜ saidStep r ≡ past (coefficient (now (rules .entry)) at) ⌝ }
 {
-    let wrong = Refusal::TermWrong { place: at };
-    match whole_at(rules, at, 1, -64, 64, wrong) {
-        Whole::Value { value, next } => {
-            if value == 0 {
-                Step::Refused(wrong)
-            } else {
-                Step::Next(next)
-            }
-        }
-        Whole::Refused(r) => Step::Refused(r),
+    let read = whole_at(rules, at, 1, -64, 64, Why::Term);
+    let Whole::Value { value, next } = read else {
+        return Step::Refused(of_whole(read));
+    };
+    if value == 0 {
+        return Step::Refused(Fault {
+            why: Why::Term,
+            place: at,
+        });
     }
+    Step::Next(next)
 }
 
 // Whether one of the first n terms has the variable.
@@ -55,13 +59,20 @@ fn past_variable(rules: &[u8], known: Context, first: usize, n: usize, at: usize
     ensures { λ r. ⌜ saidStep r ≡ past (variable (contextOf known) (seenAt (now (rules .entry)) first n) (now (rules .entry)) at) ⌝ }
 {
     let Unsigned::Value { value, next } = fields::unsigned_at(rules, at, 2) else {
-        return Step::Refused(Refusal::EndWrong { place: at });
+        return Step::Refused(Fault {
+            why: Why::End,
+            place: at,
+        });
+    };
+    let wrong = Fault {
+        why: Why::Term,
+        place: at,
     };
     if known.ints <= value {
-        return Step::Refused(Refusal::TermWrong { place: at });
+        return Step::Refused(wrong);
     }
     if is_repeated(rules, first, n, value) {
-        return Step::Refused(Refusal::TermWrong { place: at });
+        return Step::Refused(wrong);
     }
     Step::Next(next)
 }
@@ -98,28 +109,30 @@ fn past_terms(rules: &[u8], known: Context, first: usize, n: usize) -> Step
 fn constant_at(rules: &[u8], at: usize) -> Whole
     ensures { λ r. ⌜ saidWhole r ≡ constant (now (rules .entry)) at ⌝ }
 {
-    let wrong = Refusal::TermWrong { place: at };
-    whole_at(rules, at, 4, -1000000, 1000000, wrong)
+    whole_at(rules, at, 4, -1000000, 1000000, Why::Term)
 }
 
 // The terms one after another, then the constant.
-pub fn comparison_at(rules: &[u8], known: Context, at: usize) -> LiteralRead
-    ensures { λ r. ⌜ (saidLiteral (now (rules .entry)) r ≡ mapped atMost (readComparison (contextOf known)) (now (rules .entry)) at) × Placed at r ⌝ }
+pub fn comparison_at(rules: &[u8], known: Context, place: usize) -> LiteralRead
+    ensures { λ r. ⌜ (saidLiteral (now (rules .entry)) r ≡ mapped atMost (readComparison (contextOf known)) (now (rules .entry)) place) × Placed place r ⌝ }
 {
-    match number_at(rules, at, 1, 1, 3, Refusal::CountWrong { place: at }) {
-        Number::Value { value, next } => match past_terms(rules, known, next, value as usize) {
-            Step::Next(place) => match constant_at(rules, place) {
-                Whole::Value { value, next } => LiteralRead::Got(
-                    Literal::Comparison {
-                        place: at,
-                        constant: value,
-                    },
-                    next,
-                ),
-                Whole::Refused(r) => LiteralRead::Refused(r),
-            },
-            Step::Refused(r) => LiteralRead::Refused(r),
+    let count = number_at(rules, place, 1, 1, 3, Why::Count);
+    let Number::Value { value: n, next } = count else {
+        return LiteralRead::Refused(of_number(count));
+    };
+    let terms = past_terms(rules, known, next, n as usize);
+    let Step::Next(end) = terms else {
+        return LiteralRead::Refused(of_step(terms));
+    };
+    let last = constant_at(rules, end);
+    let Whole::Value { value, next } = last else {
+        return LiteralRead::Refused(of_whole(last));
+    };
+    LiteralRead::Got(
+        Literal::Comparison {
+            place,
+            constant: value,
         },
-        Number::Refused(r) => LiteralRead::Refused(r),
-    }
+        next,
+    )
 }

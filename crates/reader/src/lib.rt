@@ -1,6 +1,6 @@
 // From the bytes of the rules to literals and clauses, with 01's refusals 4, 6, 7 and 8. specs/Said.antt gives the definitions' result for each answer.
-use definitions::Refusal;
 
+pub mod faults; // faults.rt: why a reading was refused
 pub mod checks; // checks.rt: fields whose value has a range
 pub mod comparisons; // comparisons.rt: terms and constant
 pub mod clauses; // clauses.rt: literals and clauses
@@ -12,15 +12,30 @@ pub struct Context {
     pub bools: u32,
 }
 
+// What a field is refused for: 01's numbers 4 to 8.
+pub enum Why {
+    Count,
+    Bound,
+    Literal,
+    Term,
+    End,
+}
+
+// Why, and the place of the field's first byte.
+pub struct Fault {
+    pub why: Why,
+    pub place: usize,
+}
+
 // A field's value and the place after it.
 pub enum Number {
     Value { value: u32, next: usize },
-    Refused(Refusal),
+    Refused(Fault),
 }
 
 pub enum Whole {
     Value { value: i32, next: usize },
-    Refused(Refusal),
+    Refused(Fault),
 }
 
 // A comparison is known by the place of its term count, and its constant.
@@ -33,11 +48,11 @@ pub enum Literal {
 // A literal and the place after it.
 pub enum LiteralRead {
     Got(Literal, usize),
-    Refused(Refusal),
+    Refused(Fault),
 }
 
 // Of a part that is only tested: the place after it.
 pub enum Step {
     Next(usize),
-    Refused(Refusal),
+    Refused(Fault),
 }

@@ -8,6 +8,7 @@ use lib.IntN.{ℤ}
 use Rattle.definitions.specs.Result.{done}
 use Rattle.definitions.specs.Reading.{Context, times, big, readLiteral}
 use Rattle.definitions.specs.Encoding.{selector, minus}
+use Rattle.laws.specs.Limits.{selectorsLimit}
 use Rattle.laws.specs.Admitted.{GoodComparison}
 use Rattle.laws.specs.Reread.{comparisonAt}
 use Rattle.laws.specs.Pieces.{Piece, line, under, lineFrom}
@@ -58,7 +59,7 @@ module _ (ctx : Context) (t : List ℕ) where
   -- all that is coming can be read, and selectors stay few
   pub record Sound (c : Cursor) : Type 0 where
     pub readable : Readable ctx t (c .literals) (c .clauses) (c .place)
-    pub few : c .selector + c .literals + 64 * c .clauses ≤ 300000
+    pub few : c .selector + c .literals + 64 * c .clauses ≤ selectorsLimit
     pub short : c .literals ≤ 64
 
   -- what falls with each step
@@ -70,6 +71,6 @@ module _ (ctx : Context) (t : List ℕ) where
     pub less : todo c′ < todo c
 
   unfoldable pub Went : Cursor → Stepped → Type 0
-  Went c (Stepped.Met p c′) = (comingAt c ≡ saidPiece p ∷ comingAt c′) × Held p × Onward c c′ × (selectorsTo p ≤ 300000)
+  Went c (Stepped.Met p c′) = (comingAt c ≡ saidPiece p ∷ comingAt c′) × Held p × Onward c c′ × (selectorsTo p ≤ selectorsLimit)
   Went c (Stepped.Passed c′) = (comingAt c ≡ comingAt c′) × Onward c c′
   Went c Stepped.End = comingAt c ≡ []

@@ -8,7 +8,7 @@ use lib.Seq.{take-all}
 use Rattle.definitions.specs.Tools.{sum}
 use Rattle.definitions.specs.Board.{Board, Bounds, boundsOf}
 use Rattle.definitions.specs.Encoding.{width, first, N, M, K}
-use Rattle.laws.specs.Admitted.{Admitted}
+use Rattle.laws.specs.Reread.{Recorded}
 use Rattle.laws.specs.Pieces.{piecesFrom}
 use Rattle.laws.specs.Written.{rest}
 use Rattle.laws.specs.Sizes.{N-sum, M-sum, K-sum}
@@ -36,7 +36,7 @@ places-sum : (bs : List Bounds) → sum (map (λ b. 3 * width b + 1) bs) ≡ 3 *
 places-sum [] = refl
 places-sum (b ∷ bs) = omega (arith, places-sum bs)
 
-module _ (B : Board) (g : Admitted B) (h : Header) (e : h ≡ headerOf B) (r : Share) (a : Adding (boundsOf B) (piecesFrom 0 (B .clauses)) [] r) (f : ℕ) (k : f ≡ first B (h .ints)) where
+module _ (B : Board) (g : Recorded B) (h : Header) (e : h ≡ headerOf B) (r : Share) (a : Adding (boundsOf B) (piecesFrom 0 (B .clauses)) [] r) (f : ℕ) (k : f ≡ first B (h .ints)) where
   abbrev widths : ℕ
   widths = sum (map width (B .bounds))
 
@@ -48,16 +48,16 @@ module _ (B : Board) (g : Admitted B) (h : Header) (e : h ≡ headerOf B) (r : S
   n-is = omega (arith, first-is, ap (λ z. z .bools) e, a .selectors, N-sum B)
 
   pub n-fits : f - 1 + r .selectors < 2 ^ 63
-  n-fits = omega (arith, n-is, N-fits B g)
+  n-fits = omega (arith, n-is, N-fits B (g .admitted))
 
   m-is : f - 1 - h .bools + h .ints + r .clauses ≡ M B
-  m-is = omega (arith, first-is, ap (λ z. z .ints) e, a .clauses, counts-sum (B .bounds), M-sum B (g .bounds))
+  m-is = omega (arith, first-is, ap (λ z. z .ints) e, a .clauses, counts-sum (B .bounds), M-sum B (g .admitted .bounds))
 
   pub m-fits : f - 1 - h .bools + h .ints + r .clauses < 2 ^ 63
   m-fits = omega (arith, m-is, M-fits B g)
 
   k-is : 3 * (f - 1 - h .bools) + h .ints + r .places ≡ K B
-  k-is = omega (arith, first-is, ap (λ z. z .ints) e, a .places, places-sum (B .bounds), K-sum B (g .bounds))
+  k-is = omega (arith, first-is, ap (λ z. z .ints) e, a .places, places-sum (B .bounds), K-sum B (g .admitted .bounds))
 
   pub k-fits : 3 * (f - 1 - h .bools) + h .ints + r .places < 2 ^ 63
   k-fits = omega (arith, k-is, K-fits B g)

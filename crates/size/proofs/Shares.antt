@@ -18,7 +18,7 @@ use Rattle.laws.specs.Whole.{le-test, gt-test}
 use Rattle.laws.specs.Admitted.{Admitted, GoodComparison}
 use Rattle.laws.specs.Grammar.{finds}
 use Rattle.laws.specs.Reread as reread
-use Rattle.laws.specs.Reread.{BoardRead, tableEnd}
+use Rattle.laws.specs.Reread.{BoardRead, Recorded, tableEnd}
 use Rattle.laws.specs.Pieces.{Piece, line, lineFrom, line-length, piecesFrom, left, left-start}
 use Rattle.laws.specs.Ahead.{gotten, length-times, literalsAt, clausesAt, coming}
 use Rattle.laws.specs.Sizes.{pieceCount, piecePlaces, pieceSelectors, N-sum, M-sum, K-sum}
@@ -111,16 +111,16 @@ module _ (of : ℕ → board.Bounds) (all ps : List Piece) (total : Share) where
         selectors = omega (arith, a .selectors, s .selectors);
       }
 
-module _ (B : Board) (g : Admitted B) (p : Piece) (ps : List Piece) (total : Share) (a : Adding (boundsOf B) (piecesFrom 0 (B .clauses)) (p ∷ ps) total) where
+module _ (B : Board) (g : Recorded B) (p : Piece) (ps : List Piece) (total : Share) (a : Adding (boundsOf B) (piecesFrom 0 (B .clauses)) (p ∷ ps) total) where
   pub next-fits : piecePlaces (boundsOf B) p < 2 ^ 63
-  next-fits = omega (arith, a .places, K-sum B (g .bounds), K-fits B g)
+  next-fits = omega (arith, a .places, K-sum B (g .admitted .bounds), K-fits B g)
 
   pub plus-fits : (r : Share) → ShareOf (boundsOf B) p r → Fit (plus total r)
   plus-fits r s =
       record {
-        clauses = omega (arith, a .clauses, s .clauses, M-sum B (g .bounds), M-fits B g);
-        places = omega (arith, a .places, s .places, K-sum B (g .bounds), K-fits B g);
-        selectors = omega (arith, a .selectors, s .selectors, N-sum B, N-fits B g);
+        clauses = omega (arith, a .clauses, s .clauses, M-sum B (g .admitted .bounds), M-fits B g);
+        places = omega (arith, a .places, s .places, K-sum B (g .admitted .bounds), K-fits B g);
+        selectors = omega (arith, a .selectors, s .selectors, N-sum B, N-fits B (g .admitted));
       }
 
 -- ---- where a pass over the rules starts

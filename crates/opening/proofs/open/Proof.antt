@@ -1,57 +1,118 @@
--- The envelope, the counts and the rest, each where the one before it ends.
+-- Each check in 01's order, then the header.
 use borrow.Author.Needs.{needs}
+use mathlib.Core.Path.{sym, _∙_}
+use native.Mathlib.Omega.{arith}
+use borrow.Author.Tests.{lt-leb}
+use Rattle.definitions.specs.Operations.{readBoard}
+use Rattle.fields.specs.Said.{saidUnsigned}
 use Rattle.fields.proofs.Laws.{told}
-use Rattle.reader.specs.Said.{saidNumber}
-use Rattle.opening.specs.Said.{saidCounts}
-use Rattle.opening.proofs.Opened.{counts-inside, board-is}
+use Rattle.opening.specs.Said.{saidHeader}
+use Rattle.opening.proofs.Opened.{no-version, no-length, begins, version-wrong, length-wrong, board-is}
 use Rattle.opening.proofs.open.Statement.{statement}
 use Rattle.opening.proofs.open.Tie as tie
 
-envelope-of-requires : tie.Need-envelope-of-requires
-envelope-of-requires c κs = search needs
-
-enum-known-version : tie.Need-enum-known-version
-enum-known-version c = search needs
-
-counts-at-requires : tie.Need-counts-at-requires
-counts-at-requires c κs = search needs
-
-enum-known-counts : tie.Need-enum-known-counts
-enum-known-counts c = search needs
-
-body-at-requires : tie.Need-body-at-requires
-body-at-requires c κs =
-    counts-inside _ _ (told saidCounts (c .before .before .before .counts-at .ensures) (c .before .counts .given .1))
-
-enum-known-r : tie.Need-enum-known-r
-enum-known-r c = search needs
-
-enum-known-r-2 : tie.Need-enum-known-r-2
-enum-known-r-2 c = search needs
-
 returns : tie.Need-returns
-returns c =
-    rw (board-is, told saidNumber (c .before .before .before .before .before .before .before .before .envelope-of .ensures) (c .before .before .before .before .before .before .version .given .1), told saidCounts (c .before .before .before .before .counts-at .ensures) (c .before .before .counts .given .1)) (c .body-at .ensures)
+unfolding readBoard
+returns c = rw (lt-leb _ _ (c .if1 .taken))
+
+unsigned-at-requires : tie.Need-unsigned-at-requires
+unsigned-at-requires c κs = search needs
+
+enum-known-value : tie.Need-enum-known-value
+enum-known-value c = search needs
+
+enum-told : tie.Need-enum-told
+enum-told c = search needs
 
 returns-2 : tie.Need-returns-2
 returns-2 c =
-    rw (board-is, told saidNumber (c .before .before .before .before .before .before .before .envelope-of .ensures) (c .before .before .before .before .before .version .given .1), told saidCounts (c .before .before .before .counts-at .ensures) (c .before .r .given .1))
+    sym (no-version _ (c .before .before .before .if1 .left) (told (saidUnsigned 0) (c .before .before .unsigned-at .ensures) (c .enum-told .given .1)))
+
+unsigned-at-requires-2 : tie.Need-unsigned-at-requires-2
+unsigned-at-requires-2 c κs = search needs
+
+enum-known-value-2 : tie.Need-enum-known-value-2
+enum-known-value-2 c = search needs
+
+enum-told-2 : tie.Need-enum-told-2
+enum-told-2 c = search needs
 
 returns-3 : tie.Need-returns-3
 returns-3 c =
-    rw (board-is, told saidNumber (c .before .before .before .envelope-of .ensures) (c .before .r2 .given .1))
+    let v = told (saidUnsigned 0) (c .before .before .before .before .before .before .unsigned-at .ensures) (c .before .before .before .before .value .given .1) in
+    sym (no-length _ (c .before .before .before .before .before .before .before .if1 .left) v (told (saidUnsigned _) (c .before .before .unsigned-at2 .ensures) (c .enum-told2 .given .1)))
+
+cast-stated : tie.Need-cast-stated
+cast-stated c = search needs
+
+returns-4 : tie.Need-returns-4
+returns-4 c =
+    let v = told (saidUnsigned 0) (c .before .before .before .before .before .before .before .before .unsigned-at .ensures) (c .before .before .before .before .before .before .value .given .1) in
+    let l = told (saidUnsigned _) (c .before .before .before .before .unsigned-at2 .ensures) (c .before .before .value2 .given .1) in
+    sym (version-wrong _ (c .before .before .before .before .before .before .before .before .before .if1 .left) v l (c .if2 .taken))
+
+sub-if3 : tie.Need-sub-if3
+sub-if3 c =
+    let v = told (saidUnsigned 0) (c .before .before .before .before .before .before .before .before .unsigned-at .ensures) (c .before .before .before .before .before .before .value .given .1) in
+    let l = told (saidUnsigned _) (c .before .before .before .before .unsigned-at2 .ensures) (c .before .before .value2 .given .1) in
+    omega (arith, begins _ (c .before .before .before .before .before .before .before .before .before .if1 .left) v l)
+
+returns-5 : tie.Need-returns-5
+returns-5 c =
+    let v = told (saidUnsigned 0) (c .before .before .before .before .before .before .before .before .before .unsigned-at .ensures) (c .before .before .before .before .before .before .before .value .given .1) in
+    let l = told (saidUnsigned _) (c .before .before .before .before .before .unsigned-at2 .ensures) (c .before .before .before .value2 .given .1) in
+    sym (length-wrong _ (c .before .before .before .before .before .before .before .before .before .before .if1 .left) v l (c .before .if2 .left) (c .if3 .taken))
+
+header-at-requires : tie.Need-header-at-requires
+header-at-requires c κs = search needs
+
+enum-known-read : tie.Need-enum-known-read
+enum-known-read c = search needs
+
+enum-told-3 : tie.Need-enum-told-3
+enum-told-3 c = search needs
+
+of-header-requires : tie.Need-of-header-requires
+of-header-requires c κs = search needs
+
+refusal-of-requires : tie.Need-refusal-of-requires
+refusal-of-requires c κs = search needs
+
+returns-6 : tie.Need-returns-6
+returns-6 c =
+    let v = told (saidUnsigned 0) (c .before .before .before .before .before .before .before .before .before .before .before .before .before .before .unsigned-at .ensures) (c .before .before .before .before .before .before .before .before .before .before .before .before .value .given .1) in
+    let l = told (saidUnsigned _) (c .before .before .before .before .before .before .before .before .before .before .unsigned-at2 .ensures) (c .before .before .before .before .before .before .before .before .value2 .given .1) in
+    let b = board-is _ (c .before .before .before .before .before .before .before .before .before .before .before .before .before .before .before .if1 .left) v l (c .before .before .before .before .before .before .if2 .left) (c .before .before .before .before .before .if3 .left) in
+    rw (c .refusal-of .ensures) (sym (b ∙ told saidHeader (c .before .before .before .before .header-at .ensures) (c .before .of-header .ensures)))
+
+returns-7 : tie.Need-returns-7
+returns-7 c =
+    let v = told (saidUnsigned 0) (c .before .before .before .before .before .before .before .before .before .before .before .before .before .unsigned-at .ensures) (c .before .before .before .before .before .before .before .before .before .before .before .value .given .1) in
+    let l = told (saidUnsigned _) (c .before .before .before .before .before .before .before .before .before .unsigned-at2 .ensures) (c .before .before .before .before .before .before .before .value2 .given .1) in
+    let b = board-is _ (c .before .before .before .before .before .before .before .before .before .before .before .before .before .before .if1 .left) v l (c .before .before .before .before .before .if2 .left) (c .before .before .before .before .if3 .left) in
+    sym (b ∙ told saidHeader (c .before .before .before .header-at .ensures) (c .before .read .given .1))
 
 pub open-spec : {M : Type 1} → statement M
 open-spec =
     tie.close
     (tie.spec
-    envelope-of-requires
-    enum-known-version
-    counts-at-requires
-    enum-known-counts
-    body-at-requires
-    enum-known-r
-    enum-known-r-2
     returns
+    unsigned-at-requires
+    enum-known-value
+    enum-told
     returns-2
-    returns-3)
+    unsigned-at-requires-2
+    enum-known-value-2
+    enum-told-2
+    returns-3
+    cast-stated
+    returns-4
+    sub-if3
+    returns-5
+    header-at-requires
+    enum-known-read
+    enum-told-3
+    of-header-requires
+    refusal-of-requires
+    returns-6
+    returns-7)

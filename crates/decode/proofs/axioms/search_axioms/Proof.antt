@@ -12,7 +12,7 @@ use Rattle.definitions.specs.Encoding as Encoding
 use Rattle.laws.specs.Boards.{boardOf}
 use Rattle.laws.specs.Axioms.{axiomsFrom, axioms-all, axioms-none}
 use Rattle.slots.specs.Variables.{bounds-same, first-none, first-more}
-use Rattle.opening.specs.Headers.{ints-is, bools-is, counts-small, admitted}
+use Rattle.opening.specs.Headers.{ints-is, bools-is, counts-small, recorded}
 use Rattle.decode.specs.Given.{short, inside, ordered, within}
 use Rattle.decode.specs.Truth.{tests}
 use Rattle.decode.specs.Goes.{Goes, goes-start, goes-end}
@@ -76,7 +76,7 @@ module _ (c : tie.After-width-of Inv-loop μ-loop Inv-search μ-search) where
   onward = omega (arith, first-more (boardOf bytes) x _ known (c .before .bounds-of .ensures), c .width-of .ensures, c .before .before .before .before .search .inv .1)
 
   fit : length (all bytes model) < 9223372036854775808
-  fit = axioms-fit (boardOf bytes) model (admitted (start .pre .opened))
+  fit = axioms-fit (boardOf bytes) model (recorded (start .pre .opened))
 
 add-first : tie.Need-add-first Inv-loop μ-loop Inv-search μ-search
 add-first c = omega (arith, counts-small (c .before .before .before .pre .opened))

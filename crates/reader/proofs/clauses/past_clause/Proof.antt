@@ -9,32 +9,36 @@ use Rattle.reader.proofs.clauses.past_clause.Tie as tie
 literal-count-at-requires : tie.Need-literal-count-at-requires
 literal-count-at-requires c κs = search needs
 
-enum-known-value : tie.Need-enum-known-value
-enum-known-value c = search needs
+enum-known-read : tie.Need-enum-known-read
+enum-known-read c = search needs
 
-past-literals-requires : tie.Need-past-literals-requires
-past-literals-requires c κs = search needs
+enum-told : tie.Need-enum-told
+enum-told c = search needs
 
-enum-known-r : tie.Need-enum-known-r
-enum-known-r c = search needs
+of-number-requires : tie.Need-of-number-requires
+of-number-requires c κs = search needs
 
 returns : tie.Need-returns
 unfolding readClause
 returns c =
-    rw (told saidNumber (c .before .before .before .before .literal-count-at .ensures) (c .before .before .value .given .1)) (c .past-literals .ensures)
+    rw (told saidNumber (c .before .before .before .literal-count-at .ensures) (c .of-number .ensures))
+
+past-literals-requires : tie.Need-past-literals-requires
+past-literals-requires c κs = search needs
 
 returns-2 : tie.Need-returns-2
 unfolding readClause
 returns-2 c =
-    rw (told saidNumber (c .before .before .before .literal-count-at .ensures) (c .before .r .given .1))
+    rw (told saidNumber (c .before .before .before .before .literal-count-at .ensures) (c .before .before .read .given .1)) (c .past-literals .ensures)
 
 pub past-clause-spec : {M : Type 1} → statement M
 past-clause-spec =
     tie.close
     (tie.spec
     literal-count-at-requires
-    enum-known-value
-    past-literals-requires
-    enum-known-r
+    enum-known-read
+    enum-told
+    of-number-requires
     returns
+    past-literals-requires
     returns-2)

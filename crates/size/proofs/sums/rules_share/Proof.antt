@@ -1,7 +1,7 @@
 -- `size::sums::rules_share` meets its contract.
 use borrow.Author.Needs.{needs}
 use Rattle.definitions.specs.Board.{boundsOf}
-use Rattle.laws.specs.Boards.{boardOf, opens-board, opens-admitted}
+use Rattle.laws.specs.Boards.{boardOf, opens-board, opens-admitted, opens-recorded}
 use Rattle.laws.specs.Pieces.{piecesFrom}
 use Rattle.reader.specs.Said.{contextOf}
 use Rattle.rules.specs.Cursors.{Sound, comingAt, todo}
@@ -34,13 +34,13 @@ share-of-requires : tie.Need-share-of-requires Inv-loop μ-loop
 share-of-requires c κs =
     let k = c .before .before .before .before .before .before .before .before .pre .0 in
     let w = meets _ _ _ _ _ _ (c .before .before .before .before .loop .inv .1) _ (k .context) _ _ (rw (c .before .piece .given .1) at (c .before .before .before .step .ensures)) in
-    (k .opens, w .held, next-fits _ (opens-admitted _ (k .opens)) _ _ _ (w .adding))
+    (k .opens, w .held, next-fits _ (opens-recorded _ (k .opens)) _ _ _ (w .adding))
 
 added-requires : tie.Need-added-requires Inv-loop μ-loop
 added-requires c κs =
     let k = c .before .before .before .before .before .before .before .before .before .pre .0 in
     let w = meets _ _ _ _ _ _ (c .before .before .before .before .before .loop .inv .1) _ (k .context) _ _ (rw (c .before .before .piece .given .1) at (c .before .before .before .before .step .ensures)) in
-    plus-fits _ (opens-admitted _ (k .opens)) _ _ _ (w .adding) _ (c .share-of .ensures)
+    plus-fits _ (opens-recorded _ (k .opens)) _ _ _ (w .adding) _ (c .share-of .ensures)
 
 loop-less : tie.Need-loop-less Inv-loop μ-loop
 loop-less c =
