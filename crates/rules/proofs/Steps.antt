@@ -5,8 +5,9 @@ use mathlib.Core.List.{List, [], _∷_, _++_}
 use Prim.Native.Nat.{ℕ, suc, _+_, _-_, _≤_, _<_}
 use native.Mathlib.Numerals.{add-one}
 use native.Mathlib.Omega.{arith}
-use lib.Dec.{leb}
+use lib.Dec.{leb, eqb}
 use borrow.Author.Tests.{leb-true}
+use lib.ListN.{length}
 use lib.IntN.{ℤ}
 use mir.Syntax.{w32}
 use mir.Val.{SFits}
@@ -14,12 +15,12 @@ use Rattle.definitions.specs.Board.{Literal, isTrue, isFalse, atMost}
 use Rattle.definitions.specs.Tools.{if_then_else_}
 use Rattle.definitions.specs.Result.{Result, done, refused}
 use Rattle.definitions.specs.Result as result
-use Rattle.definitions.specs.Reading.{Got, Context, times, unsigned, count, readLiteral}
+use Rattle.definitions.specs.Reading.{Got, Context, big, times, unsigned, count, readLiteral}
 use Rattle.definitions.specs.Encoding.{selector}
 use Rattle.laws.specs.Fits.{good-constant}
 use Rattle.laws.specs.Admitted.{GoodComparison}
 use Rattle.laws.specs.Readings.{times-parts, same}
-use Rattle.laws.specs.Spelling.{Stand, more, natural, comparisonFields}
+use Rattle.laws.specs.Spelling.{Stand, more, natural, comparisonFields, literalFields}
 use Rattle.laws.specs.Grammar.{spelt, found}
 use Rattle.laws.specs.Reads.{reads-comparison, reads-literal}
 use Rattle.laws.specs.Reread.{comparisonAt, ComparisonRead, comparison-read}
@@ -147,13 +148,17 @@ module _ (ctx : Context) (t : List ℕ) where
       let f : c .clauses ≡ 0 = omega arith in
       rw (e, f) (coming-none ctx t (c .led) (c .selector) (c .place))
 
-  -- ---- a clause of one literal
-  module _ (at : ℕ) where
-    pub lone-is : (n : ℕ) (g : Got Literal) → n ≡ 1 → readLiteral ctx t at ≡ done g → lone (literalsAt ctx t n at .value) ≡ lone (g .value ∷ [])
-    lone-is n g o e = ap (λ k. lone (literalsAt ctx t k at .value)) o ∙ ap lone (alone ctx t at g e)
+  -- ---- a clause of one literal: its kind tells
+  told-by-kind : (l : Literal) (at next : ℕ) → Stand t at (literalFields l) next → (at + 1 ≤ length t) × (lone (l ∷ []) ≡ eqb (big t at 1) 2)
+  unfolding lone
+  told-by-kind (isTrue b) at next (more h s f) = (h, rw s)
+  told-by-kind (isFalse b) at next (more h s f) = (h, rw s)
+  told-by-kind (atMost q) at next (more h s f) = (h, rw s)
 
-    pub not-refused : (n : ℕ) → n ≡ 1 → times n (readLiteral ctx) t at ≡ done (literalsAt ctx t n at) → {why d : ℕ} → readLiteral ctx t at ≡ refused why d → ⊥
-    not-refused n o r e =
-        let p = times-parts (readLiteral ctx) t at o r in
-        let q = p .read in
-        let z : _≡_ {A = ℕ} 0 1 = cc in omega arith
+  pub lone-by-kind : (at n : ℕ) → n ≡ 1 → times n (readLiteral ctx) t at ≡ done (literalsAt ctx t n at)
+      → (at + 1 ≤ length t) × (lone (literalsAt ctx t n at .value) ≡ eqb (big t at 1) 2)
+  lone-by-kind at n o r =
+      let p = times-parts (readLiteral ctx) t at o r in
+      let g = p .first in
+      let k = told-by-kind (g .value) at (g .next) (found (reads-literal ctx .told t at (g .value) (g .next) (p .read)) .1) in
+      (k .0, ap (λ k. lone (literalsAt ctx t k at .value)) o ∙ ap lone (alone ctx t at g (p .read)) ∙ k .1)

@@ -7,12 +7,16 @@ ghost use Rattle.definitions.specs.Reading.{times, readLiteral};
 ghost use Rattle.laws.specs.Ahead.{literalsAt};
 ghost use Rattle.laws.specs.Pieces.{lone};
 ghost use Rattle.rules.specs.Cursors.{Sound, Went, atStart, behind, within};
+use fields::plain;
 use reader::Context;
 use reader::Literal;
 use reader::LiteralRead;
 use reader::Number;
 use reader::clauses::literal_at;
 use reader::clauses::literal_count_at;
+
+// The kind of a comparison.
+const COMPARISON: u32 = 2;
 
 // Where a pass stands in the rules, the record's tail.
 pub struct Cursor {
@@ -113,7 +117,7 @@ fn past_literal(rules: &[u8], known: Context, c: Cursor) -> Stepped
     }
 }
 
-// Whether a clause of n literals, which begin at a place, is a comparison alone.
+// Whether a clause of n literals, which begin at a place, is a comparison alone: the first literal's kind tells.
 fn is_lone(rules: &[u8], known: Context, n: usize, at: usize) -> bool
     requires { ⌜ times n (readLiteral (contextOf known)) (now rules) at ≡ done (literalsAt (contextOf known) (now rules) n at) ⌝ }
     ensures { λ r. ⌜ r ≡ lone (literalsAt (contextOf known) (now (rules .entry)) n at .value) ⌝ }
@@ -121,18 +125,7 @@ fn is_lone(rules: &[u8], known: Context, n: usize, at: usize) -> bool
     if n != 1 {
         return false;
     }
-    // never refused: the record was accepted
-    let LiteralRead::Got(literal, _) = literal_at(rules, known, at) else {
-        return false;
-    };
-    match literal {
-        Literal::Comparison {
-            place: _,
-            constant: _,
-        } => true,
-        Literal::Boolean(_) => false,
-        Literal::Negated(_) => false,
-    }
+    plain(rules, at, 1) == COMPARISON
 }
 
 // The cursor before the first literal of the next clause.
