@@ -9,6 +9,10 @@ fn floor_positive(b: i32, a: i32) -> i32
     requires { ⌜ (pos 0 <ℤ a) × (natAbs b ≤ 1000000) ⌝ }
     ensures { λ r. ⌜ r ≡ floor b a ⌝ }
 {
+    // most coefficients are 1 or -1, and a machine's division is slow
+    if a == 1 {
+        return b;
+    }
     if b < 0 {
         return -1 - (-1 - b) / a;
     }

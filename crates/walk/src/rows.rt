@@ -45,6 +45,9 @@ fn until(d: u32, k: u32) -> u32
     requires { ⌜ (0 < d) × (k ≤ 1000000) × (d ≤ 64) ⌝ }
     ensures { λ r. ⌜ Rest d k r ⌝ }
 {
+    if d == 1 {
+        return 0;
+    }
     let m = k % d;
     if m == 0 { 0 } else { d - m }
 }

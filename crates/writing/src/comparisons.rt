@@ -1,11 +1,12 @@
 // A comparison's clauses, each led by the same literal: a negated selector's number, or none (0).
 ghost use mathlib.Core.Path.{_≡_};
-ghost use Prim.Native.Nat.{_≤_};
+ghost use Prim.Native.Nat.{_-_, _≤_};
 ghost use mathlib.Core.List.{_++_, map};
-ghost use lib.ListN.{length};
+ghost use lib.ListN.{length, getD};
+ghost use lib.IntN.{pos};
 ghost use Rattle.laws.specs.Written.{written};
 ghost use Rattle.walk.specs.Comparisons.{FairComparison, Walking, literalsOf, present};
-ghost use Rattle.walk.specs.Rows.{rowOf};
+ghost use Rattle.walk.specs.Rows.{frontOf, rowOf};
 ghost use Rattle.writing.specs.Numbers.{clause, leadOf, led, underLead};
 use crate::rows::put_row;
 use walk::At;
@@ -51,6 +52,17 @@ fn put_tuple(c: Comparison, lead: i32, w: Walk, list: &mut [i32]) -> usize
     at + put_literals(c, w, &mut list[at..])
 }
 
+// The literal of the first of three terms; of two there is none to work out.
+fn front_at(c: Comparison, w: Walk) -> i32
+    requires { ⌜ FairComparison c × Walking c (At.Tuple w) × (2 ≤ c .n) ⌝ }
+    ensures { λ r. ⌜ frontOf (c .n - 2) r ≡ frontOf (c .n - 2) (getD (present c w) 0 (pos 0)) ⌝ }
+{
+    if c.n < 3 {
+        return 0;
+    }
+    literal_at(c, w, 0)
+}
+
 // A clause for each tuple of the present one's row.
 fn put_run(c: Comparison, lead: i32, w: Walk, list: &mut [i32]) -> usize
     requires { ⌜ FairComparison c × Walking c (At.Tuple w) × (length (led lead (map (present c) (rowOf w))) ≤ length (now list)) ⌝ }
@@ -60,7 +72,7 @@ fn put_run(c: Comparison, lead: i32, w: Walk, list: &mut [i32]) -> usize
     if n < 2 {
         return put_tuple(c, lead, w, list);
     }
-    let front = literal_at(c, w, 0);
+    let front = front_at(c, w);
     let y = spot_at(c, w, n - 2);
     let z = spot_at(c, w, n - 1);
     let count = row_length(w);

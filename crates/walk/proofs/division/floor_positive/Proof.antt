@@ -1,13 +1,15 @@
 -- `walk::division::floor_positive` meets its contract.
+use mathlib.Core.Path.{_≡_, sym, ap, _∙_}
 use Prim.Native.Nat.{_≤_, _<_}
 use native.Mathlib.Omega.{arith}
 use lib.IntN.{ℤ, pos, negsuc, natAbs, _-ℤ_}
 use lib.Signed.{quotZ, _<ℤ_}
 use mir.Syntax.{w32}
-use mir.Val.{SFits, ofZ}
+use mir.Val.{SFits, toZ, ofZ}
 use mir.Facts.{toZ-ofZ}
-use Rattle.laws.specs.Whole.{whole, back, abs-law, abs-quot-le, abs-sub, bits-pos}
-use Rattle.laws.specs.Division.{floor-up, floor-down}
+use Rattle.definitions.specs.Tools.{floor}
+use Rattle.laws.specs.Whole.{whole, back, abs-law, abs-quot-le, abs-sub, bits-pos, mul-law}
+use Rattle.laws.specs.Division.{below-floor, floor-up, floor-down}
 use Rattle.walk.proofs.Fits.{Small, small, less-small, million, fits}
 use Rattle.walk.proofs.division.floor_positive.Statement.{statement}
 use Rattle.walk.proofs.division.floor_positive.Tie as tie
@@ -24,6 +26,21 @@ divisor a f h = bits-pos f (omega (whole, abs-law a))
 
 ruleset all-fit = (fits, below, divided, divisor)
 
+-- rounded down, b / 1 is b
+by-one : (b : ℤ) → floor b (pos 1) ≡ b
+by-one b =
+    let low = below-floor (pos 1) b b (omega whole) .0 (omega (whole, mul-law (pos 1) b)) in
+    let high = below-floor (pos 1) b (floor b (pos 1)) (omega whole) .1 (omega whole) in
+    omega (whole, low, high, mul-law (pos 1) (floor b (pos 1)))
+
+returns : tie.Need-returns
+returns c =
+    let s = c .before in
+    let fa = s .fits .a in
+    let fb = s .fits .b in
+    let e : s .args .a ≡ pos 1 = sym (toZ-ofZ fa) ∙ ap (toZ w32) (c .if1 .taken) in
+    simp toZ-ofZ (rw e (sym (by-one (s .args .b))))
+
 sub-result : tie.Need-sub-result
 sub-result c = search all-fit
 
@@ -33,9 +50,9 @@ div-result c = search all-fit
 sub-result-2 : tie.Need-sub-result-2
 sub-result-2 c = search all-fit
 
-returns : tie.Need-returns
-returns c =
-    let s = c .before in
+returns-2 : tie.Need-returns-2
+returns-2 c =
+    let s = c .before .before in
     let b = s .args .b in
     let a = s .args .a in
     let fa = s .fits .a in
@@ -50,9 +67,9 @@ returns c =
 div-result-2 : tie.Need-div-result-2
 div-result-2 c = search all-fit
 
-returns-2 : tie.Need-returns-2
-returns-2 c =
-    let s = c .before in
+returns-3 : tie.Need-returns-3
+returns-3 c =
+    let s = c .before .before in
     let b = s .args .b in
     let a = s .args .a in
     let fa = s .fits .a in
@@ -61,4 +78,4 @@ returns-2 c =
     simp toZ-ofZ (floor-up b a (omega (whole, back fb)) (s .pre .0))
 
 pub floor-positive-spec : {M : Type 1} → statement M
-floor-positive-spec = tie.close (tie.spec sub-result div-result sub-result-2 returns div-result-2 returns-2)
+floor-positive-spec = tie.close (tie.spec returns sub-result div-result sub-result-2 returns-2 div-result-2 returns-3)

@@ -33,8 +33,8 @@ returns c =
     let s = ap (led (a .lead)) (row-single (a .c) (c .before .before .before .before .pre .0) (a .w) (c .before .before .before .before .pre .1) (c .before .before .before .if1 .taken)) ∙ led-single (a .lead) (present (a .c) (a .w)) in
     rw s (simp toZ-ofZ at (c .before .put-tuple .ensures))
 
-literal-at-requires : tie.Need-literal-at-requires
-literal-at-requires c κs = search needs
+front-at-requires : tie.Need-front-at-requires
+front-at-requires c κs = let s = c .before in (s .pre .0, s .pre .1, omega (arith, c .if1 .left))
 
 spot-at-requires : tie.Need-spot-at-requires
 spot-at-requires c κs = search needs
@@ -66,14 +66,14 @@ module _ (c : tie.After-row-length) where
   two : 2 ≤ n
   two = omega (arith, c .before .before .before .before .if1 .left)
 
-  first-fits : SFits w32 (c .before .before .before .literal-at .result)
-  first-fits = record { sfits = c .before .before .before .literal-at .ok }
+  first-fits : SFits w32 (c .before .before .before .front-at .result)
+  first-fits = record { sfits = c .before .before .before .front-at .ok }
 
-  same : led (s .args .lead) (map (present (s .args .c)) (rowOf (s .args .w))) ≡ led (s .args .lead) (rowFrom (frontOf (n - 2) (c .before .before .before .literal-at .result)) y z (c .row-length .result))
+  same : led (s .args .lead) (map (present (s .args .c)) (rowOf (s .args .w))) ≡ led (s .args .lead) (rowFrom (frontOf (n - 2) (c .before .before .before .front-at .result)) y z (c .row-length .result))
   same =
       ap (led (s .args .lead))
       (row-literals (s .args .c) (s .pre .0) two (s .args .w) (s .pre .1) y z (c .before .before .spot-at .ensures) (c .before .spot-at2 .ensures)
-      ∙ ap₂ (λ l k. rowFrom (frontOf (n - 2) l) y z k) (sym (c .before .before .before .literal-at .ensures)) (sym (c .row-length .ensures)))
+      ∙ ap₂ (λ f k. rowFrom f y z k) (sym (c .before .before .before .front-at .ensures)) (sym (c .row-length .ensures)))
 
   ready : (i : ℕ) → i < n → (p : Spot) → Holds (slotAt (s .args .c) i) (offsetAt (s .args .c) (s .args .w) i) p → Steady p × (natAbs (p .literal) + c .row-length .result ≤ 40000000)
   ready i h p e = rw (c .row-length .ensures) (spot-ready (s .args .c) (s .pre .0) two (s .args .w) (s .pre .1) i h p e)
@@ -104,7 +104,7 @@ put-run-spec =
     put-tuple-requires
     same-length
     returns
-    literal-at-requires
+    front-at-requires
     spot-at-requires
     sub-spot-at
     spot-at-requires-2
