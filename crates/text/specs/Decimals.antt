@@ -10,7 +10,7 @@ use lib.ListN.{length, set, length-append}
 use Rattle.definitions.specs.Tools.{if_then_else_}
 use Rattle.definitions.specs.Dimacs.{digits, decimal}
 use Rattle.laws.specs.Written.{written, written-one, written-snoc}
-use Rattle.dimacs.specs.Lines.{Put}
+use Rattle.text.specs.Puts.{Put}
 
 -- room for a digit more changes nothing where there is room for all
 more-room : (f n : ℕ) → n < 10 ^ suc f → digits (suc f) n ≡ digits f n

@@ -1,4 +1,4 @@
--- `dimacs::numbers::put_entries` meets its contract.
+-- `text::numbers::put_entries` meets its contract.
 use borrow.Author.Needs.{needs}
 use mathlib.Core.Path.{_≡_, refl}
 use mathlib.Core.List.{_++_}
@@ -12,9 +12,9 @@ use mir.Facts.{toZ-ofZ}
 use Rattle.definitions.specs.Dimacs.{entry}
 use Rattle.laws.specs.Written.{rest-length}
 use Rattle.laws.specs.Filling.{Filling, begin, room, room-for, part, ended}
-use Rattle.dimacs.specs.Entries.{entries, entries-more, entries-none}
-use Rattle.dimacs.proofs.numbers.put_entries.Statement.{statement}
-use Rattle.dimacs.proofs.numbers.put_entries.Tie as tie
+use Rattle.text.specs.Entries.{entries, entries-more, entries-none}
+use Rattle.text.proofs.numbers.put_entries.Statement.{statement}
+use Rattle.text.proofs.numbers.put_entries.Tie as tie
 
 abbrev Inv-loop : tie.InvT-loop
 Inv-loop list out₀ i₀ at₀ out i at =

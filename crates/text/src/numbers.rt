@@ -1,13 +1,14 @@
-// Numbers as text: each function writes at the start of the buffer that it is lent, and answers how many bytes.
+// Digits, and the numbers of a clause list.
 ghost use mathlib.Core.Path.{_≡_};
 ghost use Prim.Native.Nat.{_≤_};
 ghost use lib.ListN.{length};
 ghost use lib.IntN.{natAbs};
 ghost use Rattle.definitions.specs.Dimacs.{decimal, entry};
-ghost use Rattle.dimacs.specs.Lines.{Put, withEnd};
-ghost use Rattle.dimacs.specs.Entries.{entries};
+ghost use Rattle.text.specs.Puts.{Put};
+ghost use Rattle.text.specs.Lines.{withEnd};
+ghost use Rattle.text.specs.Entries.{entries};
 
-fn put_decimal(n: u64, out: &mut [u8]) -> usize
+pub fn put_decimal(n: u64, out: &mut [u8]) -> usize
     requires { ⌜ length (decimal n) ≤ length (now out) ⌝ }
     ensures { λ r. ⌜ Put (decimal n) (now (out .entry)) r (now (out .exit)) ⌝ }
 {
@@ -40,7 +41,7 @@ fn magnitude(number: i32) -> u64
 }
 
 // A number of the clause list: 0 ends a line, any other number is a literal and parted from the next.
-fn put_entry(number: i32, out: &mut [u8]) -> usize
+pub fn put_entry(number: i32, out: &mut [u8]) -> usize
     requires { ⌜ length (entry number) ≤ length (now out) ⌝ }
     ensures { λ r. ⌜ Put (entry number) (now (out .entry)) r (now (out .exit)) ⌝ }
 {

@@ -1,4 +1,4 @@
--- `dimacs::numbers::magnitude` meets its contract.
+-- `text::numbers::magnitude` meets its contract.
 use mathlib.Core.Path.{_≡_, ap, _∙_}
 use native.Mathlib.Omega.{arith}
 use lib.IntN.{ℤ, pos, natAbs, _-ℤ_}
@@ -7,8 +7,8 @@ use mir.Syntax.{w32, w64}
 use mir.Val.{SFits}
 use mir.Facts.{toZ-ofZ, fits-natAbs, sfits-widen}
 use Rattle.laws.specs.Whole.{whole, back, abs-fits, abs-neg, zero-sub, sub-law}
-use Rattle.dimacs.proofs.numbers.magnitude.Statement.{statement}
-use Rattle.dimacs.proofs.numbers.magnitude.Tie as tie
+use Rattle.text.proofs.numbers.magnitude.Statement.{statement}
+use Rattle.text.proofs.numbers.magnitude.Tie as tie
 
 -- the number without its sign, in the wider type
 size-same : (z : ℤ) → natAbs (pos 0 -ℤ z) ≡ natAbs z

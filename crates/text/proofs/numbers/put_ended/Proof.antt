@@ -1,14 +1,14 @@
--- `dimacs::numbers::put_ended` meets its contract.
+-- `text::numbers::put_ended` meets its contract.
 use mathlib.Core.Path.{refl, _∙_}
 use mathlib.Core.List.{[], _∷_}
 use native.Mathlib.Omega.{arith}
 use lib.ListN.{length-append, length-set}
 use Rattle.definitions.specs.Dimacs.{decimal}
 use Rattle.laws.specs.Filling.{Filling, begun, room, one, ended}
-use Rattle.dimacs.specs.Lines.{withEnd}
-use Rattle.dimacs.specs.Decimals.{digits-length}
-use Rattle.dimacs.proofs.numbers.put_ended.Statement.{statement}
-use Rattle.dimacs.proofs.numbers.put_ended.Tie as tie
+use Rattle.text.specs.Lines.{withEnd}
+use Rattle.text.specs.Decimals.{digits-length}
+use Rattle.text.proofs.numbers.put_ended.Statement.{statement}
+use Rattle.text.proofs.numbers.put_ended.Tie as tie
 
 -- the digits are written
 digits-put : (c : tie.After-put-decimal) → let a = c .before .before .before .args in

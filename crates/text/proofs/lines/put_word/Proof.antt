@@ -1,4 +1,4 @@
--- `dimacs::printing::put_word` meets its contract.
+-- `text::lines::put_word` meets its contract.
 use borrow.Author.Needs.{needs}
 use mathlib.Core.Path.{_≡_, refl, ap, _∙_}
 use Prim.Native.Nat.{_≤_, _-_}
@@ -6,8 +6,8 @@ use native.Mathlib.Omega.{arith}
 use lib.ListN.{length, getD, set, take, length-set}
 use lib.Seq.{take-all}
 use Rattle.laws.specs.Written.{written, written-none, written-take}
-use Rattle.dimacs.proofs.printing.put_word.Statement.{statement}
-use Rattle.dimacs.proofs.printing.put_word.Tie as tie
+use Rattle.text.proofs.lines.put_word.Statement.{statement}
+use Rattle.text.proofs.lines.put_word.Tie as tie
 
 abbrev Inv-loop : tie.InvT-loop
 Inv-loop word out₀ i₀ out i =

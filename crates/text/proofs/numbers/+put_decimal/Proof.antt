@@ -1,4 +1,4 @@
--- `dimacs::numbers::put_decimal` meets its contract. The measure is the number.
+-- `text::numbers::put_decimal` meets its contract. The measure is the number.
 use mathlib.Core.Path.{ap, _∙_}
 use Prim.Native.Nat.{ℕ, _+_, _/_, _%_, _<_}
 use native.Mathlib.Omega.{arith}
@@ -6,12 +6,12 @@ use borrow.Author.Needs.{needs}
 use borrow.Fn.Kinds.{In}
 use borrow.Fn.PlainCycle.{Measures, is, falls, and}
 use lib.ListN.{length, length-set}
-use Rattle.dimacs.specs.Decimals.{decimal-one, digits-length, first-digit, shorter, last-digit}
-use Rattle.dimacs.proofs.numbers.put_decimal.Reads as reads
-use Rattle.dimacs.proofs.numbers.put_decimal.Kinds as kinds
-use Rattle.dimacs.proofs.numbers.+put_decimal.Lts-put_decimal as lts
-use Rattle.dimacs.proofs.numbers.+put_decimal.{statement}
-use Rattle.dimacs.proofs.numbers.+put_decimal.Tie.{close}
+use Rattle.text.specs.Decimals.{decimal-one, digits-length, first-digit, shorter, last-digit}
+use Rattle.text.proofs.numbers.put_decimal.Reads as reads
+use Rattle.text.proofs.numbers.put_decimal.Kinds as kinds
+use Rattle.text.proofs.numbers.+put_decimal.Lts-put_decimal as lts
+use Rattle.text.proofs.numbers.+put_decimal.{statement}
+use Rattle.text.proofs.numbers.+put_decimal.Tie.{close}
 
 abbrev μ : Measures 1 kinds.ps ℕ
 μ κs a = a .0

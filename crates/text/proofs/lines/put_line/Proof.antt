@@ -1,4 +1,4 @@
--- `dimacs::printing::put_line` meets its contract.
+-- `text::lines::put_line` meets its contract.
 use borrow.Author.Needs.{needs}
 use mathlib.Core.Path.{refl}
 use mathlib.Core.List.{_++_}
@@ -7,9 +7,9 @@ use native.Mathlib.Omega.{arith}
 use lib.ListN.{length, length-append}
 use Rattle.laws.specs.Written.{back, rest-length}
 use Rattle.laws.specs.Filling.{Filling, begun, room-before, room, part, last}
-use Rattle.dimacs.specs.Lines.{withEnd, line}
-use Rattle.dimacs.proofs.printing.put_line.Statement.{statement}
-use Rattle.dimacs.proofs.printing.put_line.Tie as tie
+use Rattle.text.specs.Lines.{withEnd, line}
+use Rattle.text.proofs.lines.put_line.Statement.{statement}
+use Rattle.text.proofs.lines.put_line.Tie as tie
 
 -- the word is written
 word-put : (c : tie.After-put-word) → let a = c .before .before .before .before .args in

@@ -10,8 +10,8 @@ use lib.IntN.{ℤ, pos, negsuc, natAbs}
 use lib.Signed.{_<ℤ_, _≤ℤ_}
 use Rattle.definitions.specs.Dimacs.{decimal, digits, entry}
 use Rattle.laws.specs.Whole.{whole}
-use Rattle.dimacs.specs.Lines.{withEnd}
-use Rattle.dimacs.specs.Decimals.{digits-length}
+use Rattle.text.specs.Lines.{withEnd}
+use Rattle.text.specs.Decimals.{digits-length}
 
 above : (z : ℤ) → pos 0 <ℤ z → entry z ≡ withEnd (natAbs z) 32
 unfolding entry

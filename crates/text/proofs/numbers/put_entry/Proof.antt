@@ -1,4 +1,4 @@
--- `dimacs::numbers::put_entry` meets its contract.
+-- `text::numbers::put_entry` meets its contract.
 use borrow.Author.Needs.{needs}
 use mathlib.Core.Path.{_≡_, refl, sym, ap}
 use mathlib.Core.List.{[], _∷_}
@@ -11,10 +11,11 @@ use Rattle.definitions.specs.Dimacs.{entry}
 use Rattle.laws.specs.Whole.{whole, back}
 use Rattle.laws.specs.Written.{rest-length, written-one}
 use Rattle.laws.specs.Filling.{Filling, begun, room-before, room, last}
-use Rattle.dimacs.specs.Lines.{withEnd, retold}
-use Rattle.dimacs.specs.Entries.{entry-above, entry-below, entry-zero}
-use Rattle.dimacs.proofs.numbers.put_entry.Statement.{statement}
-use Rattle.dimacs.proofs.numbers.put_entry.Tie as tie
+use Rattle.text.specs.Puts.{retold}
+use Rattle.text.specs.Lines.{withEnd}
+use Rattle.text.specs.Entries.{entry-above, entry-below, entry-zero}
+use Rattle.text.proofs.numbers.put_entry.Statement.{statement}
+use Rattle.text.proofs.numbers.put_entry.Tie as tie
 
 -- the text, by sign
 above : (c : tie.After-magnitude) → withEnd (c .magnitude .result) 32 ≡ entry (c .before .before .before .args .number)
