@@ -1,4 +1,4 @@
--- From the shares of the rules and the widths of the variables to N, M and K. Assumes nothing.
+-- From the shares of the rules and the widths of the variables to the sizes by kind, and to N, M and K. Assumes nothing.
 use mathlib.Core.Path.{_≡_, refl, sym, ap, _∙_}
 use mathlib.Core.List.{List, [], _∷_, map}
 use Prim.Native.Nat.{ℕ, suc, _+_, _*_, _-_, _<_, _^_}
@@ -7,11 +7,11 @@ use lib.ListN.{length}
 use lib.Seq.{take-all}
 use Rattle.definitions.specs.Tools.{sum}
 use Rattle.definitions.specs.Board.{Board, Bounds, boundsOf}
-use Rattle.definitions.specs.Encoding.{width, first, N, M, K}
+use Rattle.definitions.specs.Encoding.{width, first, selected, axioms, rules, places, N, M, K}
 use Rattle.laws.specs.Admitted.{Admitted}
 use Rattle.laws.specs.Pieces.{piecesFrom}
 use Rattle.laws.specs.Written.{rest}
-use Rattle.laws.specs.Sizes.{N-sum, M-sum, K-sum}
+use Rattle.laws.specs.Sizes.{selectors-sum, axioms-clauses, axioms-length, rules-clauses, rules-length, K-sum}
 use Rattle.laws.specs.Fits.{N-fits, M-fits, K-fits}
 use Rattle.opening.specs.declared.Header.{Header}
 use Rattle.opening.specs.Said.{headerOf, contextIn}
@@ -19,8 +19,9 @@ use Rattle.opening.specs.Headers.{Opened, context-is, tail-is}
 use Rattle.reader.specs.Said.{contextOf}
 use Rattle.reader.specs.declared.Context.{Context}
 use Rattle.measure.specs.declared.Share.{Share}
+use Rattle.measure.specs.declared.Kinds.{Kinds}
 use Rattle.measure.specs.declared.Totals.{Totals}
-use Rattle.measure.specs.Said.{totalsOf}
+use Rattle.measure.specs.Said.{kindsOf, totalsOf}
 use Rattle.measure.specs.Shares.{Known, Adding}
 
 -- what a pass over the rules is given
@@ -44,23 +45,51 @@ module _ (B : Board) (g : Admitted B) (h : Header) (e : h ≡ headerOf B) (r : S
   unfolding first
   first-is = k ∙ ap (λ z. first B (z .ints)) e ∙ ap (λ bs. suc (B .bools) + sum (map width bs)) (take-all (length (B .bounds)) (B .bounds) (omega arith)) ∙ ap (λ z. suc (z .bools) + widths) (sym e)
 
-  n-is : f - 1 + r .selectors ≡ N B
-  n-is = omega (arith, first-is, ap (λ z. z .bools) e, a .selectors, N-sum B)
+  pub axioms-fit : 3 * (f - 1 - h .bools) + h .ints < 2 ^ 63
+  axioms-fit = omega (arith, first-is, ap (λ z. z .ints) e, places-sum (B .bounds), K-sum B (g .bounds), K-fits B g)
 
-  pub n-fits : f - 1 + r .selectors < 2 ^ 63
+  axioms-clauses-are : f - 1 - h .bools + h .ints ≡ sum (map length (axioms B))
+  axioms-clauses-are = omega (arith, first-is, ap (λ z. z .ints) e, counts-sum (B .bounds), axioms-clauses B (g .bounds))
+
+  axioms-places-are : 3 * (f - 1 - h .bools) + h .ints ≡ sum (map places (axioms B))
+  axioms-places-are = omega (arith, first-is, ap (λ z. z .ints) e, places-sum (B .bounds), axioms-length B (g .bounds))
+
+  pub kinds-are : _≡_ {A = Kinds} (record {
+    booleans = h .bools;
+    orders = f - 1 - h .bools;
+    selectors = r .selectors;
+    axioms = record { clauses = f - 1 - h .bools + h .ints; places = 3 * (f - 1 - h .bools) + h .ints };
+    rules = record { clauses = r .clauses; places = r .places };
+  }) (kindsOf B)
+  kinds-are =
+      let orders : f - 1 - h .bools ≡ widths = omega (arith, first-is) in
+      let selectors : r .selectors ≡ sum (map (λ C. length (selected C)) (B .clauses)) = omega (arith, a .selectors, selectors-sum B) in
+      let rule-clauses : r .clauses ≡ sum (map length (rules B)) = omega (arith, a .clauses, rules-clauses B) in
+      let rule-places : r .places ≡ sum (map places (rules B)) = omega (arith, a .places, rules-length B) in
+      rw (axioms-clauses-are, axioms-places-are, orders, selectors, rule-clauses, rule-places, ap (λ z. z .bools) e)
+
+-- ---- N, M and K
+module _ (B : Board) (g : Admitted B) (k : Kinds) (e : k ≡ kindsOf B) where
+  n-is : k .booleans + k .orders + k .selectors ≡ N B
+  unfolding N
+  n-is = ap (λ z. z .booleans + z .orders + z .selectors) e
+
+  m-is : k .axioms .clauses + k .rules .clauses ≡ M B
+  unfolding M
+  m-is = ap (λ z. z .axioms .clauses + z .rules .clauses) e
+
+  k-is : k .axioms .places + k .rules .places ≡ K B
+  unfolding K
+  k-is = ap (λ z. z .axioms .places + z .rules .places) e
+
+  pub n-fits : k .booleans + k .orders + k .selectors < 2 ^ 63
   n-fits = omega (arith, n-is, N-fits B g)
 
-  m-is : f - 1 - h .bools + h .ints + r .clauses ≡ M B
-  m-is = omega (arith, first-is, ap (λ z. z .ints) e, a .clauses, counts-sum (B .bounds), M-sum B (g .bounds))
-
-  pub m-fits : f - 1 - h .bools + h .ints + r .clauses < 2 ^ 63
+  pub m-fits : k .axioms .clauses + k .rules .clauses < 2 ^ 63
   m-fits = omega (arith, m-is, M-fits B g)
 
-  k-is : 3 * (f - 1 - h .bools) + h .ints + r .places ≡ K B
-  k-is = omega (arith, first-is, ap (λ z. z .ints) e, a .places, places-sum (B .bounds), K-sum B (g .bounds))
-
-  pub k-fits : 3 * (f - 1 - h .bools) + h .ints + r .places < 2 ^ 63
+  pub k-fits : k .axioms .places + k .rules .places < 2 ^ 63
   k-fits = omega (arith, k-is, K-fits B g)
 
-  pub totals-are : _≡_ {A = Totals} (record { n = f - 1 + r .selectors; m = f - 1 - h .bools + h .ints + r .clauses; k = 3 * (f - 1 - h .bools) + h .ints + r .places }) (totalsOf B)
+  pub totals-are : _≡_ {A = Totals} (record { n = k .booleans + k .orders + k .selectors; m = k .axioms .clauses + k .rules .clauses; k = k .axioms .places + k .rules .places }) (totalsOf B)
   totals-are = rw (n-is, m-is, k-is)

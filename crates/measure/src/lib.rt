@@ -17,6 +17,21 @@ pub struct Share {
     pub selectors: u64,
 }
 
+// Clauses, and their places in the list.
+pub struct Part {
+    pub clauses: usize,
+    pub places: usize,
+}
+
+// The sizes by kind: SAT variables that are Booleans, order variables and selectors; the axioms and the rules.
+pub struct Kinds {
+    pub booleans: usize,
+    pub orders: usize,
+    pub selectors: usize,
+    pub axioms: Part,
+    pub rules: Part,
+}
+
 // SAT variables, clauses, list length.
 pub struct Totals {
     pub n: usize,

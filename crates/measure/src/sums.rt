@@ -1,4 +1,6 @@
-// The pieces of the rules and the variables together: N, M and K of an accepted record.
+// The pieces of the rules and the variables together: the sizes of an accepted record by kind, and N, M and K.
+use crate::Kinds;
+use crate::Part;
 use crate::Share;
 use crate::Totals;
 use crate::pieces::share_of;
@@ -17,7 +19,7 @@ ghost use Rattle.laws.specs.Boards.{boardOf};
 ghost use Rattle.laws.specs.Pieces.{piecesFrom};
 ghost use Rattle.opening.specs.Headers.{Opened};
 ghost use Rattle.measure.specs.Shares.{Known, Fit, Adding, plus};
-ghost use Rattle.measure.specs.Said.{totalsOf};
+ghost use Rattle.measure.specs.Said.{kindsOf, totalsOf};
 
 fn added(total: Share, share: Share) -> Share
     requires { ⌜ Fit (plus total share) ⌝ }
@@ -68,16 +70,38 @@ fn tail_share(bytes: &[u8], header: Header) -> Share
 }
 
 // A variable has width + 1 axioms, in 3 * width + 1 places.
+pub fn kinds_of(bytes: &[u8], header: Header) -> Kinds
+    requires { ⌜ Opened (now bytes) header ⌝ }
+    ensures { λ r. ⌜ r ≡ kindsOf (boardOf (now (bytes .entry))) ⌝ }
+{
+    let share = tail_share(bytes, header);
+    let widths = first_number(bytes, header.bools, header.ints) as usize - 1 - header.bools;
+    Kinds {
+        booleans: header.bools,
+        orders: widths,
+        selectors: share.selectors as usize,
+        axioms: Part {
+            clauses: widths + header.ints,
+            places: 3 * widths + header.ints,
+        },
+        rules: Part {
+            clauses: share.clauses as usize,
+            places: share.places as usize,
+        },
+    }
+}
+
+// N, M and K are sums of kinds.
 pub fn totals_of(bytes: &[u8], header: Header) -> Totals
     requires { ⌜ Opened (now bytes) header ⌝ }
     ensures { λ r. ⌜ r ≡ totalsOf (boardOf (now (bytes .entry))) ⌝ }
 {
-    let share = tail_share(bytes, header);
-    let unselected = first_number(bytes, header.bools, header.ints) as usize - 1;
-    let widths = unselected - header.bools;
+    let kinds = kinds_of(bytes, header);
+    let axioms = kinds.axioms;
+    let rules = kinds.rules;
     Totals {
-        n: unselected + share.selectors as usize,
-        m: widths + header.ints + share.clauses as usize,
-        k: 3 * widths + header.ints + share.places as usize,
+        n: kinds.booleans + kinds.orders + kinds.selectors,
+        m: axioms.clauses + rules.clauses,
+        k: axioms.places + rules.places,
     }
 }
