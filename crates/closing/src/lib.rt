@@ -3,8 +3,8 @@ use crate::checks::checked;
 use crate::search::searched;
 use definitions::Hour;
 use definitions::Verdict;
-use size::Measured;
-use size::measure;
+use measure::Measured;
+use measure::measure;
 use slots::variables::bounds_of;
 ghost use Rattle.closing.specs.Outcome.{Allowed};
 

@@ -14,9 +14,9 @@ use Rattle.laws.specs.Sizes.{K-is}
 use Rattle.laws.specs.Written.{written}
 use Rattle.opening.specs.declared.Header.{Header}
 use Rattle.opening.specs.Said.{mapDone}
-use Rattle.size.specs.declared.Totals.{Totals}
-use Rattle.size.specs.Said.{measuredOf}
-use Rattle.size.specs.Told.{Measures, measured, not-measured}
+use Rattle.measure.specs.declared.Totals.{Totals}
+use Rattle.measure.specs.Said.{measuredOf}
+use Rattle.measure.specs.Told.{Measures, measured, not-measured}
 
 module _ (s : List ℕ) (list : List ℤ) where
   module _ (h : Header) (t : Totals) (e : mapDone measuredOf (accepted s) ≡ done (h, t)) where

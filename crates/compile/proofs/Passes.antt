@@ -26,7 +26,7 @@ use Rattle.rules.specs.declared.Cursor.{Cursor}
 use Rattle.rules.specs.declared.Piece as code
 use Rattle.rules.specs.declared.Stepped.{Stepped}
 use Rattle.rules.specs.Cursors.{Stands, Held, saidPiece, selectorsTo, Onward, Went, comingAt}
-use Rattle.size.specs.Shares.{Known}
+use Rattle.measure.specs.Shares.{Known}
 use Rattle.slots.specs.declared.Bounds.{Bounds}
 use Rattle.slots.specs.Terms.{TermsStand}
 use Rattle.slots.specs.Variables.{boundsRead, BoundsOf, bounds-same}

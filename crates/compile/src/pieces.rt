@@ -8,7 +8,7 @@ ghost use Rattle.laws.specs.Pieces.{piecesFrom};
 ghost use Rattle.laws.specs.Written.{written};
 ghost use Rattle.reader.specs.Said.{contextOf};
 ghost use Rattle.rules.specs.Cursors.{Held, saidPiece, selectorsTo};
-ghost use Rattle.size.specs.Shares.{Known};
+ghost use Rattle.measure.specs.Shares.{Known};
 ghost use Rattle.slots.specs.Variables.{FirstsOf};
 ghost use Rattle.compile.specs.Lists.{pieceNumbers, piecesNumbers};
 use reader::Context;

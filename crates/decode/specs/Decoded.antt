@@ -17,8 +17,8 @@ use Rattle.laws.specs.Boards.{boardOf}
 use Rattle.opening.specs.declared.Header.{Header}
 use Rattle.lent.specs.declared.Found.{Found}
 use Rattle.lent.specs.Said.{saidFound}
-use Rattle.size.specs.declared.Totals.{Totals}
-use Rattle.size.specs.Told.{Measures}
+use Rattle.measure.specs.declared.Totals.{Totals}
+use Rattle.measure.specs.Told.{Measures}
 use Rattle.decode.specs.Outcome.{Leaves}
 use Rattle.decode.specs.Truth.{tests}
 

@@ -1,4 +1,1 @@
-pub mod Lines
-pub mod Decimals
-pub mod Entries
 pub mod Shown

@@ -1,5 +1,5 @@
 -- What is printed, as a line and the numbers of the list after it. Assumes nothing.
-use mathlib.Core.Path.{_≡_, refl, sym, ap, ap₂}
+use mathlib.Core.Path.{_≡_, refl, sym, ap, ap₂, _∙_}
 use mathlib.Core.Bool.{Bool, true, false}
 use mathlib.Core.List.{List, [], _∷_, _++_, append-assoc}
 use Prim.Native.Nat.{ℕ, _+_, _*_, _≤_}
@@ -17,9 +17,11 @@ use Rattle.definitions.specs.Answers.{said, saidSizing}
 use Rattle.definitions.specs.Dimacs.{ascii, decimal, shown, printed}
 use Rattle.definitions.specs.declared.Refusal.{Refusal}
 use Rattle.definitions.specs.declared.Sizing.{Sizing}
-use Rattle.dimacs.specs.Decimals.{digits-length}
-use Rattle.dimacs.specs.Lines.{withEnd, line}
-use Rattle.dimacs.specs.Entries.{entries, entries-length}
+use Rattle.io.specs.Counts.{Counts}
+use Rattle.laws.specs.Written.{written}
+use Rattle.text.specs.Puts.{Put, put-text}
+use Rattle.text.specs.Lines.{line, line-length}
+use Rattle.text.specs.Entries.{entries, entries-length}
 
 -- how many numbers of the list an answer speaks of
 abbrev pub listed : Sizing → ℕ
@@ -69,18 +71,6 @@ pub shown-refused : (r : Refusal) (list : List ℤ) → refusalLine r ≡ shown 
 unfolding shown
 shown-refused r list = sym (lined (ascii "refused ") (decimal (said r .0)) (decimal (said r .1)) (10 ∷ []) (32 ∷ []))
 
-pub line-length : (w : List ℕ) (a b : ℕ) → length (line w a b) ≤ length w + 42
-line-length w a b =
-    omega (
-      arith,
-      length-append w (withEnd a 32 ++ withEnd b 10),
-      length-append (withEnd a 32) (withEnd b 10),
-      length-append (decimal a) (32 ∷ []),
-      length-append (decimal b) (10 ∷ []),
-      digits-length 19 a,
-      digits-length 19 b,
-    )
-
 pub cnf-length : (n m : ℕ) (list : List ℤ) → length (cnf n m list) ≤ 64 + 22 * length list
 cnf-length n m list = omega (arith, length-append (line (ascii "p cnf ") n m) (entries list), line-length (ascii "p cnf ") n m, entries-length list)
 
@@ -89,3 +79,8 @@ pub printed-is : (s : List ℕ) (r : Sizing) (left : List ℤ) → saidSizing r 
     → shown (saidSizing r) left ≡ printed s
 unfolding printed
 printed-is s r left ea el = ap₂ shown ea el
+
+pub put-counts : (t before : List ℕ) (n : ℕ) (after : List ℕ) → Put t before n after → Counts n after
+unfolding written
+put-counts t before n after p =
+    (omega (arith, p .0, ap length (p .1), length-append t (drop (length t) before)), p .0 ∙ ap length (sym (put-text t before n after p)))

@@ -4,7 +4,6 @@ use libc::STDERR_FILENO;
 use libc::STDIN_FILENO;
 use libc::STDOUT_FILENO;
 
-pub mod numbers; // numbers.rt: numbers as text
 pub mod printing; // printing.rt: all that the program prints, in a buffer
 
 // A read of no bytes fails where standard input is closed or a directory.

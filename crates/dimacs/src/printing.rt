@@ -4,37 +4,15 @@ ghost use lib.ListN.{length};
 ghost use Rattle.io.specs.Counts.{Counts};
 ghost use Rattle.definitions.specs.Answers.{saidSizing};
 ghost use Rattle.definitions.specs.Dimacs.{shown, printed};
-ghost use Rattle.dimacs.specs.Lines.{Put, line};
+ghost use Rattle.text.specs.Puts.{Put};
 ghost use Rattle.dimacs.specs.Shown.{cnf, refusalLine, listed};
-use crate::numbers::put_ended;
-use crate::numbers::put_entries;
 use answers::detail_of;
 use answers::number_of;
 use compile::compile;
 use definitions::Refusal;
 use definitions::Sizing;
-
-fn put_word(word: &[u8], out: &mut [u8]) -> usize
-    requires { ⌜ length (now word) ≤ length (now out) ⌝ }
-    ensures { λ r. ⌜ Put (now (word .entry)) (now (out .entry)) r (now (out .exit)) ⌝ }
-{
-    let mut i: usize = 0;
-    while i < word.len() {
-        out[i] = word[i];
-        i += 1;
-    }
-    i
-}
-
-// A line of a word and two numbers.
-fn put_line(word: &[u8], a: u64, b: u64, out: &mut [u8]) -> usize
-    requires { ⌜ length (line (now word) a b) ≤ length (now out) ⌝ }
-    ensures { λ r. ⌜ Put (line (now (word .entry)) a b) (now (out .entry)) r (now (out .exit)) ⌝ }
-{
-    let first = put_word(word, out);
-    let second = first + put_ended(a, b' ', &mut out[first..]);
-    second + put_ended(b, b'\n', &mut out[second..])
-}
+use text::lines::put_line;
+use text::numbers::put_entries;
 
 // The head and the clauses.
 fn put_cnf(n: u64, m: u64, clauses: &[i32], out: &mut [u8]) -> usize

@@ -22,8 +22,8 @@ use Rattle.laws.specs.Readings.{never}
 use Rattle.laws.specs.Boards.{boardOf}
 use Rattle.opening.specs.declared.Header.{Header}
 use Rattle.opening.specs.Said.{headerOf}
-use Rattle.size.specs.declared.Totals.{Totals}
-use Rattle.size.specs.Told.{Measures}
+use Rattle.measure.specs.declared.Totals.{Totals}
+use Rattle.measure.specs.Told.{Measures}
 use Rattle.judge.specs.Checks.{Long, fitting, solving}
 use Rattle.judge.proofs.Judged.{judged-is, not-judged, long-enough}
 use Rattle.judge.proofs.Checked.{near}

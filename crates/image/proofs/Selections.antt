@@ -16,8 +16,8 @@ use Rattle.rules.specs.declared.Cursor.{Cursor}
 use Rattle.rules.specs.declared.Piece as code
 use Rattle.rules.specs.declared.Stepped.{Stepped}
 use Rattle.rules.specs.Cursors.{Stands, Sound, Onward, Went, atStart}
-use Rattle.size.specs.Shares.{Known}
-use Rattle.size.proofs.Shares.{start-sound, start-coming}
+use Rattle.measure.specs.Shares.{Known}
+use Rattle.measure.proofs.Shares.{start-sound, start-coming}
 use Rattle.image.specs.Parts.{bit, selectorBytes, ledIn, led-selected}
 use Rattle.image.specs.Selectors.{ledAt}
 

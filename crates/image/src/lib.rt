@@ -3,7 +3,7 @@ ghost use mathlib.Core.Path.{_≡_};
 ghost use Rattle.definitions.specs.Meaning.{assigned, plainModel};
 ghost use Rattle.definitions.specs.Answers.{saidVerdict};
 ghost use Rattle.laws.specs.Boards.{boardOf};
-ghost use Rattle.size.specs.Told.{Measures};
+ghost use Rattle.measure.specs.Told.{Measures};
 ghost use Rattle.image.specs.Checks.{imaging, isDone, Writable};
 ghost use Rattle.image.specs.Outcome.{Allowed};
 use crate::parts::put_booleans;
@@ -13,10 +13,10 @@ use definitions::Refusal;
 use definitions::Verdict;
 use judge::checks::lengths;
 use judge::checks::solved;
+use measure::Measured;
+use measure::Totals;
+use measure::measure;
 use opening::Header;
-use size::Measured;
-use size::Totals;
-use size::measure;
 
 pub mod parts; // parts.rt: the bytes of Booleans and of order variables
 pub mod selectors; // selectors.rt: the bytes of the selectors

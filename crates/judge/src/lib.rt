@@ -2,8 +2,8 @@
 use crate::checks::lengths;
 use crate::checks::solved;
 use definitions::Verdict;
-use size::Measured;
-use size::measure;
+use measure::Measured;
+use measure::measure;
 ghost use Rattle.judge.specs.Outcome.{Allowed};
 
 pub mod checks; // checks.rt: refusals 11, 12, 14 and 13

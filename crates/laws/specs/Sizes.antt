@@ -175,18 +175,32 @@ module _ (B : Board) where
       ∙ sym (map-map f (boundsOf B) xs)
       ∙ ap (map f) (map-at (record { lo = pos 0; hi = pos 0 }) (B .bounds)))
 
+  -- by kind: selectors, the axioms' clauses and places, the rules'
+  pub selectors-sum : sum (map (λ C. length (selected C)) (B .clauses)) ≡ sum (map pieceSelectors pieces)
+  selectors-sum = pieces-selectors 0 (B .clauses)
+
+  pub axioms-clauses : All GoodBounds (B .bounds) → sum (map length (axioms B)) ≡ sum (map (λ b. width b + 1) (B .bounds))
+  axioms-clauses = axioms-sum length (λ b. width b + 1) (λ x o. axioms-count (boundsOf B) x o)
+
+  pub axioms-length : All GoodBounds (B .bounds) → sum (map places (axioms B)) ≡ sum (map (λ b. 3 * width b + 1) (B .bounds))
+  axioms-length = axioms-sum places (λ b. 3 * width b + 1) (λ x o. axioms-places (boundsOf B) x o)
+
+  pub rules-clauses : sum (map length (rules B)) ≡ sum (map (pieceCount (boundsOf B)) pieces)
+  unfolding rules
+  rules-clauses = rules-count (boundsOf B) 0 (B .clauses) ∙ simp (piece-count (boundsOf B))
+
+  pub rules-length : sum (map places (rules B)) ≡ sum (map (piecePlaces (boundsOf B)) pieces)
+  unfolding rules
+  rules-length = rules-places (boundsOf B) 0 (B .clauses) ∙ simp (piece-places (boundsOf B))
+
   pub N-sum : N B ≡ B .bools + sum (map width (B .bounds)) + sum (map pieceSelectors pieces)
   unfolding N
-  N-sum = omega (arith, pieces-selectors 0 (B .clauses))
+  N-sum = omega (arith, selectors-sum)
 
   pub M-sum : All GoodBounds (B .bounds) → M B ≡ sum (map (λ b. width b + 1) (B .bounds)) + sum (map (pieceCount (boundsOf B)) pieces)
-  unfolding M rules
-  M-sum h =
-      ap₂ _+_ (axioms-sum length (λ b. width b + 1) (λ x o. axioms-count (boundsOf B) x o) h)
-      (rules-count (boundsOf B) 0 (B .clauses) ∙ simp (piece-count (boundsOf B)))
+  unfolding M
+  M-sum h = ap₂ _+_ (axioms-clauses h) rules-clauses
 
   pub K-sum : All GoodBounds (B .bounds) → K B ≡ sum (map (λ b. 3 * width b + 1) (B .bounds)) + sum (map (piecePlaces (boundsOf B)) pieces)
-  unfolding K rules
-  K-sum h =
-      ap₂ _+_ (axioms-sum places (λ b. 3 * width b + 1) (λ x o. axioms-places (boundsOf B) x o) h)
-      (rules-places (boundsOf B) 0 (B .clauses) ∙ simp (piece-places (boundsOf B)))
+  unfolding K
+  K-sum h = ap₂ _+_ (axioms-length h) rules-length

@@ -1,42 +1,20 @@
--- From the answer of the opening and the totals to the answers of `measure` and `size`. Assumes nothing.
-use mathlib.Core.Path.{_≡_, sym, ap, ap₂, _∙_}
+-- From the answer of `measure` to the answer of `size`. Assumes nothing.
+use mathlib.Core.Path.{_≡_}
 use mathlib.Core.List.{List}
-use Prim.Native.Nat.{ℕ, _≤_, _<_}
-use native.Mathlib.Omega.{arith}
-use borrow.Author.Tests.{lt-leb}
-use Rattle.definitions.specs.Encoding.{K}
+use Prim.Native.Nat.{ℕ}
 use Rattle.definitions.specs.Result.{done, refused}
-use Rattle.definitions.specs.Operations.{readBoard, accepted, sizesOf, Size}
-use Rattle.laws.specs.Reread.{accepted-parts}
-use Rattle.laws.specs.Boards.{boardOf, opens-is}
+use Rattle.definitions.specs.Operations.{accepted, sizesOf, Size}
 use Rattle.opening.specs.declared.Header.{Header}
-use Rattle.opening.specs.Said.{mapDone, headerOf}
-use Rattle.opening.specs.Told.{opened, not-opened}
-use Rattle.size.specs.declared.Totals.{Totals}
-use Rattle.size.specs.Said.{totalsOf, measuredOf}
-use Rattle.size.specs.Told as told
+use Rattle.opening.specs.Said.{mapDone}
+use Rattle.measure.specs.declared.Totals.{Totals}
+use Rattle.measure.specs.Said.{measuredOf}
+use Rattle.measure.specs.Told.{measured, not-measured}
 
 module _ (s : List ℕ) where
-  module _ (h : Header) (e : mapDone headerOf (readBoard s) ≡ done h) (t : Totals) (q : t ≡ totalsOf (boardOf s)) where
-    pub measured : t .k ≤ 2000000000 → done (h, t) ≡ mapDone measuredOf (accepted s)
-    measured l =
-        let f : K (boardOf s) ≤ 2000000000 = omega (arith, ap (λ z. z .k) q) in
-        ap₂ (λ a b. done (a, b)) (opened s e .header) q
-        ∙ ap (mapDone measuredOf) (sym (accepted-parts s (boardOf s) .1 (opens-is s (opened s e .opens), f)))
-
-    pub too-long : 2000000000 < t .k → refused 9 0 ≡ mapDone measuredOf (accepted s)
-    unfolding accepted
-    too-long l = rw (opens-is s (opened s e .opens), lt-leb (K (boardOf s)) 2000000000 (omega (arith, ap (λ z. z .k) q)))
-
-  pub unopened : (n d : ℕ) → mapDone headerOf (readBoard s) ≡ refused n d → refused n d ≡ mapDone measuredOf (accepted s)
-  unfolding accepted
-  unopened n d e = rw (not-opened s e)
-
-  -- ---- Size
   pub sized : (h : Header) (t : Totals) → mapDone measuredOf (accepted s) ≡ done (h, t) → done (record { n = t .n; m = t .m; k = t .k }) ≡ Size s
   unfolding Size sizesOf
-  sized h t e = let m = told.measured s e in rw (m .board, m .totals)
+  sized h t e = let m = measured s e in rw (m .board, m .totals)
 
   pub unsized : (n d : ℕ) → mapDone measuredOf (accepted s) ≡ refused n d → refused n d ≡ Size s
   unfolding Size
-  unsized n d e = rw (told.not-measured s e)
+  unsized n d e = rw (not-measured s e)

@@ -1,5 +1,1 @@
-pub mod Places
-pub mod Shares
-pub mod Said
 pub mod Outcome
-pub mod Told

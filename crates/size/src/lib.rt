@@ -1,54 +1,8 @@
-// Size: N, M and K by counting; no tuple is walked.
-use crate::sums::totals_of;
-use definitions::Refusal;
+// Size: N, M and K, which `measure` counts.
 use definitions::Sizing;
-use opening::Header;
-use opening::Opening;
-use opening::open;
-ghost use Rattle.size.specs.Outcome.{Allowed, MeasureAllowed};
-
-pub mod count; // count.rt: how many tuples a comparison has, by formula
-pub mod pieces; // pieces.rt: what a piece of the rules adds
-pub mod sums; // sums.rt: the pieces and the variables together
-
-// What a piece of the rules adds, or several: clauses, places in the list, selectors.
-pub struct Share {
-    pub clauses: u64,
-    pub places: u64,
-    pub selectors: u64,
-}
-
-// SAT variables, clauses, list length.
-pub struct Totals {
-    pub n: usize,
-    pub m: usize,
-    pub k: usize,
-}
-
-pub enum Measured {
-    Board(Header, Totals),
-    Refused(Refusal),
-}
-
-// The longest list that is not refused.
-const LONGEST: usize = 2000000000;
-
-// What all operations do: 01's refusals 1 to 9, or the record's header and sizes.
-pub fn measure(bytes: &[u8]) -> Measured
-    ensures { λ r. ⌜ MeasureAllowed (now (bytes .entry)) r ⌝ }
-{
-    match open(bytes) {
-        Opening::Board(header) => {
-            let totals = totals_of(bytes, header);
-            if totals.k <= LONGEST {
-                Measured::Board(header, totals)
-            } else {
-                Measured::Refused(Refusal::ListTooLong)
-            }
-        }
-        Opening::Refused(r) => Measured::Refused(r),
-    }
-}
+use measure::Measured;
+use measure::measure;
+ghost use Rattle.size.specs.Outcome.{Allowed};
 
 // The three numbers, or refusal 1 to 9.
 pub fn size(bytes: &[u8]) -> Sizing

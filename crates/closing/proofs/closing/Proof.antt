@@ -6,8 +6,8 @@ use Rattle.definitions.specs.Closing.{unfinished, after}
 use Rattle.fields.proofs.Laws.{told}
 use Rattle.laws.specs.Boards.{boardOf}
 use Rattle.opening.specs.Headers.{ints-is}
-use Rattle.size.specs.Said.{saidMeasured}
-use Rattle.size.specs.Told.{measured, not-measured}
+use Rattle.measure.specs.Said.{saidMeasured}
+use Rattle.measure.specs.Told.{measured, not-measured}
 use Rattle.slots.specs.Variables.{bounds-same}
 use Rattle.closing.proofs.Checked.{known-then, record-refused, closing-is}
 use Rattle.closing.proofs.closing.Statement.{statement}

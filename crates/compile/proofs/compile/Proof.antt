@@ -5,8 +5,8 @@ use native.Mathlib.Omega.{arith}
 use Rattle.fields.proofs.Laws.{told}
 use Rattle.laws.specs.Boards.{boardOf}
 use Rattle.laws.specs.Sizes.{K-is}
-use Rattle.size.specs.Said.{saidMeasured}
-use Rattle.size.specs.Told.{measured}
+use Rattle.measure.specs.Said.{saidMeasured}
+use Rattle.measure.specs.Told.{measured}
 use Rattle.compile.proofs.Compiled.{too-short, compiled, unmeasured}
 use Rattle.compile.proofs.compile.Statement.{statement}
 use Rattle.compile.proofs.compile.Tie as tie

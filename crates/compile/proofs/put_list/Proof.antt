@@ -12,7 +12,7 @@ use Rattle.laws.specs.Boards.{boardOf}
 use Rattle.laws.specs.Pieces.{piecesFrom}
 use Rattle.laws.specs.Written.{rest-length}
 use Rattle.opening.specs.Headers.{ints-is, bools-is, clauses-is, counts-small, rules-inside}
-use Rattle.size.proofs.Numbers.{known}
+use Rattle.measure.proofs.Numbers.{known}
 use Rattle.laws.specs.Filling.{Filling, begun, room-before, room, last}
 use Rattle.compile.specs.Lists.{axiomsFrom, piecesNumbers, whole-list}
 use Rattle.compile.proofs.Passes.{renamed}

@@ -2,8 +2,8 @@
 use borrow.Author.Needs.{needs}
 use mathlib.Core.Path.{ap}
 use Rattle.fields.proofs.Laws.{told}
-use Rattle.size.specs.Said.{saidMeasured}
-use Rattle.size.specs.Told.{Measures, measured, not-measured}
+use Rattle.measure.specs.Said.{saidMeasured}
+use Rattle.measure.specs.Told.{Measures, measured, not-measured}
 use Rattle.decode.specs.Decoded.{decode-is, decode-refused}
 use Rattle.decode.proofs.decode.Statement.{statement}
 use Rattle.decode.proofs.decode.Tie as tie

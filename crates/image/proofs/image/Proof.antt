@@ -2,8 +2,8 @@
 use mathlib.Core.Path.{_∙_, sym}
 use Rattle.fields.proofs.Laws.{told}
 use Rattle.laws.specs.Boards.{boardOf}
-use Rattle.size.specs.Said.{saidMeasured}
-use Rattle.size.specs.Told.{measured, not-measured}
+use Rattle.measure.specs.Said.{saidMeasured}
+use Rattle.measure.specs.Told.{measured, not-measured}
 use Rattle.judge.proofs.Bounded.{denied}
 use Rattle.image.proofs.Imaged.{to-write, image-not, image-refused, image-passed, image-written}
 use borrow.Author.Needs.{needs}

@@ -4,8 +4,8 @@ use borrow.Author.Needs.{needs}
 use Rattle.definitions.specs.Answers.{saidVerdict}
 use Rattle.fields.proofs.Laws.{told}
 use Rattle.laws.specs.Boards.{boardOf}
-use Rattle.size.specs.Said.{saidMeasured}
-use Rattle.size.specs.Told.{measured, not-measured}
+use Rattle.measure.specs.Said.{saidMeasured}
+use Rattle.measure.specs.Told.{measured, not-measured}
 use Rattle.judge.proofs.Judged.{judge-is, judge-not, long-enough}
 use Rattle.judge.proofs.judge.Statement.{statement}
 use Rattle.judge.proofs.judge.Tie as tie

@@ -1,6 +1,6 @@
 -- `size::size` meets its contract.
 use Rattle.fields.proofs.Laws.{told}
-use Rattle.size.specs.Said.{saidMeasured}
+use Rattle.measure.specs.Said.{saidMeasured}
 use Rattle.size.proofs.Answers.{sized, unsized}
 use borrow.Author.Needs.{needs}
 use Rattle.size.proofs.size.Statement.{statement}

@@ -11,7 +11,7 @@ use Rattle.reader.specs.Said.{contextOf}
 use Rattle.rules.specs.Cursors.{saidPiece, Sound, comingAt, todo}
 use Rattle.laws.specs.Filling.{Filling, begin, room-before, room, room-for, next, part, ended}
 use Rattle.compile.specs.Lists.{pieceNumbers, piecesNumbers}
-use Rattle.size.proofs.Shares.{start-sound, start-coming}
+use Rattle.measure.proofs.Shares.{start-sound, start-coming}
 use Rattle.compile.proofs.Passes.{meets, passes, ends}
 use Rattle.compile.proofs.pieces.put_pieces.Statement.{statement}
 use Rattle.compile.proofs.pieces.put_pieces.Tie as tie

@@ -3,7 +3,7 @@ use Rattle.decode.proofs.pieces.passed.Statement.{statement}
 use Rattle.decode.proofs.pieces.passed.Tie as tie
 use Rattle.decode.proofs.pieces.passed.Reads as reads
 use Rattle.decode.proofs.pieces.passed.Lts as lts
-use Rattle.size.proofs.count.tuples_of.Reads as tuples-of-reads
+use Rattle.measure.proofs.count.tuples_of.Reads as tuples-of-reads
 
 tuples-of-requires : tie.Need-tuples-of-requires
 tuples-of-requires c κs = search needs

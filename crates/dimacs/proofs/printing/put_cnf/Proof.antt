@@ -6,9 +6,9 @@ use lib.ListN.{length}
 use Rattle.definitions.specs.Dimacs.{ascii}
 use Rattle.laws.specs.Written.{rest-length}
 use Rattle.laws.specs.Filling.{Filling, begun, room-before, room, last}
-use Rattle.dimacs.specs.Lines.{line}
-use Rattle.dimacs.specs.Entries.{entries}
-use Rattle.dimacs.specs.Shown.{cnf, line-length, cnf-length}
+use Rattle.text.specs.Lines.{line, line-length}
+use Rattle.text.specs.Entries.{entries}
+use Rattle.dimacs.specs.Shown.{cnf, cnf-length}
 use Rattle.dimacs.proofs.printing.put_cnf.Statement.{statement}
 use Rattle.dimacs.proofs.printing.put_cnf.Tie as tie
 

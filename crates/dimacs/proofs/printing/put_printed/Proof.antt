@@ -5,8 +5,8 @@ use lib.ListN.{replicate}
 use lib.IntN.{pos}
 use Rattle.definitions.specs.Answers.{saidSizing}
 use Rattle.definitions.specs.Dimacs.{shown}
-use Rattle.dimacs.specs.Lines.{put-counts, retold}
-use Rattle.dimacs.specs.Shown.{listed-fits, printed-is}
+use Rattle.text.specs.Puts.{retold}
+use Rattle.dimacs.specs.Shown.{listed-fits, put-counts, printed-is}
 use Rattle.dimacs.proofs.printing.put_printed.Statement.{statement}
 use Rattle.dimacs.proofs.printing.put_printed.Tie as tie
 

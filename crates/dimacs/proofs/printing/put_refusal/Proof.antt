@@ -3,8 +3,8 @@ use borrow.Author.Needs.{needs}
 use mathlib.Core.Path.{ap₂}
 use native.Mathlib.Omega.{arith}
 use Rattle.definitions.specs.Dimacs.{ascii}
-use Rattle.dimacs.specs.Lines.{line, retold}
-use Rattle.dimacs.specs.Shown.{line-length}
+use Rattle.text.specs.Puts.{retold}
+use Rattle.text.specs.Lines.{line, line-length}
 use Rattle.dimacs.proofs.printing.put_refusal.Statement.{statement}
 use Rattle.dimacs.proofs.printing.put_refusal.Tie as tie
 

@@ -6,7 +6,7 @@ use lib.ListN.{length, take}
 use lib.Seq.{length-take-le}
 use Rattle.definitions.specs.Answers.{saidSizing}
 use Rattle.definitions.specs.Dimacs.{shown}
-use Rattle.dimacs.specs.Lines.{retold}
+use Rattle.text.specs.Puts.{retold}
 use Rattle.dimacs.specs.Shown.{listed, shown-done, shown-refused}
 use Rattle.dimacs.proofs.printing.put_shown.Statement.{statement}
 use Rattle.dimacs.proofs.printing.put_shown.Tie as tie

@@ -6,7 +6,7 @@ use lib.ListN.{length}
 use borrow.Author.Needs.{needs}
 use Rattle.definitions.specs.Meaning.{assigned}
 use Rattle.opening.specs.Headers.{clauses-is, counts-small, rules-inside}
-use Rattle.size.proofs.Numbers.{known}
+use Rattle.measure.proofs.Numbers.{known}
 use Rattle.image.proofs.Selections.{start, all-led, all-written}
 use Rattle.image.proofs.selectors.put_selectors.Statement.{statement}
 use Rattle.image.proofs.selectors.put_selectors.Tie as tie

@@ -1,0 +1,5 @@
+pub mod Places
+pub mod Shares
+pub mod Said
+pub mod Outcome
+pub mod Told
