@@ -25,9 +25,8 @@ use Rattle.rules.specs.Cursors.{atStart, comingAt, Sound}
 use Rattle.walk.specs.declared.Comparison.{Comparison}
 use Rattle.walk.specs.declared.Walk.{Walk}
 use Rattle.walk.specs.declared.At.{At}
-use Rattle.walk.specs.Comparisons.{Walking, toCome, present, literalsOf, none-left}
-use Rattle.walk.specs.Walks.{places, left, seen, Over}
-use Rattle.walk.specs.Rows.{rowOf, rowed, row-some}
+use Rattle.walk.specs.Comparisons.{Walking, toCome, literalsOf, none-left}
+use Rattle.walk.specs.Rows.{rowClauses, After, row-some}
 use Rattle.opening.specs.Headers.{Opened, clauses-is, admitted}
 use Rattle.decode.specs.declared.Checked.{Checked}
 use Rattle.decode.specs.Truth.{trueTail, trueClause, tests}
@@ -106,13 +105,13 @@ module _ {B : Board} {model t : List ℕ} {i n : ℕ} {q : Comparison} {at : At}
     pub walks-at : Walking q (At.Tuple w)
     walks-at = rw e at (h .walking)
 
-    -- the literals of the present tuple's row
+    -- the clauses of the present row
     abbrev row : List (List ℤ)
-    row = map (present q) (rowOf w)
+    row = rowClauses q w
 
-    module _ (r : At) (o : Over (places w) r × (left (At.Tuple w) ≡ map seen (rowOf w) ++ left r)) where
+    module _ (r : At) (o : After q w r) where
       onward : Walking q r × (toCome q at ≡ row ++ toCome q r)
-      onward = rw e (rowed q w r walks-at o)
+      onward = rw e o
 
       split : map (trueTail model) (toCome q at) ++ testsAt B model t c ≡ map (trueTail model) row ++ (map (trueTail model) (toCome q r) ++ testsAt B model t c)
       split =
@@ -130,9 +129,9 @@ module _ {B : Board} {model t : List ℕ} {i n : ℕ} {q : Comparison} {at : At}
       walks-less = omega (arith, ap length (onward .1), length-append row (toCome q r), row-some q w)
 
       -- its last number is one of the rules' clauses
-      pub walks-room : n + length (rowOf w) ≤ i + length (ruleTests B model)
+      pub walks-room : n + length row ≤ i + length (ruleTests B model)
       walks-room =
-          omega (arith, h .goes .count, ap length split, length-append (map (trueTail model) row) (map (trueTail model) (toCome q r) ++ testsAt B model t c), length-map row (trueTail model), length-map (rowOf w) (present q))
+          omega (arith, h .goes .count, ap length split, length-append (map (trueTail model) row) (map (trueTail model) (toCome q r) ++ testsAt B model t c), length-map row (trueTail model))
 
       -- what was found in the row
       module _ {a : Checked} (s : Sought n (map (trueTail model) row) a) where

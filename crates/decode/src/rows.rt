@@ -19,7 +19,7 @@ ghost use lib.IntN.{pos, natAbs};
 ghost use Rattle.definitions.specs.Tools.{All};
 ghost use Rattle.laws.specs.Mentions.{InList};
 ghost use Rattle.walk.specs.Comparisons.{FairComparison, Walking, present};
-ghost use Rattle.walk.specs.Rows.{Steady, frontOf, rowFrom, rowOf};
+ghost use Rattle.walk.specs.Rows.{Steady, frontOf, rowFrom, rowClauses};
 ghost use Rattle.decode.specs.Goes.{Sought};
 ghost use Rattle.decode.specs.Truth.{trueTail};
 
@@ -67,8 +67,8 @@ fn front_holds(model: &[u8], tails: Comparison, tuple: Walk) -> bool
 
 // The clauses of the present tuple's row. The literal of the first of three terms stays along it: where it holds, so do all.
 pub fn search_row(model: &[u8], tails: Comparison, tuple: Walk, number: usize) -> Checked
-    requires { ⌜ FairComparison tails × Walking tails (At.Tuple tuple) × All (All (InList (length (now model)))) (map (present tails) (rowOf tuple)) × (length (now model) < 2147483648) × (number + length (rowOf tuple) < 9223372036854775808) ⌝ }
-    ensures { λ r. ⌜ Sought number (map (trueTail (now (model .entry))) (map (present tails) (rowOf tuple))) r ⌝ }
+    requires { ⌜ FairComparison tails × Walking tails (At.Tuple tuple) × All (All (InList (length (now model)))) (rowClauses tails tuple) × (length (now model) < 2147483648) × (number + length (rowClauses tails tuple) < 9223372036854775808) ⌝ }
+    ensures { λ r. ⌜ Sought number (map (trueTail (now (model .entry))) (rowClauses tails tuple)) r ⌝ }
 {
     let n = tails.n;
     if n < 2 {

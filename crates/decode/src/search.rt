@@ -90,7 +90,7 @@ fn search_rules(
             let At::Tuple(tuple) = here else {
                 break;
             };
-            let onward = after_row(tuple);
+            let onward = after_row(tails, tuple);
             match search_row(model, tails, tuple, number) {
                 Checked::Fails(failing) => {
                     break 'search Found::At(failing);

@@ -20,8 +20,8 @@ use Rattle.walk.specs.declared.At.{At}
 use Rattle.walk.specs.declared.At.the-variants.{Tuple, End}
 use Rattle.walk.specs.Slots.{FairSlot, slotBounds, orderNumber, slotLiteral}
 use Rattle.walk.specs.Walks.{places, moved, blank, seen, left, Fine, Over}
-use Rattle.walk.specs.Comparisons.{slotsOf, FairComparison, Walking, paddedRanges, placed, present, present-length, walking-fine}
-use Rattle.walk.specs.Rows.{along, run, rowLength, rowOf, slotAt, offsetAt, Holds, Steady, raised, lowered, rowFrom, frontOf}
+use Rattle.walk.specs.Comparisons.{slotsOf, FairComparison, Walking, paddedRanges, placed, literalsAt, present, toCome, present-length, walking-fine}
+use Rattle.walk.specs.Rows.{along, run, rowLength, rowOf, rowClauses, After, slotAt, offsetAt, Holds, Steady, raised, lowered, rowFrom, frontOf}
 use Rattle.walk.proofs.Moves.{move-second}
 use Rattle.walk.proofs.Slots.{floor-inside, ceil-inside, number-small, literal-rising, literal-falling}
 use Rattle.walk.proofs.Padding.{no-place, slot-fair, range-none, padded-length, low-is, bound-inside, literal-read}
@@ -70,11 +70,20 @@ module _ (w : Walk) (f : All Fine (places w)) where
       let z : 0 + m ≡ m = omega arith in
       ap (λ v. left (Tuple v)) (sym (along-none w)) ∙ run-left 0 m r z (rw (← z) at l)
 
--- a walk from there is one from here
-pub over-along : (w : Walk) (i : ℕ) (r : At) → Over (places (along w i)) r → Over (places w) r
-unfolding Over
-over-along w i (Tuple v) o = o
-over-along w i End o = tt
+-- what comes after the row's last tuple comes after the row
+pub behind : (c : Comparison) (w : Walk) (o : Walking c (Tuple w)) (i : ℕ) → i ≡ min (w .b .w - w .b .k) (w .c .k) → (r : At)
+    → Over (places (along w i)) r × (left (Tuple (along w i)) ≡ seen (along w i) ∷ left r) → After c w r
+unfolding Walking Over toCome present rowClauses
+behind c w o i e r n = (
+  onward r (n .0),
+  ap (map (literalsAt c)) (row-left w (o .0) r (subst (λ j. left (Tuple (along w j)) ≡ seen (along w j) ∷ left r) e (n .1)))
+      ∙ map-append (literalsAt c) (map seen (rowOf w)) (left r)
+      ∙ ap (λ l. l ++ map (literalsAt c) (left r)) (map-map (literalsAt c) seen (rowOf w)),
+)
+  where
+    onward : (r : At) → Over (places (along w i)) r → Walking c r
+    onward (Tuple v) k = (k .0, k .1 ∙ o .1)
+    onward End k = tt
 
 -- ---- literals
 one-left : (b c i : ℕ) → suc i ≤ min b c → 1 ≤ c - i
@@ -164,7 +173,8 @@ module _ (c : Comparison) (f : FairComparison c) (two : 2 ≤ c .n) where
 
   -- the row of the present tuple, from what is said of its last two terms
   pub row-literals : (w : Walk) → Walking c (Tuple w) → (y z : Spot) → Holds (slotAt c (c .n - 2)) (offsetAt c w (c .n - 2)) y → Holds (slotAt c (c .n - 1)) (offsetAt c w (c .n - 1)) z
-      → map (present c) (rowOf w) ≡ rowFrom (frontOf (c .n - 2) (getD (present c w) 0 (pos 0))) y z (rowLength w)
+      → rowClauses c w ≡ rowFrom (frontOf (c .n - 2) (getD (present c w) 0 (pos 0))) y z (rowLength w)
+  unfolding rowClauses
   row-literals w o y z hy hz =
       let m = min (w .b .w - w .b .k) (w .c .k) in
       let eb : w .b .k + 0 ≡ w .b .k = omega arith in
@@ -174,8 +184,8 @@ module _ (c : Comparison) (f : FairComparison c) (two : 2 ≤ c .n) where
       (subst (λ k. Holds (slotAt c (c .n - 1)) k z) (offset-c w o ∙ sym ec) hz)
 
 -- with fewer than two terms a row has one tuple
-pub row-single : (c : Comparison) → FairComparison c → (w : Walk) → Walking c (Tuple w) → c .n < 2 → map (present c) (rowOf w) ≡ present c w ∷ []
-unfolding run Walking Over
+pub row-single : (c : Comparison) → FairComparison c → (w : Walk) → Walking c (Tuple w) → c .n < 2 → rowClauses c w ≡ present c w ∷ []
+unfolding run Walking Over rowClauses
 row-single c f w o h =
     let none : w .b .w ≡ 0 =
     ap (λ l. getD l 1 (blank no-place) .w) (o .1 ∙ map-map blank placed (paddedRanges c))

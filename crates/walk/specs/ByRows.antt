@@ -1,9 +1,9 @@
 -- What a walk by rows is spared: the last bound follows from the others, and every step is a tuple. Assumes nothing.
-use mathlib.Core.Path.{_≡_, refl, sym, ap, ap₂, _∙_}
+use mathlib.Core.Path.{_≡_, sym, ap, _∙_}
 use mathlib.Core.List.{List, [], _∷_, _++_, map, flatten, zipWith}
 use Prim.Native.Nat.{ℕ, zero, suc, min, _+_, _-_, _≤_}
 use native.Mathlib.Omega.{arith}
-use lib.ListN.{length, length-map, length-append}
+use lib.ListN.{length, length-append}
 use lib.IntN.{ℤ, pos, _+ℤ_, _-ℤ_}
 use lib.Signed.{_≤ℤ_}
 use Rattle.definitions.specs.Tools.{sum, size}
@@ -17,9 +17,8 @@ use Rattle.walk.specs.declared.Comparison.{Comparison}
 use Rattle.walk.specs.declared.Walk.{Walk}
 use Rattle.walk.specs.declared.At.{At}
 use Rattle.walk.specs.declared.At.the-variants.{Tuple, End}
-use Rattle.walk.specs.Walks.{places, seen, left, Over}
-use Rattle.walk.specs.Comparisons.{Walking, present, toCome, literalsOf, none-left}
-use Rattle.walk.specs.Rows.{run, rowLength, rowOf, rowed}
+use Rattle.walk.specs.Comparisons.{Walking, toCome, literalsOf, none-left}
+use Rattle.walk.specs.Rows.{rowLength, rowClauses, After, row-size}
 
 -- ---- the last bound is what the others leave of the sum: it is never tried
 one-offset : (w t : ℕ) → t ≤ w → offsets (w ∷ []) t ≡ (t ∷ []) ∷ []
@@ -41,39 +40,25 @@ last-bound r s l u =
     ∙ ap (λ b. (b ∷ []) ∷ []) e
 
 -- ---- every step is a tuple
--- what `after_row` ensures: r stands behind the row of w
-abbrev pub After : Walk → At → Type 0
-After w r = Over (places w) r × (left (Tuple w) ≡ map seen (rowOf w) ++ left r)
-
--- from `cur` on the rows of these tuples come one after another, and then the end
-unfoldable pub ByRows : List Walk → At → Type 0
-ByRows [] cur = cur ≡ End
-ByRows (w ∷ ws) cur = (cur ≡ Tuple w) × ((r : At) × (After w r × ByRows ws r))
-
--- a row's loop has a step for each of its tuples
-run-length : (w : Walk) (i n : ℕ) → length (run w i n) ≡ n
-unfolding run
-run-length w i zero = refl
-run-length w i (suc n) = ap suc (run-length w (suc i) n)
-
 module _ (c : Comparison) where
-  -- the rows are all tuples to come, each once and in their order
-  pub rows-are-all : (ws : List Walk) (cur : At) → Walking c cur → ByRows ws cur → toCome c cur ≡ flatten (map (λ w. map (present c) (rowOf w)) ws)
-  unfolding ByRows flatten
-  rows-are-all [] cur o e = ap (toCome c) e ∙ none-left c
-  rows-are-all (w ∷ ws) cur o (e, (r, (a, h))) =
-      let k = rowed c w r (rw e at o) a in
-      ap (toCome c) e ∙ k .1 ∙ ap (λ l. map (present c) (rowOf w) ++ l) (rows-are-all ws r (k .0) h)
+  -- from `cur` on the rows of these tuples come one after another, and then the end
+  unfoldable pub ByRows : List Walk → At → Type 0
+  ByRows [] cur = cur ≡ End
+  ByRows (w ∷ ws) cur = (cur ≡ Tuple w) × ((r : At) × (After c w r × ByRows ws r))
 
-  -- so the steps of all rows are as many as the tuples
-  pub steps-are-tuples : (ws : List Walk) (cur : At) → Walking c cur → ByRows ws cur → sum (map rowLength ws) ≡ length (toCome c cur)
+  -- the rows are all clauses to come, each once and in their order
+  pub rows-are-all : (ws : List Walk) (cur : At) → ByRows ws cur → toCome c cur ≡ flatten (map (rowClauses c) ws)
+  unfolding ByRows flatten
+  rows-are-all [] cur e = ap (toCome c) e ∙ none-left c
+  rows-are-all (w ∷ ws) cur (e, (r, (a, h))) = ap (toCome c) e ∙ a .1 ∙ ap (λ l. rowClauses c w ++ l) (rows-are-all ws r h)
+
+  -- a row's loop has a step for each of its tuples: the steps of all rows are as many as the clauses
+  pub steps-are-tuples : (ws : List Walk) (cur : At) → ByRows ws cur → sum (map rowLength ws) ≡ length (toCome c cur)
   unfolding ByRows
-  steps-are-tuples [] cur o e = sym (ap length (ap (toCome c) e ∙ none-left c))
-  steps-are-tuples (w ∷ ws) cur o (e, (r, (a, h))) =
-      let k = rowed c w r (rw e at o) a in
-      sym (ap (λ z. length (toCome c z)) e ∙ ap length (k .1) ∙ length-append (map (present c) (rowOf w)) (toCome c r)
-      ∙ ap₂ _+_ (length-map (rowOf w) (present c) ∙ run-length w 0 (rowLength w)) (sym (steps-are-tuples ws r (k .0) h)))
+  steps-are-tuples [] cur e = sym (ap length (ap (toCome c) e ∙ none-left c))
+  steps-are-tuples (w ∷ ws) cur (e, (r, (a, h))) =
+      omega (arith, ap (λ z. length (toCome c z)) e, ap length (a .1), length-append (rowClauses c w) (toCome c r), row-size c w, steps-are-tuples ws r h)
 
   -- of a whole walk: as many steps as 01 has clauses for the comparison
   pub walk-steps : (ws : List Walk) (cur : At) → Walking c cur × (toCome c cur ≡ literalsOf c) → ByRows ws cur → sum (map rowLength ws) ≡ length (literalsOf c)
-  walk-steps ws cur s h = steps-are-tuples ws cur (s .0) h ∙ ap length (s .1)
+  walk-steps ws cur s h = steps-are-tuples ws cur h ∙ ap length (s .1)

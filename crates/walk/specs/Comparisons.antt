@@ -82,13 +82,6 @@ module _ (c : Comparison) (w : Walk) where
   unfolding Walking Over
   walking-fine o = o .0
 
-  -- from what `next` ensures
-  pub stepped : (r : At) → Walking c (Tuple w) → Over (places w) r × (left (Tuple w) ≡ seen w ∷ left r)
-      → Walking c r × (toCome c (Tuple w) ≡ present c w ∷ toCome c r)
-  unfolding Walking Over toCome present
-  stepped (Tuple v) o n = ((n .0 .0, n .0 .1 ∙ o .1), ap (map (literalsAt c)) (n .1))
-  stepped End o n = (tt, ap (map (literalsAt c)) (n .1))
-
   pub present-length : FairComparison c → length (present c w) ≡ c .n
   unfolding present literalsAt seen zipWith
   present-length f = zip-length (slotsOf c) (drop (3 - c .n) (seen w)) (omega (arith, f .counted, f .few, length-drop (3 - c .n) (seen w)))

@@ -1,19 +1,19 @@
 -- Rows: tuples one after another that differ in the last two places alone, and the literals along them. Assumes nothing.
 use mathlib.Core.Path.{_≡_, refl, ap, _∙_}
-use mathlib.Core.List.{List, [], _∷_, _++_, map, map-map, map-append}
+use mathlib.Core.List.{List, [], _∷_, _++_, map}
 use Prim.Native.Nat.{ℕ, zero, suc, min, _+_, _-_, _*_, _≤_, _<_}
 use native.Mathlib.Omega.{arith}
-use lib.ListN.{length, getD}
+use lib.ListN.{length, getD, length-map}
 use lib.IntN.{ℤ, pos, natAbs, _+ℤ_, _-ℤ_}
 use Rattle.walk.specs.declared.Slot.{Slot}
 use Rattle.walk.specs.declared.Spot.{Spot}
 use Rattle.walk.specs.declared.Comparison.{Comparison}
 use Rattle.walk.specs.declared.Walk.{Walk}
 use Rattle.walk.specs.declared.At.{At}
-use Rattle.walk.specs.declared.At.the-variants.{Tuple, End}
+use Rattle.walk.specs.declared.At.the-variants.{Tuple}
 use Rattle.walk.specs.Slots.{slotBounds, slotLiteral}
-use Rattle.walk.specs.Walks.{places, moved, seen, left, Over}
-use Rattle.walk.specs.Comparisons.{Walking, present, literalsAt, toCome}
+use Rattle.walk.specs.Walks.{places, moved}
+use Rattle.walk.specs.Comparisons.{Walking, present, toCome}
 
 -- ---- the tuples of a row
 -- i tuples on: the last place holds i less, the one before it i more
@@ -31,6 +31,14 @@ rowLength w = suc (min (w .b .w - w .b .k) (w .c .k))
 -- these tuples
 abbrev pub rowOf : Walk → List Walk
 rowOf w = run w 0 (rowLength w)
+
+-- their clauses, each as its literals
+unfoldable pub rowClauses : Comparison → Walk → List (List ℤ)
+rowClauses c w = map (present c) (rowOf w)
+
+-- r stands behind the row of w
+abbrev pub After : Comparison → Walk → At → Type 0
+After c w r = Walking c r × (toCome c (Tuple w) ≡ rowClauses c w ++ toCome c r)
 
 -- ---- a literal along a row
 -- r more than k is a multiple of d, and none lies between
@@ -107,16 +115,16 @@ module _ (fixed : List ℤ) (y z : Spot) where
   row-next (suc n) h = let e : n ≡ suc n - 1 = omega arith in ap (λ m. (fixed ++ (y .literal ∷ z .literal ∷ [])) ∷ rowFrom fixed (raised y) (lowered z) m) e
 
 -- ---- what a row shows
--- from what `after_row` ensures
-pub rowed : (c : Comparison) (w : Walk) (r : At) → Walking c (Tuple w) → Over (places w) r × (left (Tuple w) ≡ map seen (rowOf w) ++ left r)
-    → Walking c r × (toCome c (Tuple w) ≡ map (present c) (rowOf w) ++ toCome c r)
-unfolding Walking Over toCome present
-rowed c w r o n = (onward r (n .0), ap (map (literalsAt c)) (n .1) ∙ map-append (literalsAt c) (map seen (rowOf w)) (left r) ∙ ap (λ l. l ++ map (literalsAt c) (left r)) (map-map (literalsAt c) seen (rowOf w)))
-  where
-    onward : (r : At) → Over (places w) r → Walking c r
-    onward (Tuple v) k = (k .0, k .1 ∙ o .1)
-    onward End k = tt
-
-pub row-some : (c : Comparison) (w : Walk) → 0 < length (map (present c) (rowOf w))
+run-length : (w : Walk) (i n : ℕ) → length (run w i n) ≡ n
 unfolding run
-row-some c w = omega arith
+run-length w i zero = refl
+run-length w i (suc n) = ap suc (run-length w (suc i) n)
+
+module _ (c : Comparison) (w : Walk) where
+  -- a clause for each tuple
+  pub row-size : length (rowClauses c w) ≡ rowLength w
+  unfolding rowClauses
+  row-size = length-map (rowOf w) (present c) ∙ run-length w 0 (rowLength w)
+
+  pub row-some : 0 < length (rowClauses c w)
+  row-some = omega (arith, row-size)

@@ -8,13 +8,13 @@ use crate::tuples::literal_at;
 use crate::tuples::next;
 use crate::tuples::room;
 ghost use mathlib.Core.Path.{_≡_};
-ghost use mathlib.Core.List.{_++_, map};
+ghost use mathlib.Core.List.{_++_};
 ghost use Prim.Native.Nat.{_+_, _-_, _≤_, _<_};
 ghost use lib.IntN.{natAbs};
 ghost use Rattle.definitions.specs.Tools.{All};
-ghost use Rattle.walk.specs.Comparisons.{FairComparison, Walking};
-ghost use Rattle.walk.specs.Walks.{places, seen, left, Fine, Over};
-ghost use Rattle.walk.specs.Rows.{rowLength, rowOf, Rest, slotAt, offsetAt, Holds, Steady, raised, lowered};
+ghost use Rattle.walk.specs.Comparisons.{FairComparison, Walking, toCome};
+ghost use Rattle.walk.specs.Walks.{places, Fine};
+ghost use Rattle.walk.specs.Rows.{rowLength, rowClauses, Rest, slotAt, offsetAt, Holds, Steady, raised, lowered};
 
 // How many tuples the row has from the present one on.
 pub fn row_length(w: Walk) -> u32
@@ -26,18 +26,18 @@ pub fn row_length(w: Walk) -> u32
     room(b, c.k) + 1
 }
 
-// The tuple after the present one's row.
-pub fn after_row(w: Walk) -> At
-    requires { ⌜ All Fine (places w) ⌝ }
-    ensures { λ r. ⌜ Over (places w) r × (left (At.Tuple w) ≡ map seen (rowOf w) ++ left r) ⌝ }
+// Behind the present tuple's row: what was to come is the row's clauses, and what is to come then.
+pub fn after_row(c: Comparison, w: Walk) -> At
+    requires { ⌜ Walking c (At.Tuple w) ⌝ }
+    ensures { λ r. ⌜ Walking c r × (toCome c (At.Tuple w) ≡ rowClauses c w ++ toCome c r) ⌝ }
 {
     let a = w.a;
     let mut b = w.b;
-    let mut c = w.c;
-    let k = room(b, c.k);
+    let mut z = w.c;
+    let k = room(b, z.k);
     b.k += k;
-    c.k -= k;
-    next(Walk { a: a, b: b, c: c })
+    z.k -= k;
+    next(Walk { a: a, b: b, c: z })
 }
 
 // How far it is from k to the next multiple of d.

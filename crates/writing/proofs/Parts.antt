@@ -14,8 +14,8 @@ use Rattle.walk.specs.declared.Walk.{Walk}
 use Rattle.walk.specs.declared.At.{At}
 use Rattle.walk.specs.declared.At.the-variants.{Tuple, End}
 use Rattle.walk.specs.declared.Spot.{Spot}
-use Rattle.walk.specs.Rows.{rowOf, raised, lowered, rowFrom, row-none, row-next}
-use Rattle.walk.specs.Comparisons.{present, toCome, none-left}
+use Rattle.walk.specs.Rows.{rowClauses, raised, lowered, rowFrom, row-none, row-next}
+use Rattle.walk.specs.Comparisons.{toCome, none-left}
 use Rattle.writing.specs.Signs.{plus-is, minus-is}
 use Rattle.writing.specs.Numbers.{clause, flat, leadOf, led, unit, clause-led, led-none, led-more}
 use Rattle.writing.specs.Axioms.{stepsFrom, axiomNumbers}
@@ -95,5 +95,5 @@ module _ (c : Comparison) (lead : ℤ) (cur : At) where
   led-end q = ap (led lead) (ap (toCome c) q ∙ none-left c) ∙ led-none lead
 
   -- a row, and then the rest
-  pub led-on : (w : Walk) → cur ≡ Tuple w → (rest : List (List ℤ)) → toCome c (Tuple w) ≡ map (present c) (rowOf w) ++ rest → led lead (toCome c cur) ≡ led lead (map (present c) (rowOf w)) ++ led lead rest
-  led-on w q rest e = ap (led lead) (ap (toCome c) q ∙ e) ∙ led-append lead (map (present c) (rowOf w)) rest
+  pub led-on : (w : Walk) → cur ≡ Tuple w → (rest : List (List ℤ)) → toCome c (Tuple w) ≡ rowClauses c w ++ rest → led lead (toCome c cur) ≡ led lead (rowClauses c w) ++ led lead rest
+  led-on w q rest e = ap (led lead) (ap (toCome c) q ∙ e) ∙ led-append lead (rowClauses c w) rest

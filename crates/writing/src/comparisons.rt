@@ -1,12 +1,12 @@
 // A comparison's clauses, each led by the same literal: a negated selector's number, or none (0).
 ghost use mathlib.Core.Path.{_≡_};
 ghost use Prim.Native.Nat.{_-_, _≤_};
-ghost use mathlib.Core.List.{_++_, map};
+ghost use mathlib.Core.List.{_++_};
 ghost use lib.ListN.{length, getD};
 ghost use lib.IntN.{pos};
 ghost use Rattle.laws.specs.Written.{written};
 ghost use Rattle.walk.specs.Comparisons.{FairComparison, Walking, literalsOf, present};
-ghost use Rattle.walk.specs.Rows.{frontOf, rowOf};
+ghost use Rattle.walk.specs.Rows.{frontOf, rowClauses};
 ghost use Rattle.writing.specs.Numbers.{clause, leadOf, led, underLead};
 use crate::rows::put_row;
 use walk::At;
@@ -65,8 +65,8 @@ fn front_at(c: Comparison, w: Walk) -> i32
 
 // A clause for each tuple of the present one's row.
 fn put_run(c: Comparison, lead: i32, w: Walk, list: &mut [i32]) -> usize
-    requires { ⌜ FairComparison c × Walking c (At.Tuple w) × (length (led lead (map (present c) (rowOf w))) ≤ length (now list)) ⌝ }
-    ensures { λ r. ⌜ (r ≡ length (led lead (map (present c) (rowOf w)))) × (now (list .exit) ≡ written (led lead (map (present c) (rowOf w))) (now (list .entry))) ⌝ }
+    requires { ⌜ FairComparison c × Walking c (At.Tuple w) × (length (led lead (rowClauses c w)) ≤ length (now list)) ⌝ }
+    ensures { λ r. ⌜ (r ≡ length (led lead (rowClauses c w))) × (now (list .exit) ≡ written (led lead (rowClauses c w)) (now (list .entry))) ⌝ }
 {
     let n = c.n;
     if n < 2 {
@@ -90,7 +90,7 @@ fn put_tuples(c: Comparison, lead: i32, list: &mut [i32]) -> usize
         let At::Tuple(w) = tuple else {
             break;
         };
-        let onward = after_row(w);
+        let onward = after_row(c, w);
         at += put_run(c, lead, w, &mut list[at..]);
         tuple = onward;
     }

@@ -2,14 +2,14 @@
 use borrow.Author.Needs.{needs}
 use mathlib.Core.Path.{_≡_, refl, sym, ap, _∙_}
 use mathlib.Core.Bool.{true, false}
-use mathlib.Core.List.{List, [], _∷_, map}
+use mathlib.Core.List.{List, [], _∷_}
 use Prim.Native.Nat.{ℕ, _+_, _-_, _≤_, _<_}
 use native.Mathlib.Omega.{arith}
-use lib.ListN.{length, getD, length-map}
+use lib.ListN.{length, getD}
 use lib.IntN.{ℤ, pos, natAbs}
 use Rattle.walk.specs.declared.Spot.{Spot}
 use Rattle.walk.specs.Comparisons.{present, walking-fine}
-use Rattle.walk.specs.Rows.{slotAt, offsetAt, Holds, Steady, frontOf, rowOf, rowFrom, row-count}
+use Rattle.walk.specs.Rows.{slotAt, offsetAt, Holds, Steady, frontOf, rowClauses, rowFrom, row-count}
 use Rattle.walk.proofs.Runs.{row-literals, row-single, spot-ready}
 use Rattle.decode.specs.Truth.{trueTail}
 use Rattle.decode.specs.Goes.{goes-start, goes-one, goes-stop, goes-end}
@@ -18,7 +18,7 @@ use Rattle.decode.proofs.rows.search_row.Statement.{statement}
 use Rattle.decode.proofs.rows.search_row.Tie as tie
 
 -- a row of one tuple
-single : (s : tie.Start) → s .args .tails .n < 2 → map (present (s .args .tails)) (rowOf (s .args .tuple)) ≡ present (s .args .tails) (s .args .tuple) ∷ []
+single : (s : tie.Start) → s .args .tails .n < 2 → rowClauses (s .args .tails) (s .args .tuple) ≡ present (s .args .tails) (s .args .tuple) ∷ []
 single s h = row-single (s .args .tails) (s .pre .0) (s .args .tuple) (s .pre .1) h
 
 -- the literals along the row are stepped from those of the present tuple
@@ -44,7 +44,7 @@ module _ (c : tie.After-spot-at2) where
   two : 2 ≤ n
   two = omega (arith, c .before .before .before .if1 .left)
 
-  same : map (present (s .args .tails)) (rowOf (s .args .tuple)) ≡ rowFrom fixed y z count
+  same : rowClauses (s .args .tails) (s .args .tuple) ≡ rowFrom fixed y z count
   same =
       row-literals (s .args .tails) (s .pre .0) two (s .args .tuple) (s .pre .1) y z (c .before .spot-at .ensures) (c .spot-at2 .ensures)
       ∙ ap (rowFrom fixed y z) (sym (c .before .before .row-length .ensures))
@@ -53,7 +53,7 @@ module _ (c : tie.After-spot-at2) where
   some = omega (arith, c .before .before .row-length .ensures)
 
   room : s .args .number + count < 9223372036854775808
-  room = omega (arith, s .pre .4, ap length same, length-map (rowOf (s .args .tuple)) (present (s .args .tails)), row-count fixed y z count)
+  room = omega (arith, s .pre .4, ap length same, row-count fixed y z count)
 
   ready : (i : ℕ) → i < n → (p : Spot) → Holds (slotAt (s .args .tails) i) (offsetAt (s .args .tails) (s .args .tuple) i) p → Steady p × (natAbs (p .literal) + count ≤ 40000000)
   ready i h p e = rw (c .before .before .row-length .ensures) (spot-ready (s .args .tails) (s .pre .0) two (s .args .tuple) (s .pre .1) i h p e)

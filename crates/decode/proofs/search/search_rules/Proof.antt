@@ -10,7 +10,7 @@ use Rattle.laws.specs.Reread as reread
 use Rattle.reader.specs.Said.{contextOf}
 use Rattle.rules.specs.Cursors.{todo}
 use Rattle.walk.specs.declared.At.{At}
-use Rattle.walk.specs.Comparisons.{toCome, walking-fine}
+use Rattle.walk.specs.Comparisons.{toCome}
 use Rattle.opening.specs.Headers.{context-is, counts-small}
 use Rattle.decode.specs.Given.{short}
 use Rattle.decode.specs.Next.{Came, Comes, came-met, came-none}
@@ -110,7 +110,7 @@ enum-told-2 : tie.Need-enum-told-2 Inv-loop μ-loop Inv-search μ-search
 enum-told-2 c = search needs
 
 after-row-requires : tie.Need-after-row-requires Inv-loop μ-loop Inv-search μ-search
-after-row-requires c κs = let h = c .before in walking-fine _ _ (walks-at (walks h) (h .here .given .1))
+after-row-requires c κs = let h = c .before in walks-at (walks h) (h .here .given .1)
 
 search-row-requires : tie.Need-search-row-requires Inv-loop μ-loop Inv-search μ-search
 search-row-requires c κs = let h = c .before .before in let w = walks h in let s = started (piece h) in (h .before .before .before .before .before .tails-of .ensures .fair, walks-at w (h .here .given .1), walks-numbered w (h .here .given .1) _ (c .after-row .ensures), short (s .pre .0), omega (arith, walks-room w (h .here .given .1) _ (c .after-row .ensures), s .pre .5))

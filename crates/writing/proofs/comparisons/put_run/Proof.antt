@@ -1,6 +1,5 @@
 -- `writing::comparisons::put_run` meets its contract.
 use mathlib.Core.Path.{_≡_, sym, ap, ap₂, _∙_}
-use mathlib.Core.List.{map}
 use Prim.Native.Nat.{ℕ, _+_, _-_, _≤_, _<_}
 use native.Mathlib.Omega.{arith}
 use lib.ListN.{length}
@@ -10,7 +9,7 @@ use mir.Val.{SFits}
 use mir.Facts.{toZ-ofZ}
 use Rattle.walk.specs.Comparisons.{present, walking-fine}
 use Rattle.walk.specs.declared.Spot.{Spot}
-use Rattle.walk.specs.Rows.{slotAt, offsetAt, Holds, Steady, frontOf, rowOf, rowFrom}
+use Rattle.walk.specs.Rows.{slotAt, offsetAt, Holds, Steady, frontOf, rowClauses, rowFrom}
 use Rattle.walk.proofs.Runs.{row-single, row-literals, spot-ready}
 use Rattle.writing.specs.Numbers.{led}
 use Rattle.writing.proofs.Parts.{led-single}
@@ -69,7 +68,7 @@ module _ (c : tie.After-row-length) where
   first-fits : SFits w32 (c .before .before .before .front-at .result)
   first-fits = record { sfits = c .before .before .before .front-at .ok }
 
-  same : led (s .args .lead) (map (present (s .args .c)) (rowOf (s .args .w))) ≡ led (s .args .lead) (rowFrom (frontOf (n - 2) (c .before .before .before .front-at .result)) y z (c .row-length .result))
+  same : led (s .args .lead) (rowClauses (s .args .c) (s .args .w)) ≡ led (s .args .lead) (rowFrom (frontOf (n - 2) (c .before .before .before .front-at .result)) y z (c .row-length .result))
   same =
       ap (led (s .args .lead))
       (row-literals (s .args .c) (s .pre .0) two (s .args .w) (s .pre .1) y z (c .before .before .spot-at .ensures) (c .before .spot-at2 .ensures)

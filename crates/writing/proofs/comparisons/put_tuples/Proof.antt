@@ -1,7 +1,7 @@
 -- `writing::comparisons::put_tuples` meets its contract.
 use borrow.Author.Needs.{needs}
-use mathlib.Core.Path.{ap, subst}
-use mathlib.Core.List.{map}
+use mathlib.Core.Path.{_≡_, ap, subst}
+use mathlib.Core.List.{_++_}
 use Prim.Native.Nat.{_+_, _≤_}
 use native.Mathlib.Omega.{arith}
 use lib.ListN.{length, length-append}
@@ -9,8 +9,8 @@ use mir.Syntax.{w32}
 use mir.Val.{toZ, ofZ}
 use mir.Facts.{toZ-ofZ}
 use Rattle.laws.specs.Written.{rest-length}
-use Rattle.walk.specs.Comparisons.{Walking, literalsOf, present, toCome, walking-fine}
-use Rattle.walk.specs.Rows.{rowOf, rowed, row-some}
+use Rattle.walk.specs.Comparisons.{Walking, literalsOf, toCome}
+use Rattle.walk.specs.Rows.{rowClauses, row-some}
 use Rattle.writing.specs.Numbers.{led}
 use Rattle.laws.specs.Filling.{Filling, begin, room-before, room, room-for, part, ended}
 use Rattle.writing.proofs.Parts.{led-end, led-on}
@@ -38,9 +38,21 @@ enum-told : tie.Need-enum-told Inv-loop μ-loop
 enum-told c = search needs
 
 after-row-requires : tie.Need-after-row-requires Inv-loop μ-loop
-after-row-requires c κs =
-    let s = c .before .before .before .before .before in
-    walking-fine (s .args .c) (c .before .tuple .given .0 .0) (subst (Walking (s .args .c)) (c .before .tuple .given .1) (c .before .before .before .loop .inv .1))
+after-row-requires c κs = subst (Walking _) (c .before .tuple .given .1) (c .before .before .before .loop .inv .1)
+
+-- what is to come is the row, and what is to come behind it
+row-next : (h : tie.After-after-row Inv-loop μ-loop) → let a = h .before .before .before .before .before .before .args in let l = toZ w32 (ofZ w32 (a .lead)) in
+    led l (toCome (a .c) (h .before .before .before .before .loop .tuple)) ≡ led l (rowClauses (a .c) (h .before .before .tuple .given .0 .0)) ++ led l (toCome (a .c) (h .after-row .result))
+row-next h =
+    let a = h .before .before .before .before .before .before .args in
+    led-on (a .c) (toZ w32 (ofZ w32 (a .lead))) (h .before .before .before .before .loop .tuple) (h .before .before .tuple .given .0 .0) (h .before .before .tuple .given .1) _ (h .after-row .ensures .1)
+
+row-room : (h : tie.After-after-row Inv-loop μ-loop) → let a = h .before .before .before .before .before .before .args in let here = h .before .before .before .before .loop in
+    here .at + length (led (toZ w32 (ofZ w32 (a .lead))) (rowClauses (a .c) (h .before .before .tuple .given .0 .0))) ≤ length (here .list)
+row-room h =
+    let a = h .before .before .before .before .before .before .args in
+    let l = toZ w32 (ofZ w32 (a .lead)) in
+    room-for (h .before .before .before .before .loop .inv .0) (led l (rowClauses (a .c) (h .before .before .tuple .given .0 .0))) (led l (toCome (a .c) (h .after-row .result))) (row-next h)
 
 mul-put-run : tie.Need-mul-put-run Inv-loop μ-loop
 mul-put-run c =
@@ -61,34 +73,30 @@ part-put-run-end c = search needs
 
 put-run-requires : tie.Need-put-run-requires Inv-loop μ-loop
 put-run-requires c κs =
-    let s = c .before .before .before .before .before .before .before in
-    let here = c .before .before .before .before .before .loop in
-    let o = subst (Walking (s .args .c)) (c .before .before .before .tuple .given .1) (here .inv .1) in let w = c .before .before .before .tuple .given .0 .0 in let l = toZ w32 (ofZ w32 (s .args .lead)) in
-    let k = rowed (s .args .c) w (c .before .after-row .result) o (c .before .after-row .ensures) in
-    (s .pre .0, o, omega (arith, rest-length (here .list) (here .at), room-for (here .inv .0) (led l (map (present (s .args .c)) (rowOf w))) (led l (toCome (s .args .c) (c .before .after-row .result))) (led-on (s .args .c) l (here .tuple) w (c .before .before .before .tuple .given .1) _ (k .1))))
+    let h = c .before in
+    let s = h .before .before .before .before .before .before in
+    let here = h .before .before .before .before .loop in
+    (s .pre .0, subst (Walking _) (h .before .before .tuple .given .1) (here .inv .1), omega (arith, rest-length (here .list) (here .at), row-room h))
 
 add-at : tie.Need-add-at Inv-loop μ-loop
 add-at c =
-    let s = c .before .before .before .before .before .before .before .before .before in
-    let here = c .before .before .before .before .before .before .before .loop in
-    let o = subst (Walking (s .args .c)) (c .before .before .before .before .before .tuple .given .1) (here .inv .1) in let w = c .before .before .before .before .before .tuple .given .0 .0 in let l = toZ w32 (ofZ w32 (s .args .lead)) in
-    let k = rowed (s .args .c) w (c .before .before .before .after-row .result) o (c .before .before .before .after-row .ensures) in
-    let h : here .at + c .before .put-run .result ≤ length (s .args .list .now) = omega (arith, c .before .put-run .ensures .0, here .inv .0 .long, room-for (here .inv .0) (led l (map (present (s .args .c)) (rowOf w))) (led l (toCome (s .args .c) (c .before .before .before .after-row .result))) (led-on (s .args .c) l (here .tuple) w (c .before .before .before .before .before .tuple .given .1) _ (k .1))) in search needs
+    let h = c .before .before .before in
+    let s = h .before .before .before .before .before .before in
+    let here = h .before .before .before .before .loop in
+    let k : here .at + c .before .put-run .result ≤ length (s .args .list .now) = omega (arith, c .before .put-run .ensures .0, here .inv .0 .long, row-room h) in search needs
 
 loop-less : tie.Need-loop-less Inv-loop μ-loop
 loop-less c =
-    let s = c .before .before .before .before .before .before .before .before .before in
-    let o = subst (Walking (s .args .c)) (c .before .before .before .before .before .tuple .given .1) (c .before .before .before .before .before .before .before .loop .inv .1) in let w = c .before .before .before .before .before .tuple .given .0 .0 in
-    let k = rowed (s .args .c) w (c .before .before .before .after-row .result) o (c .before .before .before .after-row .ensures) in
-    omega (arith, ap (λ z. length (toCome (s .args .c) z)) (c .before .before .before .before .before .tuple .given .1), ap length (k .1), length-append (map (present (s .args .c)) (rowOf w)) (toCome (s .args .c) (c .before .before .before .after-row .result)), row-some (s .args .c) w)
+    let h = c .before .before .before in
+    let q = h .before .before .before .before .before .before .args .c in
+    let w = h .before .before .tuple .given .0 .0 in
+    omega (arith, ap (λ z. length (toCome q z)) (h .before .before .tuple .given .1), ap length (h .after-row .ensures .1), length-append (rowClauses q w) (toCome q (h .after-row .result)), row-some q w)
 
 loop-again : tie.Need-loop-again Inv-loop μ-loop
 loop-again c =
-    let s = c .before .before .before .before .before .before .before .before .before in
-    let here = c .before .before .before .before .before .before .before .loop in
-    let o = subst (Walking (s .args .c)) (c .before .before .before .before .before .tuple .given .1) (here .inv .1) in let w = c .before .before .before .before .before .tuple .given .0 .0 in let l = toZ w32 (ofZ w32 (s .args .lead)) in
-    let k = rowed (s .args .c) w (c .before .before .before .after-row .result) o (c .before .before .before .after-row .ensures) in
-    (part (here .inv .0) (led l (map (present (s .args .c)) (rowOf w))) (led l (toCome (s .args .c) (c .before .before .before .after-row .result))) (led-on (s .args .c) l (here .tuple) w (c .before .before .before .before .before .tuple .given .1) _ (k .1)) _ _ (c .before .put-run .ensures .0) (c .before .put-run .ensures .1), k .0)
+    let h = c .before .before .before in
+    let p = c .before .put-run in
+    (part (h .before .before .before .before .loop .inv .0) _ _ (row-next h) _ _ (p .ensures .0) (p .ensures .1), h .after-row .ensures .0)
 
 same-length : tie.Need-same-length Inv-loop μ-loop
 same-length c = c .before .before .loop .inv .0 .long
