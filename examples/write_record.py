@@ -24,8 +24,9 @@ def record(bounds, booleans, clauses):
     return struct.pack(">BI", 1, len(body)) + body
 
 
-sys.stdout.buffer.write(record([(-1, 1), (0, 2)], 1, [
-    [at_most([(1, 0), (-1, 1)], -2)],
-    [no(1), at_most([(-2, 0)], -1)],
-    [yes(1), at_most([(1, 1)], 1)],
-]))
+if __name__ == "__main__":
+    sys.stdout.buffer.write(record([(-1, 1), (0, 2)], 1, [
+        [at_most([(1, 0), (-1, 1)], -2)],
+        [no(1), at_most([(-2, 0)], -1)],
+        [yes(1), at_most([(1, 1)], 1)],
+    ]))

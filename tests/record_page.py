@@ -1,5 +1,5 @@
 #!/usr/bin/env python3
-"""The figures of docs/RECORD.md, held against the header and the programs: its refusals, its picture of the bytes, its cases.
+"""The figures of docs/RECORD.md, held against the header and the programs: ranges, refusals, the picture of the bytes, cases.
 
     tests/record_page.py        after `cargo build --release` in rust/, with the example try_all
 """
@@ -12,6 +12,24 @@ import sys
 ROOT = pathlib.Path(__file__).resolve().parent.parent
 PAGE = (ROOT / "docs/RECORD.md").read_text()
 BUILT = pathlib.Path(os.environ.get("CARGO_TARGET_DIR", ROOT / "rust/target")) / "release"
+sys.path.insert(0, str(ROOT / "examples"))
+sys.dont_write_bytecode = True
+from write_record import at_most, record, yes  # noqa: E402, the page's own writer of records
+
+FOUR = [(0, 1)] * 4
+# A row of the page's first table, by how it begins; a record with the field at n; the refusal out of range, and the place.
+FIELDS = [
+    ("how many integer", lambda n: record([(0, 0)] * n, 0, []), 4, 5),
+    ("how many Boolean", lambda n: record([], n, []), 4, 7),
+    ("how many clauses", lambda n: record([], 0, [[]] * n), 4, 9),
+    ("then for each integer variable: lower", lambda n: record([(n, 4095)], 0, []), 5, 11),
+    ("then for each integer variable: lower", lambda n: record([(-4096, n)], 0, []), 5, 13),
+    ("then for each clause", lambda n: record([], 1, [[yes(1)] * n]), 4, 11),
+    ("of kind 0 and 1", lambda n: record([], 7, [[yes(n)]]), 6, 13),
+    ("of kind 2", lambda n: record(FOUR, 0, [[at_most([(1, x) for x in range(n)], 9)]]), 4, 29),
+    ("for each term", lambda n: record(FOUR, 0, [[at_most([(n, 0)], 9)]]), 7, 30),
+    ("and after the terms", lambda n: record(FOUR, 0, [[at_most([(1, 0)], n)]]), 7, 33),
+]
 
 
 def fail(words):
@@ -29,6 +47,31 @@ def rows(heading):
     for line in section.splitlines():
         if line.startswith("| "):
             yield [cell.strip() for cell in line.strip("|").split(" | ")]
+
+
+def refused(bytes_of_record):
+    """The number and place with which a record is refused, or None."""
+    told = subprocess.run([BUILT / "board", "text", "/dev/stdin"], input=bytes_of_record, capture_output=True)
+    found = re.search(r"refusal (\d+): .* at byte (\d+) ", told.stderr.decode())
+    if told.returncode not in (0, 1) or (told.returncode == 1 and not found):
+        fail(f"board text ended with status {told.returncode}: {told.stderr.decode()}")
+    return found and (int(found[1]), int(found[2]))
+
+
+def compare_ranges():
+    """The ends of each field's range are admitted, and what is next to them is refused at the field's place."""
+    table = {cells[0]: cells[2] for cells in rows("The bytes")}
+    for begin, with_field, number, place in FIELDS:
+        words = next(said for field, said in table.items() if field.startswith(begin)).replace("1 to m", "1 to 7")
+        least, greatest = (int(end.replace(",", "")) for end in re.match(r"(-?[\d,]+) to (-?[\d,]+)", words).groups())
+        for n in [least, greatest]:
+            if refused(with_field(n)):
+                fail(f"{begin}: {n} is refused")
+        for n in [least - 1, greatest + 1]:
+            if n >= 0 or least < 0:
+                if refused(with_field(n)) != (number, place):
+                    fail(f"{begin}: {n} is answered with {refused(with_field(n))}, not {(number, place)}")
+    return len(FIELDS)
 
 
 def compare_refusals():
@@ -82,12 +125,12 @@ def compare_cases():
 
 
 def compare_solutions(case, words, said):
-    record = ROOT / "target" / "case.record"
-    record.write_bytes(board("record", text_of(words)))
-    tried = subprocess.run([BUILT / "examples/try_all", record], stdout=subprocess.PIPE, text=True, check=True).stdout.split()
+    file = ROOT / "target" / "case.record"
+    file.write_bytes(board("record", text_of(words)))
+    tried = subprocess.run([BUILT / "examples/try_all", file], stdout=subprocess.PIPE, text=True, check=True).stdout.split()
     if tried[:2] != ["SATISFIABLE", said]:
         fail(f"case {case} is said to have {said} solutions: {tried}")
 
 
-print(f"docs/RECORD.md: {compare_refusals()} refusals are the header's, {compare_picture()} bytes are the record's, "
+print(f"docs/RECORD.md: {compare_ranges()} ranges are the library's, {compare_refusals()} refusals are the header's, {compare_picture()} bytes are the record's, "
       f"{compare_cases()} figures of cases are right.")
