@@ -1,8 +1,8 @@
 /* basmuthar.h: six operations on board records, for programs in C and C++.
  *
  * A board record has bounded integer variables, Boolean variables and clauses. Basmuthar writes it as CNF by the
- * order encoding and reads models back. The library is linked as libbasmuthar.a. It keeps nothing between calls:
- * every list is lent by the caller.
+ * order encoding and reads models back. The library is linked as libbasmuthar.a, or where it is installed as
+ * libbasmuthar.so. It keeps nothing between calls: every list is lent by the caller.
  *
  * THE RECORD
  *   All numbers are big-endian, signed ones in two's complement.

@@ -1,4 +1,7 @@
 //! Finds libbasmuthar.a: in the folder that BASMUTHAR_LIB_DIR names, or else in ../target/staticlib.
+//!
+//! With the feature `ipasir`, the examples are linked with the solver that the words of IPASIR_LIBS name for the linker, or
+//! else with CaDiCaL, which is written in C++.
 
 use std::env;
 use std::path::{Path, PathBuf};
@@ -18,6 +21,17 @@ fn main() {
     }
     println!("cargo:rustc-link-search=native={}", folder.display());
     println!("cargo:rustc-link-lib=static=basmuthar");
+    if env::var_os("CARGO_FEATURE_IPASIR").is_some() {
+        link_solver();
+    }
+}
+
+fn link_solver() {
+    println!("cargo:rerun-if-env-changed=IPASIR_LIBS");
+    let words = env::var("IPASIR_LIBS").unwrap_or_else(|_| "-lcadical -lstdc++ -lm".to_string());
+    for word in words.split_whitespace() {
+        println!("cargo:rustc-link-arg-examples={word}");
+    }
 }
 
 /// A relative folder is meant from this crate's own.
