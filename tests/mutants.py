@@ -28,7 +28,7 @@ MUTANTS = [
     ("the selector left off a single-term comparison", [
         ("compile/src/pieces.rt",
          "                -(number as i32),",
-         "                if ready(bytes, numbers, rules, place, constant).n == 1 { 0 } else { -(number as i32) },")]),
+         "                if ready(bytes, firsts, rules, place, constant).n == 1 { 0 } else { -(number as i32) },")]),
     ("one selector for a whole clause", [
         ("writing/src/lines.rt", "number += selectors_of(literal);", ""),
         ("rules/src/lib.rt", "after(c, next, c.selector + 1)", "after(c, next, c.selector)")]),
@@ -38,10 +38,10 @@ MUTANTS = [
         ("compile/src/lib.rt",
          "let k = put_list(bytes, header, list);",
          "let k = put_list(bytes, header, list);\n                if k < list.len() {\n                    list[k] = 0;\n                }")]),
-    ("the last clause that does not hold", [
-        ("decode/src/search.rt", "    let mut number = from;", "    let mut number = from;\n    let mut last = Found::Nothing;"),
-        ("decode/src/search.rt", "break 'search Found::At(number);", "last = Found::At(number);"),
-        ("decode/src/search.rt", "break 'search Found::Nothing;", "break 'search last;")]),
+    ("the last clause of a row that does not hold", [
+        ("decode/src/rows.rt", "    let mut at = number;", "    let mut at = number;\n    let mut last = number;\n    let mut fails = false;"),
+        ("decode/src/rows.rt", "            return Checked::Fails(at);", "            last = at;\n            fails = true;"),
+        ("decode/src/rows.rt", "    Checked::Hold(at)", "    if fails {\n        return Checked::Fails(last);\n    }\n    Checked::Hold(at)")]),
     ("the clauses tested before the bytes", [
         ("decode/src/lib.rt", "    match first_bad_byte(model) {", "    match search_clauses(bytes, model, header) {"),
         ("decode/src/lib.rt", "Refusal::ByteWrong { index: index }", "Refusal::ClauseFails { number: index }"),

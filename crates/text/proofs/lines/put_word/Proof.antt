@@ -34,15 +34,23 @@ loop-less c = omega arith
 
 loop-again : tie.Need-loop-again Inv-loop μ-loop
 loop-again c =
-    (omega arith, ap (λ z. set z (c .before .before .loop .i) (getD (c .before .before .before .args .word .now) (c .before .before .loop .i) 0)) (c .before .before .loop .inv .1) ∙ written-take 0 (c .before .before .before .args .word .now) (c .before .before .before .args .out .now) (c .before .before .loop .i) (omega arith) (omega (arith, c .before .before .before .pre)), length-set (c .before .before .loop .out) (c .before .before .loop .i) (getD (c .before .before .before .args .word .now) (c .before .before .loop .i) 0) ∙ c .before .before .loop .inv .2)
+    let l = c .before .before .loop in
+    let s = c .before .before .before in
+    let byte = getD (s .args .word .now) (l .i) 0 in (
+      omega arith,
+      ap (λ z. set z (l .i) byte) (l .inv .1) ∙ written-take 0 (s .args .word .now) (s .args .out .now) (l .i) (omega arith) (omega (arith, s .pre)),
+      length-set (l .out) (l .i) byte ∙ l .inv .2,
+    )
 
 same-length : tie.Need-same-length Inv-loop μ-loop
 same-length c = c .before .loop .inv .2
 
 returns : tie.Need-returns Inv-loop μ-loop
 returns c =
-    let e : c .before .loop .i ≡ length (c .before .before .args .word .now) = omega (arith, c .before .loop .inv .0) in
-    (e, c .before .loop .inv .1 ∙ ap (λ z. written z (c .before .before .args .out .now)) (take-all (c .before .loop .i) (c .before .before .args .word .now) (omega arith)))
+    let l = c .before .loop in
+    let a = c .before .before .args in
+    let e : l .i ≡ length (a .word .now) = omega (arith, l .inv .0) in
+    (e, l .inv .1 ∙ ap (λ z. written z (a .out .now)) (take-all (l .i) (a .word .now) (omega arith)))
 
 pub put-word-spec : {M : Type 1} → statement M
 put-word-spec =
