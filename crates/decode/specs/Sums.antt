@@ -3,13 +3,12 @@ use mathlib.Core.Path.{_≡_, refl, sym, ap, _∙_, subst}
 use mathlib.Core.Bool.{Bool, true, false, _||_}
 use mathlib.Core.List.{List, [], _∷_, _++_, map, flatten, zipWith, map-map, append-nil}
 use Prim.Native.Nat.{ℕ, zero, suc, _≤_, _<_}
-use native.Mathlib.Nat.{zero-add}
 use native.Mathlib.Omega.{arith}
 use lib.Dec.{T}
 use lib.ListN.{length, getD, drop, replicate, List·getD-append}
 use lib.IntN.{ℤ, pos, natAbs}
-use lib.Signed.{_≤ℤ_, leZ}
-use Rattle.definitions.specs.Tools.{All, Any, any, all, if_then_else_}
+use lib.Signed.{leZ}
+use Rattle.definitions.specs.Tools.{All, all, if_then_else_}
 use Rattle.definitions.specs.Board.{Board, Comparison, boundsOf, variables}
 use Rattle.definitions.specs.Result.{done, each}
 use Rattle.definitions.specs.Encoding.{Atom, SatClause, least, tuplesOf, sharp, clausesUnder, axiomsOf, axioms}

@@ -20,7 +20,7 @@ use Rattle.walk.specs.declared.At.{At}
 use Rattle.walk.specs.declared.At.the-variants.{Tuple, End}
 use Rattle.walk.specs.Slots.{FairSlot, slotBounds, orderNumber, slotLiteral}
 use Rattle.walk.specs.Walks.{places, moved, blank, seen, left, Fine, Over}
-use Rattle.walk.specs.Comparisons.{slotsOf, FairComparison, Walking, paddedRanges, placed, literalsAt, present, toCome, present-length, walking-fine}
+use Rattle.walk.specs.Comparisons.{FairComparison, Walking, paddedRanges, placed, literalsAt, present, toCome, present-length, walking-fine}
 use Rattle.walk.specs.Rows.{along, run, rowLength, rowOf, rowClauses, After, slotAt, offsetAt, Holds, Steady, raised, lowered, rowFrom, frontOf}
 use Rattle.walk.proofs.Moves.{move-second}
 use Rattle.walk.proofs.Slots.{floor-inside, ceil-inside, number-small, literal-rising, literal-falling}

@@ -1,18 +1,18 @@
 -- The literal of a slot at an offset from its least bound: it rises by 1 behind each multiple of the coefficient. Assumes nothing.
-use mathlib.Core.Path.{_≡_, refl, sym, ap, ap₂, _∙_, subst}
+use mathlib.Core.Path.{_≡_, refl, sym, ap, _∙_}
 use mathlib.Core.Logic.{⊎-elim}
 use Prim.Native.Nat.{ℕ, zero, suc, _+_, _-_, _*_, _≤_, _<_}
 use native.Mathlib.Omega.{arith}
 use native.Mathlib.Decide.{decLe}
 use lib.IntN.{ℤ, pos, negsuc, negℤ, natAbs, _+ℤ_, _-ℤ_, _*ℤ_}
 use lib.Signed.{ltZ, _≤ℤ_, _<ℤ_}
-use Rattle.definitions.specs.Tools.{if_then_else_, floor, ceil, neg, size}
+use Rattle.definitions.specs.Tools.{if_then_else_, floor, ceil, size}
 use Rattle.laws.specs.Whole.{whole, add-law, sub-law, neg-law, mul-law, mul-add, mul-neg, abs-law, part-law, le-or-lt, lt-test, ge-test}
 use Rattle.laws.specs.Division.{below-floor, not-below-ceil}
 use Rattle.walk.specs.declared.Slot.{Slot}
 use Rattle.walk.specs.declared.Spot.{Spot}
-use Rattle.walk.specs.Slots.{FairSlot, slotBounds, orderNumber, slotLiteral}
-use Rattle.walk.specs.Rows.{Rest, Holds, raisedBy, loweredBy, raised, lowered}
+use Rattle.walk.specs.Slots.{FairSlot, slotBounds, slotLiteral}
+use Rattle.walk.specs.Rows.{Holds, raisedBy, loweredBy, raised, lowered}
 use Rattle.walk.proofs.Slots.{rising, falling, number-is, floor-inside, ceil-inside, literal-rising, literal-falling}
 
 -- ---- rounding at an offset: k + r is d u

@@ -1,7 +1,7 @@
 -- What a walk by rows is spared: the last bound follows from the others, and every step is a tuple. Assumes nothing.
 use mathlib.Core.Path.{_≡_, sym, ap, _∙_}
 use mathlib.Core.List.{List, [], _∷_, _++_, map, flatten, zipWith}
-use Prim.Native.Nat.{ℕ, zero, suc, min, _+_, _-_, _≤_}
+use Prim.Native.Nat.{ℕ, suc, min, _+_, _-_, _≤_}
 use native.Mathlib.Omega.{arith}
 use lib.ListN.{length, length-append}
 use lib.IntN.{ℤ, pos, _+ℤ_, _-ℤ_}

@@ -1,9 +1,7 @@
+-- `decode::pieces::passed` meets its contract.
 use borrow.Author.Needs.{needs}
 use Rattle.decode.proofs.pieces.passed.Statement.{statement}
 use Rattle.decode.proofs.pieces.passed.Tie as tie
-use Rattle.decode.proofs.pieces.passed.Reads as reads
-use Rattle.decode.proofs.pieces.passed.Lts as lts
-use Rattle.measure.proofs.count.tuples_of.Reads as tuples-of-reads
 
 tuples-of-requires : tie.Need-tuples-of-requires
 tuples-of-requires c κs = search needs

@@ -1,11 +1,9 @@
+-- `decode::pieces::walked` meets its contract.
 use Rattle.walk.specs.Walks.{Over}
 use Rattle.walk.specs.Comparisons.{Walking, none-left}
 use borrow.Author.Needs.{needs}
 use Rattle.decode.proofs.pieces.walked.Statement.{statement}
 use Rattle.decode.proofs.pieces.walked.Tie as tie
-use Rattle.decode.proofs.pieces.walked.Reads as reads
-use Rattle.decode.proofs.pieces.walked.Lts as lts
-use Rattle.walk.proofs.tuples.first.Reads as first-reads
 
 returns : tie.Need-returns
 unfolding Walking Over

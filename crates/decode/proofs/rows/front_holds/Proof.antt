@@ -1,22 +1,17 @@
-use mathlib.Core.Path.{_≡_, ap, _∙_}
+-- `decode::rows::front_holds` meets its contract.
 use mathlib.Core.Bool.{or-false}
 use Prim.Native.Nat.{_-_}
 use native.Mathlib.Omega.{arith}
-use lib.ListN.{length, getD}
+use lib.ListN.{getD}
 use lib.IntN.{pos}
 use mir.Syntax.{w32}
 use mir.Val.{SFits}
 use mir.Facts.{toZ-ofZ}
 use Rattle.walk.specs.Comparisons.{present}
 use Rattle.walk.specs.Rows.{front-some, front-none}
-use Rattle.decode.specs.Truth.{trueTail}
 use borrow.Author.Needs.{needs}
 use Rattle.decode.proofs.rows.front_holds.Statement.{statement}
 use Rattle.decode.proofs.rows.front_holds.Tie as tie
-use Rattle.decode.proofs.rows.front_holds.Reads as reads
-use Rattle.decode.proofs.rows.front_holds.Lts as lts
-use Rattle.decode.proofs.truth.holds.Reads as holds-reads
-use Rattle.walk.proofs.tuples.literal_at.Reads as literal-at-reads
 
 returns : tie.Need-returns
 returns c =

@@ -1,12 +1,10 @@
-use mathlib.Core.Path.{_≡_, sym, _∙_}
+-- `decode::rows::pair_holds` meets its contract.
+use mathlib.Core.Path.{sym, _∙_}
 use mathlib.Core.Bool.{or-false}
 use mir.Facts.{toZ-ofZ}
 use borrow.Author.Needs.{needs}
 use Rattle.decode.proofs.rows.pair_holds.Statement.{statement}
 use Rattle.decode.proofs.rows.pair_holds.Tie as tie
-use Rattle.decode.proofs.rows.pair_holds.Reads as reads
-use Rattle.decode.proofs.rows.pair_holds.Lts as lts
-use Rattle.decode.proofs.truth.holds.Reads as holds-reads
 
 holds-requires : tie.Need-holds-requires
 holds-requires c κs = search needs

@@ -1,8 +1,8 @@
+-- `decode::rows::search_pairs` meets its contract.
 use borrow.Author.Needs.{needs}
 use borrow.Author.Tests.{not-true, not-false}
-use mathlib.Core.Path.{_≡_, refl, sym, ap, _∙_}
-use mathlib.Core.Bool.{Bool}
-use mathlib.Core.List.{List, [], _∷_, map}
+use mathlib.Core.Path.{sym, ap, _∙_}
+use mathlib.Core.List.{[], map}
 use Prim.Native.Nat.{_+_, _-_, _≤_}
 use native.Mathlib.Omega.{arith}
 use lib.ListN.{length, length-map}
@@ -13,17 +13,12 @@ use mir.Facts.{toZ-ofZ}
 use Rattle.definitions.specs.Tools.{All}
 use Rattle.laws.specs.Whole.{abs-fits}
 use Rattle.laws.specs.Mentions.{InList}
-use Rattle.walk.specs.Rows.{Steady, raised, lowered, rowFrom, row-none, row-next, row-count}
+use Rattle.walk.specs.Rows.{Steady, rowFrom, row-none, row-next, row-count}
 use Rattle.walk.proofs.Runs.{raised-steady, lowered-steady}
 use Rattle.decode.specs.Truth.{trueTail}
 use Rattle.decode.specs.Goes.{Goes, goes-start, goes-one, goes-stop, goes-end}
 use Rattle.decode.proofs.rows.search_pairs.Statement.{statement}
 use Rattle.decode.proofs.rows.search_pairs.Tie as tie
-use Rattle.decode.proofs.rows.search_pairs.Reads as reads
-use Rattle.decode.proofs.rows.search_pairs.Lts as lts
-use Rattle.decode.proofs.rows.pair_holds.Reads as pair-holds-reads
-use Rattle.walk.proofs.rows.down.Reads as down-reads
-use Rattle.walk.proofs.rows.up.Reads as up-reads
 
 abbrev Inv-loop : tie.InvT-loop
 Inv-loop model count number at₀ left₀ p₀ q₀ at left p q =
@@ -87,8 +82,7 @@ loop-again c =
 returns-2 : tie.Need-returns-2 Inv-loop μ-loop
 returns-2 c =
     let l = c .before .loop in
-    let e = goes-end (l .inv .0) (ap (map (trueTail (c .before .before .before .args .model .now))) (row-none [] (l .p) (l .q) (l .left) (omega (arith, c .loop-test .left)))) in
-    e
+    goes-end (l .inv .0) (ap (map (trueTail (c .before .before .before .args .model .now))) (row-none [] (l .p) (l .q) (l .left) (omega (arith, c .loop-test .left))))
 
 pub search-pairs-spec : {M : Type 1} → statement M
 search-pairs-spec =

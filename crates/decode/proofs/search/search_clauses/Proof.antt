@@ -1,13 +1,11 @@
 -- `decode::search::search_clauses` meets its contract.
 use borrow.Author.Needs.{needs}
-use mathlib.Core.Path.{_≡_, _∙_}
-use Prim.Native.Nat.{ℕ}
+use mathlib.Core.Path.{_∙_}
 use native.Mathlib.Omega.{arith}
 use Rattle.definitions.specs.Board.{Board}
 use Rattle.definitions.specs.Encoding.{clauses}
 use Rattle.laws.specs.Boards.{boardOf}
 use Rattle.opening.specs.Headers.{admitted, recorded, ints-is, bools-is, counts-small, rules-inside, tail-is}
-use Rattle.decode.specs.declared.Checked.{Checked}
 use Rattle.decode.specs.Truth.{tests}
 use Rattle.decode.specs.Goes.{Goes, goes-start, goes-part, goes-fails}
 use Rattle.decode.specs.Sums.{Told, axioms-told, values-in, near-none}

@@ -1,6 +1,5 @@
 -- `decode::search::search_rules` meets its contract.
 use borrow.Author.Needs.{needs}
-use mathlib.Core.Path.{_≡_}
 use native.Mathlib.Omega.{arith}
 use lib.ListN.{length}
 use Rattle.definitions.specs.Board.{Board}
@@ -9,7 +8,6 @@ use Rattle.laws.specs.Boards.{boardOf}
 use Rattle.laws.specs.Reread as reread
 use Rattle.reader.specs.Said.{contextOf}
 use Rattle.rules.specs.Cursors.{todo}
-use Rattle.walk.specs.declared.At.{At}
 use Rattle.walk.specs.Comparisons.{toCome}
 use Rattle.opening.specs.Headers.{context-is, counts-small}
 use Rattle.decode.specs.Given.{short}
