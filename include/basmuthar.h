@@ -52,8 +52,7 @@
  *        4  a count is outside its range                                                 place
  *        5  a bound is outside its range, or an upper is below its lower                 place
  *        6  a kind byte is above 2, or a Boolean number is outside 1 to m                place
- *        7  a coefficient is 0 or out of range, a variable is unknown or stands twice
- *           in a comparison, or a constant is out of range                               place
+ *        7  a coefficient is 0 or outside -64 to 64                                      place
  *        8  a field runs past the end, or bytes remain after the last clause             place
  *        9  K is above 2,000,000,000                                                     0
  *       10  the lent clause list is shorter than K                                       K
@@ -61,12 +60,15 @@
  *       12  a model, Boolean or reply byte is not 0 or 1                                 index
  *       13  a clause does not hold                                                       its number from 0
  *       14  a value is outside its bounds                                                index
+ *       15  a term's variable is unknown: the record does not have so many               place
+ *       16  a term's variable stands in an earlier term of its comparison                place
+ *       17  a comparison's constant is outside -1,000,000 to 1,000,000                   place
  *       22  the record has no integer variable of this number                            its number
  *       23  replies are left over after the last question                                how many
  *   m is how many Boolean variables the record has. A place is the offset in the record of the first byte of the field
  *   that is wrong (the upper's, where it is below its lower), or of the first byte left over.
  *   All operations look at the record first, in this order: 1; fewer than 5 bytes (2); 3; the stated length (2); the
- *   body from left to right with 4 to 8, a field's missing bytes (8) before its value; bytes left over (8); 9. The
+ *   body from left to right with 4 to 8 and 15 to 17, a field's missing bytes (8) before its value; bytes left over (8); 9. The
  *   first condition that is met is the refusal given. What each operation tests after that stands with it.
  */
 

@@ -28,7 +28,7 @@ FIELDS = [
     ("of kind 0 and 1", lambda n: record([], 7, [[yes(n)]]), 6, 13),
     ("of kind 2", lambda n: record(FOUR, 0, [[at_most([(1, x) for x in range(n)], 9)]]), 4, 29),
     ("for each term", lambda n: record(FOUR, 0, [[at_most([(n, 0)], 9)]]), 7, 30),
-    ("and after the terms", lambda n: record(FOUR, 0, [[at_most([(1, 0)], n)]]), 7, 33),
+    ("and after the terms", lambda n: record(FOUR, 0, [[at_most([(1, 0)], n)]]), 17, 33),
 ]
 
 

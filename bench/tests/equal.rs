@@ -118,7 +118,7 @@ fn the_drawn_records_meet_every_refusal_and_many_lists() {
         refusals.insert(answer[0]);
         accepted[question.0 as usize] += u64::from(answer[0] == 0);
     }
-    assert_eq!(refusals, BTreeSet::from_iter(0..=14));
+    assert_eq!(refusals, BTreeSet::from_iter(0..=17));
     assert!(accepted.iter().all(|&count| count > 1_000), "accepted: {accepted:?}");
 }
 

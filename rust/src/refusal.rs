@@ -13,7 +13,7 @@ use std::fmt;
 /// | 4 | a count is outside its range | place |
 /// | 5 | a bound is outside its range, or an upper is below its lower | place |
 /// | 6 | a kind byte is above 2, or a Boolean number is not of the board | place |
-/// | 7 | a coefficient is 0 or out of range, a variable unknown or repeated, a constant out of range | place |
+/// | 7 | a coefficient is 0 or out of range | place |
 /// | 8 | a field runs past the end, or bytes are left over after the last clause | place |
 /// | 9 | the clause list would have more than 2,000,000,000 numbers | 0 |
 /// | 10 | the lent clause list is too short | how many numbers there are |
@@ -21,6 +21,9 @@ use std::fmt;
 /// | 12 | a model byte, Boolean byte or reply byte is not 0 or 1 | index |
 /// | 13 | a clause does not hold | its number from 0 |
 /// | 14 | a value is outside its bounds | index |
+/// | 15 | a term's variable is unknown: the record does not have so many | place |
+/// | 16 | a term's variable stands in an earlier term of its comparison | place |
+/// | 17 | a comparison's constant is out of range | place |
 /// | 22 | the record does not have that integer variable | its number from 0 |
 /// | 23 | replies are left over after the last question | how many |
 ///
@@ -55,7 +58,7 @@ const fn row(number: u64, words: &'static str, detail: Detail) -> Row {
     Row { number, words, detail }
 }
 
-const ROWS: [Row; 16] = [
+const ROWS: [Row; 19] = [
     row(1, "a record above 65,536 bytes", Detail::Nothing),
     row(
         2,
@@ -64,36 +67,23 @@ const ROWS: [Row; 16] = [
     ),
     row(3, "a version other than 1", Detail::Nothing),
     row(4, "a count outside its range", Detail::Place),
-    row(
-        5,
-        "a bound outside its range, or an upper below its lower",
-        Detail::Place,
-    ),
-    row(
-        6,
-        "a kind byte above 2, or a Boolean number that the board does not have",
-        Detail::Place,
-    ),
-    row(
-        7,
-        "a coefficient 0 or out of range, an unknown or repeated variable, or a constant out of range",
-        Detail::Place,
-    ),
+    row(5, "a bound outside its range, or an upper below its lower", Detail::Place),
+    row(6, "a kind byte above 2, or a Boolean number that the board does not have", Detail::Place),
+    row(7, "a coefficient that is 0 or out of range", Detail::Place),
     row(
         8,
         "a field that runs past the end, or bytes left over after the last clause",
         Detail::Place,
     ),
-    row(
-        9,
-        "a clause list of more than 2,000,000,000 numbers",
-        Detail::Nothing,
-    ),
+    row(9, "a clause list of more than 2,000,000,000 numbers", Detail::Nothing),
     row(10, "a lent clause list that is too short", Detail::Length),
     row(11, "a lent list of the wrong length", Detail::Length),
     row(12, "a model, Boolean or reply byte that is not 0 or 1", Detail::Index),
     row(13, "a clause does not hold", Detail::Clause),
     row(14, "a value outside its bounds", Detail::Index),
+    row(15, "a term's variable that the record does not have", Detail::Place),
+    row(16, "a variable for the second time in a comparison", Detail::Place),
+    row(17, "a constant out of range", Detail::Place),
     row(22, "an integer variable that the record does not have", Detail::Variable),
     row(23, "replies left over after the last question", Detail::Count),
 ];
@@ -145,7 +135,7 @@ mod tests {
     fn every_number_has_its_sentence() {
         let rows: Vec<u64> = ROWS.iter().map(|row| row.number).collect();
         assert!(rows.is_sorted_by(|one, next| one < next), "numbers rise: {rows:?}");
-        for number in (1..=14).chain([22, 23]) {
+        for number in (1..=17).chain([22, 23]) {
             let sentence = Refusal { number, detail: 5 }.to_string();
             assert!(sentence.starts_with(&format!("refusal {number}: ")), "{sentence}");
         }

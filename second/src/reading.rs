@@ -1,7 +1,7 @@
 //! Reading a record, from left to right, into a board.
 
 use crate::board::{Board, Bounds, Clause, Comparison, Literal, Term};
-use crate::refusal::{refusal, refuse_if, Refusal};
+use crate::refusal::{refuse_if, Refusal};
 
 pub const LONGEST_RECORD: usize = 65_536;
 pub const MOST_VARIABLES: i64 = 1_024;
@@ -139,7 +139,7 @@ impl Reader<'_> {
             terms.push(term);
         }
         let field = self.signed(4)?;
-        let constant = field.within(-GREATEST_CONSTANT, GREATEST_CONSTANT, 7)?;
+        let constant = field.within(-GREATEST_CONSTANT, GREATEST_CONSTANT, 17)?;
         Ok(Comparison { terms, constant })
     }
 
@@ -151,10 +151,9 @@ impl Reader<'_> {
         let field = self.unsigned(2)?;
         let variable = field.value as usize;
         let unknown = variable >= board.variables.len();
+        refuse_if(unknown, 15, field.place)?;
         let repeated = before.iter().any(|term| term.variable == variable);
-        if unknown || repeated {
-            return Err(refusal(7, field.place));
-        }
+        refuse_if(repeated, 16, field.place)?;
         Ok(Term {
             coefficient,
             variable,

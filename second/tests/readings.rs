@@ -50,7 +50,7 @@ fn a_value_is_judged_before_the_next_field() {
     assert_eq!(size(&record(&crossed)), refused(5, 13));
     assert_eq!(size(&small(1, &[1, 2, 1, 0])), refused(7, 18));
     assert_eq!(size(&small(1, &[1, 2, 1, 65])), refused(7, 18));
-    assert_eq!(size(&small(1, &[1, 2, 1, 1, 0, 1])), refused(7, 19));
+    assert_eq!(size(&small(1, &[1, 2, 1, 1, 0, 1])), refused(15, 19));
     assert_eq!(size(&small(1, &[1, 0, 0, 0])), refused(6, 17));
     assert_eq!(size(&small(1, &[1, 1, 0, 2])), refused(6, 17));
     assert_eq!(size(&small(1, &[1, 3])), refused(6, 16));
@@ -66,7 +66,7 @@ fn literal_and_term_counts_give_4() {
 #[test]
 fn a_repeated_variable_comes_before_the_next_term() {
     let repeated = [1, 2, 3, 1, 0, 0, 1, 0, 0, 0];
-    assert_eq!(size(&small(1, &repeated)), refused(7, 22));
+    assert_eq!(size(&small(1, &repeated)), refused(16, 22));
 }
 
 #[test]
@@ -78,8 +78,8 @@ fn constants_out_of_range() {
     };
     assert!(with(1_000_000).is_ok());
     assert!(with(-1_000_000).is_ok());
-    assert_eq!(with(1_000_001), refused(7, 21));
-    assert_eq!(with(-1_000_001), refused(7, 21));
+    assert_eq!(with(1_000_001), refused(17, 21));
+    assert_eq!(with(-1_000_001), refused(17, 21));
 }
 
 #[test]

@@ -161,14 +161,17 @@ impl Reader<'_> {
                 return refused(7, self.at - 1);
             }
             let variable = u16::from_be_bytes(self.take()?);
-            if usize::from(variable) >= integers || earlier.contains(&variable) {
-                return refused(7, self.at - 2);
+            if usize::from(variable) >= integers {
+                return refused(15, self.at - 2);
+            }
+            if earlier.contains(&variable) {
+                return refused(16, self.at - 2);
             }
             earlier = [earlier[1], variable];
         }
         let constant = i32::from_be_bytes(self.take()?);
         if !(-1_000_000..=1_000_000).contains(&constant) {
-            return refused(7, self.at - 4);
+            return refused(17, self.at - 4);
         }
         Ok(())
     }

@@ -31,6 +31,21 @@ fn refused_sizes() {
     put_sizing(b"case 11, version 9 as well", size(&bytes));
 }
 
+// The second term's coefficient, then its variable, unknown and repeated, then the constant, each mended before the next.
+fn parts_of_a_term() {
+    let mut bytes = WIDE_SUM;
+    bytes[29] = 65;
+    bytes[31] = 3;
+    put_sizing(b"coefficient 65, variable 3", size(&bytes));
+    bytes[29] = 1;
+    put_sizing(b"variable 3 of three", size(&bytes));
+    bytes[31] = 0;
+    bytes[35] = 1;
+    put_sizing(b"variable 0 again", size(&bytes));
+    bytes[31] = 1;
+    put_sizing(b"constant 16,777,216", size(&bytes));
+}
+
 fn list_lengths() {
     let mut short = [99; 52];
     put_sizing(b"case 12, 52 places", compile(&AT_MOST_7, &mut short));
@@ -135,6 +150,7 @@ fn plain_models() {
 
 fn main() {
     refused_sizes();
+    parts_of_a_term();
     list_lengths();
     few_tuples();
     below_least();

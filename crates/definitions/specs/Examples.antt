@@ -132,6 +132,19 @@ one = "01 00000006 0000 0000 0000"
 abbrev two : String
 two = "01 0000001B 0002 0000 0001 0002 0006 0002 0006 01 02 02 01 0000 01 0001 00000007"
 
+-- its second term with the coefficient 65 and the first one's variable, with an unknown variable, with the first one's; the constant 1,000,001
+abbrev two₇ : String
+two₇ = "01 0000001B 0002 0000 0001 0002 0006 0002 0006 01 02 02 01 0000 41 0000 00000007"
+
+abbrev two₁₅ : String
+two₁₅ = "01 0000001B 0002 0000 0001 0002 0006 0002 0006 01 02 02 01 0000 01 0002 00000007"
+
+abbrev two₁₆ : String
+two₁₆ = "01 0000001B 0002 0000 0001 0002 0006 0002 0006 01 02 02 01 0000 01 0000 00000007"
+
+abbrev two₁₇ : String
+two₁₇ = "01 0000001B 0002 0000 0001 0002 0006 0002 0006 01 02 02 01 0000 01 0001 000F4241"
+
 abbrev three : String
 three = "01 00000022 0003 0000 0001 0000 0003 0000 0003 0000 0003 01 02 03 01 0000 01 0001 FF 0002 FFFFFFFE"
 
@@ -235,6 +248,9 @@ read s = (size s, λ n d. sized (refused n d))
 abbrev readBytes : List ℕ → Refusable
 readBytes s = (sizeOf s, λ n d. sized (refused n d))
 
+abbrev toCompile : String → List ℤ → Refusable
+toCompile s list = (compile s list, λ n d. compiled (refused n d leaves list))
+
 abbrev toDecode : String → List ℕ → List ℤ → List ℕ → Refusable
 toDecode s model values booleans = (decode s model values booleans, λ n d. decoded (refused n d leaves (values, booleans)))
 
@@ -244,10 +260,18 @@ toJudge s values booleans = (judge s values booleans, λ n d. judged (refused n 
 abbrev toImage : String → List ℤ → List ℕ → List ℕ → Refusable
 toImage s values booleans model = (image s values booleans model, λ n d. imaged (refused n d leaves model))
 
+abbrev toClosing : String → ℕ → List ℕ → Refusable
+toClosing s x replies = (closing s x replies, λ n d. hour (refused n d))
+
 -- a line of 01's table of refusals, its number and detail
 infix 10 refusal_detail_∶_
 abbrev pub refusal_detail_∶_ : ℕ → ℕ → Refusable → Row
 refusal n detail d ∶ q = record { source = refusalOf01 n; question = q .0; document = q .1 n d }
+
+-- a refusal of 02
+infix 10 P_refuses_detail_∶_
+abbrev pub P_refuses_detail_∶_ : ℕ → ℕ → ℕ → Refusable → Row
+P request refuses n detail d ∶ q = record { source = requestOf02 request; question = q .0; document = q .1 n d }
 
 -- what is accepted beside them, by 01's rules
 infix 10 follows∶_⇒_
@@ -352,17 +376,29 @@ table =
     (refusal 6 detail 13 ∶ read "01 0000000A 0000 0001 0001 01 01 0000") ∷  -- negated Boolean 0
     (refusal 6 detail 13 ∶ read "01 0000000A 0000 0001 0001 01 01 0002") ∷  -- negated Boolean 2 of 1
     (follows∶ size "01 0000000D 0000 0002 0001 02 00 0001 01 0002" ⇒ sized (NMK 2 1 3)) ∷  -- 1 and 2 of 2
-    -- 7: coefficient, variable, constant; term by term and before the constant
+    -- 7 of 01, and 15 to 17 of 02 for what 7 stood for there: coefficient, variable, constant; term by term and before the constant
     (refusal 7 detail 18 ∶ read "01 00000014 0001 0000 0001 0000 0003 01 02 01 00 0001 7FFFFFFF") ∷  -- coefficient 0; variable and constant are wrong too
     (refusal 7 detail 18 ∶ read "01 00000014 0001 0000 0001 0000 0003 01 02 01 41 0001 7FFFFFFF") ∷  -- coefficient 65
     (refusal 7 detail 18 ∶ read "01 00000014 0001 0000 0001 0000 0003 01 02 01 BF 0001 7FFFFFFF") ∷  -- coefficient -65
-    (refusal 7 detail 19 ∶ read "01 00000014 0001 0000 0001 0000 0003 01 02 01 40 0001 7FFFFFFF") ∷  -- coefficient 64; variable 1 of one
-    (refusal 7 detail 21 ∶ read "01 00000014 0001 0000 0001 0000 0003 01 02 01 C0 0000 000F4241") ∷  -- coefficient -64; constant 1,000,001
-    (refusal 7 detail 21 ∶ read "01 00000014 0001 0000 0001 0000 0003 01 02 01 C0 0000 FFF0BDBF") ∷  -- constant -1,000,001
+    (P 1 refuses 15 detail 19 ∶ read "01 00000014 0001 0000 0001 0000 0003 01 02 01 40 0001 7FFFFFFF") ∷  -- coefficient 64; variable 1 of one; the constant is wrong too
+    (P 1 refuses 17 detail 21 ∶ read "01 00000014 0001 0000 0001 0000 0003 01 02 01 C0 0000 000F4241") ∷  -- coefficient -64; constant 1,000,001
+    (P 1 refuses 17 detail 21 ∶ read "01 00000014 0001 0000 0001 0000 0003 01 02 01 C0 0000 FFF0BDBF") ∷  -- constant -1,000,001
     (follows∶ size "01 00000014 0001 0000 0001 0000 0003 01 02 01 01 0000 000F4240" ⇒ sized (NMK 5 6 16)) ∷  -- constant 1,000,000: it always holds
     (follows∶ size "01 00000014 0001 0000 0001 0000 0003 01 02 01 01 0000 FFF0BDC0" ⇒ sized (NMK 5 7 17)) ∷  -- constant -1,000,000: it never holds
-    (refusal 7 detail 22 ∶ read "01 00000013 0001 0000 0001 0000 0003 01 02 02 01 0000 01 0000") ∷  -- variable 0 again; the constant is missing too
-    (refusal 7 detail 29 ∶ read "01 0000001E 0002 0000 0001 0000 0003 0000 0003 01 02 03 01 0000 01 0001 01 0000 00000001") ∷  -- variable 0 again, after 1
+    (P 1 refuses 16 detail 22 ∶ read "01 00000013 0001 0000 0001 0000 0003 01 02 02 01 0000 01 0000") ∷  -- variable 0 again; the constant is missing too
+    (P 1 refuses 16 detail 29 ∶ read "01 0000001E 0002 0000 0001 0000 0003 0000 0003 01 02 03 01 0000 01 0001 01 0000 00000001") ∷  -- variable 0 again, after 1
+    (P 1 refuses 16 detail 29 ∶ read "01 0000001E 0002 0000 0001 0000 0003 0000 0003 01 02 03 01 0000 01 0001 01 0001 00000001") ∷  -- variable 1 again
+    (P 1 refuses 15 detail 29 ∶ read "01 0000001E 0002 0000 0001 0000 0003 0000 0003 01 02 03 01 0000 01 0001 01 FFFF 7FFFFFFF") ∷  -- variable 65,535 of two
+    (P 1 refuses 15 detail 22 ∶ read "01 00000013 0001 0000 0001 0000 0003 01 02 02 01 0000 01 0001") ∷  -- variable 1 of one; the constant is missing too
+    (P 1 refuses 15 detail 15 ∶ read "01 00000010 0000 0000 0001 01 02 01 01 0000 00000001") ∷  -- variable 0 of none
+    (refusal 7 detail 25 ∶ read two₇) ∷  -- the second term's coefficient; its variable stands in the first
+    -- each of the operations gives them, and leaves what it was lent
+    (P 1 refuses 15 detail 26 ∶ read two₁₅) ∷
+    (P 1 refuses 16 detail 26 ∶ toCompile two₁₆ (pos 7 ∷ [])) ∷
+    (P 1 refuses 17 detail 28 ∶ toDecode two₁₇ (2 ∷ []) (pos 7 ∷ []) (7 ∷ [])) ∷
+    (P 1 refuses 15 detail 26 ∶ toJudge two₁₅ (pos 7 ∷ []) (2 ∷ [])) ∷
+    (P 1 refuses 16 detail 26 ∶ toImage two₁₆ (pos 7 ∷ []) (2 ∷ []) (7 ∷ [])) ∷
+    (P 1 refuses 17 detail 28 ∶ toClosing two₁₇ 2 (2 ∷ [])) ∷
     -- 8: each field cut short, before its value (what is there would be out of range), and bytes left over
     (refusal 8 detail 5 ∶ read "01 00000000") ∷  -- no count
     (refusal 8 detail 5 ∶ read "01 00000001 FF") ∷  -- integer variables
@@ -449,4 +485,4 @@ Holds r = ask (r .question) ≡ r .document
 
 pub the-examples-hold : All Holds table
 unfolding all-open
-the-examples-hold = (refl, (refl, (refl, (refl, (refl, (refl, (refl, (refl, (refl, (refl, (refl, (refl, (refl, (refl, (refl, (refl, (refl, (refl, (refl, (refl, (refl, (refl, (refl, (refl, (refl, (refl, (refl, (refl, (refl, (refl, (refl, (refl, (refl, (refl, (refl, (refl, (refl, (refl, (refl, (refl, (refl, (refl, (refl, (refl, (refl, (refl, (refl, (refl, (refl, (refl, (refl, (refl, (refl, (refl, (refl, (refl, (refl, (refl, (refl, (refl, (refl, (refl, (refl, (refl, (refl, (refl, (refl, (refl, (refl, (refl, (refl, (refl, (refl, (refl, (refl, (refl, (refl, (refl, (refl, (refl, (refl, (refl, (refl, (refl, (refl, (refl, (refl, (refl, (refl, (refl, (refl, (refl, (refl, (refl, (refl, (refl, (refl, (refl, (refl, (refl, (refl, (refl, (refl, (refl, (refl, (refl, (refl, (refl, (refl, (refl, (refl, (refl, (refl, (refl, (refl, (refl, (refl, (refl, (refl, (refl, (refl, (refl, (refl, (refl, (refl, (refl, (refl, (refl, (refl, (refl, (refl, (refl, (refl, (refl, (refl, (refl, (refl, (refl, (refl, (refl, (refl, (refl, (refl, (refl, (refl, (refl, (refl, (refl, (refl, (refl, (refl, tt)))))))))))))))))))))))))))))))))))))))))))))))))))))))))))))))))))))))))))))))))))))))))))))))))))))))))))))))))))))))))))))))))))))))))))))))))))))))
+the-examples-hold = (refl, (refl, (refl, (refl, (refl, (refl, (refl, (refl, (refl, (refl, (refl, (refl, (refl, (refl, (refl, (refl, (refl, (refl, (refl, (refl, (refl, (refl, (refl, (refl, (refl, (refl, (refl, (refl, (refl, (refl, (refl, (refl, (refl, (refl, (refl, (refl, (refl, (refl, (refl, (refl, (refl, (refl, (refl, (refl, (refl, (refl, (refl, (refl, (refl, (refl, (refl, (refl, (refl, (refl, (refl, (refl, (refl, (refl, (refl, (refl, (refl, (refl, (refl, (refl, (refl, (refl, (refl, (refl, (refl, (refl, (refl, (refl, (refl, (refl, (refl, (refl, (refl, (refl, (refl, (refl, (refl, (refl, (refl, (refl, (refl, (refl, (refl, (refl, (refl, (refl, (refl, (refl, (refl, (refl, (refl, (refl, (refl, (refl, (refl, (refl, (refl, (refl, (refl, (refl, (refl, (refl, (refl, (refl, (refl, (refl, (refl, (refl, (refl, (refl, (refl, (refl, (refl, (refl, (refl, (refl, (refl, (refl, (refl, (refl, (refl, (refl, (refl, (refl, (refl, (refl, (refl, (refl, (refl, (refl, (refl, (refl, (refl, (refl, (refl, (refl, (refl, (refl, (refl, (refl, (refl, (refl, (refl, (refl, (refl, (refl, (refl, (refl, (refl, (refl, (refl, (refl, (refl, (refl, (refl, (refl, (refl, (refl, tt))))))))))))))))))))))))))))))))))))))))))))))))))))))))))))))))))))))))))))))))))))))))))))))))))))))))))))))))))))))))))))))))))))))))))))))))))))))))))))))))))

@@ -4,8 +4,8 @@
 pub use Rattle.demands.specs.Demand1.{accepts-exactly-what-01-admits, size-accepts-exactly, compile-accepts-exactly, decode-accepts-exactly, judge-accepts-exactly, image-accepts-exactly}
 -- "otherwise it gives the refusal and detail that 01 fixes," first those of the record
 pub use Rattle.demands.specs.Demand1.{size-passes-it-on, compile-passes-it-on, decode-passes-it-on, judge-passes-it-on, image-passes-it-on}
--- (01: "Each is given exactly when its condition is the first met in this order"), of 4 to 7 the field and its range, and 9 of case 10
-pub use Rattle.demands.specs.Refusals.{refused-exactly-when, a-refusal-of-4-to-7-means, no-admitted-record-agrees-through-the-field}
+-- (01: "Each is given exactly when its condition is the first met in this order"), of 4 to 7 and 15 to 17 the field and its range, and 9 of case 10
+pub use Rattle.demands.specs.Refusals.{refused-exactly-when, a-refusal-of-a-field-means, the-wrong-part-of-a-term, no-admitted-record-agrees-through-the-field}
 pub use Rattle.demands.specs.TooLarge.{case-10-is-refused-with-9}
 -- "and each lent list still holds what it held."
 pub use Rattle.demands.specs.Demand1.{compile-refusal-changes-nothing, decode-refusal-changes-nothing, image-refusal-changes-nothing}

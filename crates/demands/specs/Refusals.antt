@@ -6,8 +6,8 @@ use mathlib.Core.List.{List}
 use Prim.Native.Nat.{ℕ, _+_, _-_, _≤_, _<_}
 use native.Mathlib.Omega.{arith}
 use lib.ListN.{length, getD}
-use lib.Dec.{leb, eqb}
-use borrow.Author.Tests.{leb-true, leb-false, le-leb, lt-leb, eqb-true, eqb-false, eq-eqb, ne-eqb}
+use lib.Dec.{leb, ltb, eqb}
+use borrow.Author.Tests.{leb-true, leb-false, ltb-true, ltb-false, le-leb, lt-leb, eqb-true, eqb-false, eq-eqb, ne-eqb}
 use Rattle.definitions.specs.Board.{Board}
 use Rattle.definitions.specs.Result.{Result, done, refused, need}
 use Rattle.definitions.specs.Result as result
@@ -17,7 +17,8 @@ use Rattle.definitions.specs.Operations.{readBoard, accepted}
 use Rattle.laws.specs.Readings.{never, place}
 use Rattle.laws.specs.Grammar.{finds}
 use Rattle.laws.specs.Reread.{wrapped, accepted-parts}
-use Rattle.laws.specs.Refusals.{Ranged, rule, Agree, agree-less, big-agree, Outside, Because, missing, bad, refusal-is}
+use Rattle.definitions.specs.Tools.{All, if_then_else_}
+use Rattle.laws.specs.Refusals.{Ranged, integerCount, booleanCount, clauseCount, lower, upper, literalCount, kind, booleanNumber, termCount, coefficient, variable, constant, rule, Agree, agree-less, big-agree, Outside, Because, missing, bad, refusal-is}
 use Rattle.laws.specs.Explained.{explained-body}
 
 -- ---- "exactly when its condition is the first met in this order"
@@ -103,27 +104,27 @@ module _ (s : List ℕ) where
   pub refused-exactly-when : (n d : ℕ) → (accepted s ≡ refused n d) ↔ Why s n d
   refused-exactly-when n d = (why n d, because n d)
 
--- ---- 4 to 7: a field out of its range
--- a record that begins alike before it is refused so where its own value there is out of range, and nowhere up to it where that is in range
+-- ---- 4 to 7 and 15 to 17: a field out of its range
+-- a record that begins alike before it is refused there too where its own value is out of range, and nowhere up to it where that is in range
 pub record OutOfRange (s : List ℕ) (n p : ℕ) : Type 0 where
   pub field : Ranged
-  pub numbered : n ≡ rule field .number
+  pub numbered : n ≡ rule field .number (big s p (rule field .width))
   pub there : p + rule field .width ≤ length s
   pub outside : ¬ rule field .InRange (big s p (rule field .width))
   pub unmended : (s′ : List ℕ) → Headed s′ → Agree p s s′ → p + rule field .width ≤ length s′ → ¬ rule field .InRange (big s′ p (rule field .width))
-      → accepted s′ ≡ refused n p
+      → accepted s′ ≡ refused (rule field .number (big s′ p (rule field .width))) p
   pub mended : (s′ : List ℕ) → Agree p s s′ → p + rule field .width ≤ length s′ → rule field .InRange (big s′ p (rule field .width))
-      → (n′ p′ : ℕ) → accepted s′ ≡ refused n′ p′ → 4 ≤ n′ → n′ ≤ 8 → p < p′
+      → (n′ p′ : ℕ) → accepted s′ ≡ refused n′ p′ → 4 ≤ n′ → n′ ≢ 9 → p < p′
 
--- 4 to 8 point where reading the body stopped
-points : (s : List ℕ) (n p : ℕ) → Why s n p → 4 ≤ n → n ≤ 8 → place (readBody 1 s 5) ≡ p
+-- from 4 on all but 9 point where reading the body stopped
+points : (s : List ℕ) (n p : ℕ) → Why s n p → 4 ≤ n → n ≢ 9 → place (readBody 1 s 5) ≡ p
 points s n p (too-long h) l m = absurd (omega arith)
 points s n p (too-short h) l m = absurd (omega arith)
 points s n p (another-version f k h) l m = absurd (omega arith)
 points s n p (another-length f k v h) l m = absurd (omega arith)
 points s n p (in-the-body h e b) l m = rw e
 points s n p (left-over B h e k) l m = rw e
-points s n p (too-large B e h) l m = absurd (omega arith)
+points s n p (too-large B e h) l m = absurd (m refl)
 
 out-of-range : (s : List ℕ) (n p : ℕ) → Outside (readBody 1) s 5 n p → OutOfRange s n p
 out-of-range s n p o = record {
@@ -131,25 +132,51 @@ out-of-range s n p o = record {
   numbered = o .numbered;
   there = o .there;
   outside = o .outside;
-  unmended = λ s′ h a l k. let e = o .unmended s′ a l k in refused-exactly-when s′ n p .1 (in-the-body h e (explained-body 1 .explains s′ 5 n p (h .five) e));
+  unmended = λ s′ h a l k. let e = o .unmended s′ a l k in refused-exactly-when s′ _ p .1 (in-the-body h e (explained-body 1 .explains s′ 5 _ p (h .five) e));
   mended = λ s′ a l k n′ p′ e i j. rw (points s′ n′ p′ (refused-exactly-when s′ n′ p′ .0 e) i j) at (o .mended s′ a l k);
 }
 
-pub a-refusal-of-4-to-7-means : (s : List ℕ) (n p : ℕ) → accepted s ≡ refused n p → 4 ≤ n → n ≤ 7 → OutOfRange s n p
-a-refusal-of-4-to-7-means s n p e l m = go n p (refused-exactly-when s n p .0 e) l m
+pub a-refusal-of-a-field-means : (s : List ℕ) (n p : ℕ) → accepted s ≡ refused n p → 4 ≤ n → n ≢ 8 → n ≢ 9 → OutOfRange s n p
+a-refusal-of-a-field-means s n p e l m k = go n p (refused-exactly-when s n p .0 e) l m k
   where
-    because-of : (n p : ℕ) → Because (readBody 1) s 5 n p → n ≤ 7 → OutOfRange s n p
-    because-of n p (missing f h) m = absurd (omega arith)
+    because-of : (n p : ℕ) → Because (readBody 1) s 5 n p → n ≢ 8 → OutOfRange s n p
+    because-of n p (missing f h) m = absurd (m refl)
     because-of n p (bad o) m = out-of-range s n p o
 
-    go : (n p : ℕ) → Why s n p → 4 ≤ n → n ≤ 7 → OutOfRange s n p
-    go n p (too-long h) l m = absurd (omega arith)
-    go n p (too-short h) l m = absurd (omega arith)
-    go n p (another-version f k h) l m = absurd (omega arith)
-    go n p (another-length f k v h) l m = absurd (omega arith)
-    go n p (in-the-body h c b) l m = because-of n p b m
-    go n p (left-over B h c k) l m = absurd (omega arith)
-    go n p (too-large B c h) l m = absurd (omega arith)
+    go : (n p : ℕ) → Why s n p → 4 ≤ n → n ≢ 8 → n ≢ 9 → OutOfRange s n p
+    go n p (too-long h) l m k = absurd (omega arith)
+    go n p (too-short h) l m k = absurd (omega arith)
+    go n p (another-version f i h) l m k = absurd (omega arith)
+    go n p (another-length f i v h) l m k = absurd (omega arith)
+    go n p (in-the-body h c b) l m k = because-of n p b m
+    go n p (left-over B h c i) l m k = absurd (m refl)
+    go n p (too-large B c h) l m k = absurd (k refl)
+
+-- ---- which part of a term is wrong (02, P1)
+-- a number from 7 on, of a field's value out of range
+pub data WrongPart (v : ℕ) : ℕ → Ranged → Type 0 where
+  wrong-coefficient : WrongPart v 7 coefficient
+  unknown-variable : {ints : ℕ} {seen : List ℕ} → ints ≤ v → WrongPart v 15 (variable ints seen)
+  repeated-variable : {ints : ℕ} {seen : List ℕ} → v < ints → ¬ All (λ y. v ≢ y) seen → WrongPart v 16 (variable ints seen)
+  wrong-constant : WrongPart v 17 constant
+
+pub the-wrong-part-of-a-term : (f : Ranged) (v : ℕ) → ¬ rule f .InRange v → 7 ≤ rule f .number v → WrongPart v (rule f .number v) f
+the-wrong-part-of-a-term integerCount v o l = absurd (omega arith)
+the-wrong-part-of-a-term booleanCount v o l = absurd (omega arith)
+the-wrong-part-of-a-term clauseCount v o l = absurd (omega arith)
+the-wrong-part-of-a-term lower v o l = absurd (omega arith)
+the-wrong-part-of-a-term (upper b) v o l = absurd (omega arith)
+the-wrong-part-of-a-term literalCount v o l = absurd (omega arith)
+the-wrong-part-of-a-term kind v o l = absurd (omega arith)
+the-wrong-part-of-a-term (booleanNumber m) v o l = absurd (omega arith)
+the-wrong-part-of-a-term termCount v o l = absurd (omega arith)
+the-wrong-part-of-a-term coefficient v o l = wrong-coefficient
+the-wrong-part-of-a-term (variable ints seen) v o l = go (ltb v ints) refl
+  where
+    go : (t : Bool) → ltb v ints ≡ t → WrongPart v (if t then 16 else 15) (variable ints seen)
+    go true e = repeated-variable (ltb-true v ints e) (λ h. o (ltb-true v ints e, h))
+    go false e = unknown-variable (ltb-false v ints e)
+the-wrong-part-of-a-term constant v o l = wrong-constant
 
 -- so no admitted record has the same bytes through that field
 pub no-admitted-record-agrees-through-the-field : (s : List ℕ) (n p : ℕ) (o : OutOfRange s n p) (s′ : List ℕ) → Agree (p + rule (o .field) .width) s s′

@@ -29,48 +29,52 @@ module _ {A B : Type 0} where
   through k why at g false u = refl
 
 module _ {A : Type 0} where
-  -- w bytes, a test of their number and the value made of it
-  abbrev tested : ℕ → ℕ → (ℕ → A) → (ℕ → Bool) → Reader A
+  -- w bytes, a test of their number, why one that fails it is refused, and the value made of it
+  abbrev tested : (ℕ → ℕ) → ℕ → (ℕ → A) → (ℕ → Bool) → Reader A
   tested why w value good s at =
-      if leb (at + w) (length s) then (if good (big s at w) then finds (value (big s at w)) (at + w) else refused why at) else refused 8 at
+      if leb (at + w) (length s) then (if good (big s at w) then finds (value (big s at w)) (at + w) else refused (why (big s at w)) at) else refused 8 at
 
-  record IsField (why w : ℕ) (value : ℕ → A) (good : ℕ → Bool) (r : Reader A) : Type 0 where
+  record IsField (why : ℕ → ℕ) (w : ℕ) (value : ℕ → A) (good : ℕ → Bool) (r : Reader A) : Type 0 where
     orderly : Orderly r
     is : (s : List ℕ) (at : ℕ) → r s at ≡ tested why w value good s at
 
-  twice : (m m′ n : Result (Got A)) (t u v : Bool)
-      → (if t then (if u then (if v then m else m′) else m′) else n) ≡ (if t then (if (u && v) then m else m′) else n)
-  twice m m′ n true true v = refl
-  twice m m′ n true false v = refl
-  twice m m′ n false u v = refl
+  twice : (m e : Result (Got A)) (why n at : ℕ) (t u v : Bool)
+      → (if t then (if u then (if v then m else refused n at) else refused why at) else e) ≡ (if t then (if (u && v) then m else refused (if u then n else why) at) else e)
+  twice m e why n at true true v = refl
+  twice m e why n at true false v = refl
+  twice m e why n at false u v = refl
 
-  is-asked : {why w : ℕ} {value : ℕ → A} {good : ℕ → Bool} {r : Reader A} (also : A → Bool)
-      → IsField why w value good r → IsField why w value (λ v. good v && also (value v)) (asked why also r)
-  is-asked {why} {w} {value} {good} {r} also o = record { orderly = orderly-asked why also (o .orderly); is = is }
+  -- one test more, with a number of its own
+  is-asked : {why : ℕ → ℕ} {w : ℕ} {value : ℕ → A} {good : ℕ → Bool} {r : Reader A} (n : ℕ) (also : A → Bool)
+      → IsField why w value good r → IsField (λ v. if good v then n else why v) w value (λ v. good v && also (value v)) (asked n also r)
+  is-asked {why} {w} {value} {good} {r} n also o = record { orderly = orderly-asked n also (o .orderly); is = is }
     where
-      is : (s : List ℕ) (at : ℕ) → asked why also r s at ≡ tested why w value (λ v. good v && also (value v)) s at
+      is : (s : List ℕ) (at : ℕ) → asked n also r s at ≡ tested (λ v. if good v then n else why v) w value (λ v. good v && also (value v)) s at
       is s at =
           let v = big s at w in
           let g : Got A = record { value = value v; next = at + w } in
           let fits = leb (at + w) (length s) in
-          ap (λ m. result._>>=_ m (λ g. if also (g .value) then done g else refused why at)) (o .is s at)
-          ∙ through (λ g. if also (g .value) then done g else refused why at) why at g fits (good v)
-          ∙ twice (done g) (refused why at) (refused 8 at) fits (good v) (also (value v))
+          let test : Got A → Result (Got A) = λ g. if also (g .value) then done g else refused n at in
+          ap (λ m. result._>>=_ m test) (o .is s at) ∙ through test (why v) at g fits (good v) ∙ twice (done g) (refused 8 at) (why v) n at fits (good v) (also (value v))
 
-is-unsigned : (why w : ℕ) → IsField why w (λ v. v) (λ v. true) (unsigned w)
+  is-renumbered : {why why′ : ℕ → ℕ} {w : ℕ} {value : ℕ → A} {good : ℕ → Bool} {r : Reader A} → ((v : ℕ) → why v ≡ why′ v) → IsField why w value good r → IsField why′ w value good r
+  is-renumbered {w = w} e o = record { orderly = o .orderly; is = λ s at. rw (← e (big s at w)) (o .is s at) }
+
+-- no test yet: any number would do
+is-unsigned : (w : ℕ) → IsField (λ v. 8) w (λ v. v) (λ v. true) (unsigned w)
 unfolding unsigned
-is-unsigned why w = record { orderly = orderly-unsigned w; is = λ s at. refl }
+is-unsigned w = record { orderly = orderly-unsigned w; is = λ s at. refl }
 
-is-signed : (why w : ℕ) → IsField why w (twos w) (λ v. true) (signed w)
+is-signed : (w : ℕ) → IsField (λ v. 8) w (twos w) (λ v. true) (signed w)
 unfolding signed unsigned
-is-signed why w = record {
+is-signed w = record {
   orderly = orderly-bind (orderly-unsigned w) (λ v. orderly-give (twos w v));
-  is = λ s at. through (λ g. finds (twos w (g .value)) (g .next)) why at (record { value = big s at w; next = at + w }) (leb (at + w) (length s)) true;
+  is = λ s at. through (λ g. finds (twos w (g .value)) (g .next)) 8 at (record { value = big s at w; next = at + w }) (leb (at + w) (length s)) true;
 }
 
 module _ {A : Type 0} (f : Ranged) {value : ℕ → A} {good : ℕ → Bool} {r : Reader A}
     (o : IsField (rule f .number) (rule f .width) value good r) (test : (v : ℕ) → Decides (good v) (rule f .InRange v)) where
-  abbrev n : ℕ
+  abbrev n : ℕ → ℕ
   n = rule f .number
 
   abbrev w : ℕ
@@ -79,7 +83,7 @@ module _ {A : Type 0} (f : Ranged) {value : ℕ → A} {good : ℕ → Bool} {r 
   -- the three answers
   data Answered (s : List ℕ) (at : ℕ) : Type 0 where
     inside : at + w ≤ length s → rule f .InRange (big s at w) → r s at ≡ finds (value (big s at w)) (at + w) → Answered s at
-    outside : at + w ≤ length s → ¬ rule f .InRange (big s at w) → r s at ≡ refused n at → Answered s at
+    outside : at + w ≤ length s → ¬ rule f .InRange (big s at w) → r s at ≡ refused (n (big s at w)) at → Answered s at
     cut : length s < at + w → r s at ≡ refused 8 at → Answered s at
 
   answered : (s : List ℕ) (at : ℕ) → Answered s at
@@ -98,10 +102,10 @@ module _ {A : Type 0} (f : Ranged) {value : ℕ → A} {good : ℕ → Bool} {r 
       go (outside i j e) = absurd (j k)
       go (cut i e) = absurd (omega arith)
 
-  when-outside : (s : List ℕ) (at : ℕ) → at + w ≤ length s → ¬ rule f .InRange (big s at w) → r s at ≡ refused n at
+  when-outside : (s : List ℕ) (at : ℕ) → at + w ≤ length s → ¬ rule f .InRange (big s at w) → r s at ≡ refused (n (big s at w)) at
   when-outside s at h k = go (answered s at)
     where
-      go : Answered s at → r s at ≡ refused n at
+      go : Answered s at → r s at ≡ refused (n (big s at w)) at
       go (inside i j e) = absurd (k j)
       go (outside i j e) = e
       go (cut i e) = absurd (omega arith)
@@ -121,7 +125,7 @@ module _ {A : Type 0} (f : Ranged) {value : ℕ → A} {good : ℕ → Bool} {r 
   field-explains : (s : List ℕ) (at m p : ℕ) → r s at ≡ refused m p → Because r s at m p
   field-explains s at m p d = go (answered s at)
     where
-      here : at + w ≤ length s → ¬ rule f .InRange (big s at w) → Outside r s at n at
+      here : at + w ≤ length s → ¬ rule f .InRange (big s at w) → Outside r s at (n (big s at w)) at
       here i j = record {
         field = f;
         numbered = refl;
@@ -140,19 +144,23 @@ module _ {A : Type 0} (f : Ranged) {value : ℕ → A} {good : ℕ → Bool} {r 
   explained-field = record { orderly = o .orderly; stays = λ s s′ at g h. field-stays s s′ at g; explains = λ s at m p h. field-explains s at m p }
 
 -- ---- the record's readers
-is-count : (least most w : ℕ) → IsField 4 w (λ v. v) (λ v. leb least v && leb v most) (count least most w)
+is-count : (least most w : ℕ) → IsField (λ v. 4) w (λ v. v) (λ v. leb least v && leb v most) (count least most w)
 unfolding count
-is-count least most w = is-asked (λ v. leb least v && leb v most) (is-unsigned 4 w)
+is-count least most w = is-asked 4 (λ v. leb least v && leb v most) (is-unsigned w)
 
 abbrev in-bounds : ℤ → Bool
 in-bounds = within (neg 4096) (pos 4095)
 
+either : (t : Bool) {n : ℕ} → (if t then n else n) ≡ n
+either true = refl
+either false = refl
+
 explained-bounds : Explained readBounds
 unfolding readBounds bound
 explained-bounds =
-    explained-bind (explained-field lower (is-asked in-bounds (is-signed 5 2)) (λ v. is-within (neg 4096) (pos 4095) (twos 2 v))) λ l.
+    explained-bind (explained-field lower (is-asked 5 in-bounds (is-signed 2)) (λ v. is-within (neg 4096) (pos 4095) (twos 2 v))) λ l.
     explained-mapped (λ u. record { lo = l; hi = u })
-    (explained-field (upper l) (is-asked (leZ l) (is-asked in-bounds (is-signed 5 2))) (λ v. both _ _ (is-within (neg 4096) (pos 4095) (twos 2 v)) (at-mostZ l (twos 2 v))))
+    (explained-field (upper l) (is-renumbered (λ v. either (in-bounds (twos 2 v))) (is-asked 5 (leZ l) (is-asked 5 in-bounds (is-signed 2)))) (λ v. both _ _ (is-within (neg 4096) (pos 4095) (twos 2 v)) (at-mostZ l (twos 2 v))))
 
 module _ (ctx : Context) where
   abbrev some-coefficient : ℤ → Bool
@@ -162,8 +170,8 @@ module _ (ctx : Context) where
   unfolding readTerms
   explained-terms seen zero = explained-give []
   explained-terms seen (suc n) =
-      explained-bind (explained-field coefficient (is-asked some-coefficient (is-signed 7 1)) (λ v. both _ _ (is-within (neg 64) (pos 64) (twos 1 v)) (apart _ (equalsZ (twos 1 v) (pos 0))))) λ a.
-      explained-bind (explained-field (variable (ctx .ints) seen) (is-asked (λ x. not (any (eqb x) seen)) (is-asked (λ x. ltb x (ctx .ints)) (is-unsigned 7 2)))
+      explained-bind (explained-field coefficient (is-asked 7 some-coefficient (is-signed 1)) (λ v. both _ _ (is-within (neg 64) (pos 64) (twos 1 v)) (apart _ (equalsZ (twos 1 v) (pos 0))))) λ a.
+      explained-bind (explained-field (variable (ctx .ints) seen) (is-asked 16 (λ x. not (any (eqb x) seen)) (is-asked 15 (λ x. ltb x (ctx .ints)) (is-unsigned 2)))
       (λ v. both _ _ (at-most (suc v) (ctx .ints)) (new v seen))) λ x.
       explained-mapped (λ ts. record { coef = a; var = x } ∷ ts) (explained-terms (x ∷ seen) n)
 
@@ -173,11 +181,11 @@ module _ (ctx : Context) where
       explained-bind (explained-field termCount (is-count 1 3 1) (from-to 1 3)) λ n.
       explained-bind (explained-terms [] n) λ ts.
       explained-mapped (λ k. record { terms = ts; constant = k })
-      (explained-field constant (is-asked (within (neg 1000000) (pos 1000000)) (is-signed 7 4)) (λ v. is-within (neg 1000000) (pos 1000000) (twos 4 v)))
+      (explained-field constant (is-asked 17 (within (neg 1000000) (pos 1000000)) (is-signed 4)) (λ v. is-within (neg 1000000) (pos 1000000) (twos 4 v)))
 
   explained-boolean : Explained (boolean ctx)
   unfolding boolean
-  explained-boolean = explained-field (booleanNumber (ctx .bools)) (is-asked (λ b. leb 1 b && leb b (ctx .bools)) (is-unsigned 6 2)) (from-to 1 (ctx .bools))
+  explained-boolean = explained-field (booleanNumber (ctx .bools)) (is-asked 6 (λ b. leb 1 b && leb b (ctx .bools)) (is-unsigned 2)) (from-to 1 (ctx .bools))
 
   explained-kind : (k : ℕ) → Explained (ofKind ctx k)
   unfolding ofKind
@@ -189,7 +197,7 @@ module _ (ctx : Context) where
   unfolding readClause readLiteral
   explained-clause =
       explained-bind (explained-field literalCount (is-count 0 64 1) (from-to 0 64)) λ n.
-      explained-times (explained-bind (explained-field kind (is-asked (λ k. leb k 2) (is-unsigned 6 1)) (λ v. at-most v 2)) explained-kind) n
+      explained-times (explained-bind (explained-field kind (is-asked 6 (λ k. leb k 2) (is-unsigned 1)) (λ v. at-most v 2)) explained-kind) n
 
 pub explained-body : (version : ℕ) → Explained (readBody version)
 unfolding readBody

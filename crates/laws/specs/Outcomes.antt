@@ -12,15 +12,16 @@ use Rattle.definitions.specs.Operations.{Sizes}
 use Rattle.definitions.specs.Closing.{Earliest, found, none, unfinished}
 use Rattle.definitions.specs.Answers.{said, saidVerdict, saidSizing, saidHour}
 
--- a refusal's number and detail tell which it is; 15 to 21 are not given yet
+-- a refusal's number and detail tell which it is; 18 to 21 are not given yet
 pub unsaid : ℕ × ℕ → Refusal
 unsaid p =
     let d = p .1 in
     getD
     (Refusal.RecordTooLong ∷ Refusal.LengthWrong ∷ Refusal.VersionUnknown ∷ Refusal.CountWrong d ∷ Refusal.BoundWrong d ∷
-    Refusal.LiteralWrong d ∷ Refusal.TermWrong d ∷ Refusal.EndWrong d ∷ Refusal.ListTooLong ∷ Refusal.ListTooShort d ∷
+    Refusal.LiteralWrong d ∷ Refusal.CoefficientWrong d ∷ Refusal.EndWrong d ∷ Refusal.ListTooLong ∷ Refusal.ListTooShort d ∷
     Refusal.LentWrong d ∷ Refusal.ByteWrong d ∷ Refusal.ClauseFails d ∷ Refusal.ValueOutside d ∷
-    (replicate 7 Refusal.RecordTooLong ++ (Refusal.NoVariable d ∷ Refusal.RepliesLeft d ∷ [])))
+    Refusal.VariableUnknown d ∷ Refusal.VariableRepeated d ∷ Refusal.ConstantWrong d ∷
+    (replicate 4 Refusal.RecordTooLong ++ (Refusal.NoVariable d ∷ Refusal.RepliesLeft d ∷ [])))
     (p .0 - 1) Refusal.RecordTooLong
 
 pub unsaid-said : (r : Refusal) → unsaid (said r) ≡ r
@@ -31,7 +32,7 @@ unsaid-said Refusal.VersionUnknown = refl
 unsaid-said (Refusal.CountWrong d) = refl
 unsaid-said (Refusal.BoundWrong d) = refl
 unsaid-said (Refusal.LiteralWrong d) = refl
-unsaid-said (Refusal.TermWrong d) = refl
+unsaid-said (Refusal.CoefficientWrong d) = refl
 unsaid-said (Refusal.EndWrong d) = refl
 unsaid-said Refusal.ListTooLong = refl
 unsaid-said (Refusal.ListTooShort d) = refl
@@ -39,6 +40,9 @@ unsaid-said (Refusal.LentWrong d) = refl
 unsaid-said (Refusal.ByteWrong d) = refl
 unsaid-said (Refusal.ClauseFails d) = refl
 unsaid-said (Refusal.ValueOutside d) = refl
+unsaid-said (Refusal.VariableUnknown d) = refl
+unsaid-said (Refusal.VariableRepeated d) = refl
+unsaid-said (Refusal.ConstantWrong d) = refl
 unsaid-said (Refusal.NoVariable d) = refl
 unsaid-said (Refusal.RepliesLeft d) = refl
 

@@ -110,7 +110,7 @@ module _ (ctx : Context) where
       from (t ∷ ts) fs (spelt g) = absurd (omega (arith, g .many))
   reads-terms seen (suc n) = reads-as (
       reads-bind (reads-tested 7 (reads-signed 1) (λ a. both _ _ (is-within (neg 64) (pos 64) a) (apart _ (equalsZ a (pos 0))))) λ a.
-      reads-bind (reads-asked 7 (reads-tested 7 (reads-unsigned 2) (λ x. at-most (suc x) (ctx .ints))) (λ x. new x seen)) λ x.
+      reads-bind (reads-asked 16 (reads-tested 15 (reads-unsigned 2) (λ x. at-most (suc x) (ctx .ints))) (λ x. new x seen)) λ x.
       reads-mapped (λ ts. record { coef = a; var = x } ∷ ts) (reads-terms (x ∷ seen) n)) to from
     where
       Raw : Grammar (List Term)
@@ -141,7 +141,7 @@ module _ (ctx : Context) where
   reads-comparison = reads-as (
       reads-bind (reads-count 1 3 1) λ n.
       reads-bind (reads-terms [] n) λ ts.
-      reads-mapped (λ k. record { terms = ts; constant = k }) (reads-tested 7 (reads-signed 4) (is-within (neg 1000000) (pos 1000000)))) to from
+      reads-mapped (λ k. record { terms = ts; constant = k }) (reads-tested 17 (reads-signed 4) (is-within (neg 1000000) (pos 1000000)))) to from
     where
       Raw : Grammar Comparison
       Raw =

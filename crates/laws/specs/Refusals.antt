@@ -1,14 +1,15 @@
--- What a reader's refusal means (01, "What is said no to", 4 to 8): the field at its place, that field's range, and what another record
+-- What a reader's refusal means (01, "What is said no to", 4 to 8; 02, P1): the field at its place, that field's range, and what another record
 -- is told that begins with the same bytes. Assumes nothing.
 use mathlib.Core.Path.{_≡_, refl, sym}
 use mathlib.Core.Logic.{_≢_}
 use mathlib.Core.List.{List, [], _∷_}
 use Prim.Native.Nat.{ℕ, zero, suc, _+_, _≤_, _<_}
 use native.Mathlib.Omega.{arith}
+use lib.Dec.{ltb}
 use lib.ListN.{length, getD}
 use lib.IntN.{ℤ, pos}
 use lib.Signed.{_≤ℤ_}
-use Rattle.definitions.specs.Tools.{All, neg}
+use Rattle.definitions.specs.Tools.{All, neg, if_then_else_}
 use Rattle.definitions.specs.Result.{Result, done, refused}
 use Rattle.definitions.specs.Result as result
 use Rattle.definitions.specs.Reading.{Got, Reader, give, _>>=_, mapped, times, big, twos}
@@ -32,25 +33,25 @@ pub data Ranged : Type 0 where
   variable : ℕ → List ℕ → Ranged
   constant : Ranged
 
--- the number that refuses it, its bytes, and where the number in them is in range
+-- its bytes, where the number in them is in range, and with which number one out of range is refused
 pub record Rule : Type 1 where
-  pub number : ℕ
+  pub number : ℕ → ℕ
   pub width : ℕ
   pub InRange : ℕ → Type 0
 
 abbrev pub rule : Ranged → Rule
-rule integerCount = record { number = 4; width = 2; InRange = FromTo 0 1024 }
-rule booleanCount = record { number = 4; width = 2; InRange = FromTo 0 4096 }
-rule clauseCount = record { number = 4; width = 2; InRange = FromTo 0 4096 }
-rule lower = record { number = 5; width = 2; InRange = λ v. Within (neg 4096) (pos 4095) (twos 2 v) }
-rule (upper l) = record { number = 5; width = 2; InRange = λ v. Within (neg 4096) (pos 4095) (twos 2 v) × (l ≤ℤ twos 2 v) }
-rule literalCount = record { number = 4; width = 1; InRange = FromTo 0 64 }
-rule kind = record { number = 6; width = 1; InRange = λ v. v ≤ 2 }
-rule (booleanNumber m) = record { number = 6; width = 2; InRange = FromTo 1 m }
-rule termCount = record { number = 4; width = 1; InRange = FromTo 1 3 }
-rule coefficient = record { number = 7; width = 1; InRange = λ v. Within (neg 64) (pos 64) (twos 1 v) × (twos 1 v ≢ pos 0) }
-rule (variable ints seen) = record { number = 7; width = 2; InRange = λ v. (v < ints) × All (λ y. v ≢ y) seen }
-rule constant = record { number = 7; width = 4; InRange = λ v. Within (neg 1000000) (pos 1000000) (twos 4 v) }
+rule integerCount = record { number = λ v. 4; width = 2; InRange = FromTo 0 1024 }
+rule booleanCount = record { number = λ v. 4; width = 2; InRange = FromTo 0 4096 }
+rule clauseCount = record { number = λ v. 4; width = 2; InRange = FromTo 0 4096 }
+rule lower = record { number = λ v. 5; width = 2; InRange = λ v. Within (neg 4096) (pos 4095) (twos 2 v) }
+rule (upper l) = record { number = λ v. 5; width = 2; InRange = λ v. Within (neg 4096) (pos 4095) (twos 2 v) × (l ≤ℤ twos 2 v) }
+rule literalCount = record { number = λ v. 4; width = 1; InRange = FromTo 0 64 }
+rule kind = record { number = λ v. 6; width = 1; InRange = λ v. v ≤ 2 }
+rule (booleanNumber m) = record { number = λ v. 6; width = 2; InRange = FromTo 1 m }
+rule termCount = record { number = λ v. 4; width = 1; InRange = FromTo 1 3 }
+rule coefficient = record { number = λ v. 7; width = 1; InRange = λ v. Within (neg 64) (pos 64) (twos 1 v) × (twos 1 v ≢ pos 0) }
+rule (variable ints seen) = record { number = λ v. if ltb v ints then 16 else 15; width = 2; InRange = λ v. (v < ints) × All (λ y. v ≢ y) seen }
+rule constant = record { number = λ v. 17; width = 4; InRange = λ v. Within (neg 1000000) (pos 1000000) (twos 4 v) }
 
 pub some-bytes : (f : Ranged) → 1 ≤ rule f .width
 some-bytes integerCount = omega arith
@@ -84,14 +85,15 @@ module _ {s s′ : List ℕ} where
 
 -- ---- why a reader refuses
 module _ {A : Type 0} (r : Reader A) (s : List ℕ) (at : ℕ) where
-  -- a field at the place is out of its range. What begins alike before it is refused so where its own value there is out of range, and read
+  -- a field at the place is out of its range. What begins alike before it is refused there too where its own value is out of range, and read
   -- beyond it where that is in range
   pub record Outside (n p : ℕ) : Type 0 where
     pub field : Ranged
-    pub numbered : n ≡ rule field .number
+    pub numbered : n ≡ rule field .number (big s p (rule field .width))
     pub there : p + rule field .width ≤ length s
     pub outside : ¬ rule field .InRange (big s p (rule field .width))
-    pub unmended : (s′ : List ℕ) → Agree p s s′ → p + rule field .width ≤ length s′ → ¬ rule field .InRange (big s′ p (rule field .width)) → r s′ at ≡ refused n p
+    pub unmended : (s′ : List ℕ) → Agree p s s′ → p + rule field .width ≤ length s′ → ¬ rule field .InRange (big s′ p (rule field .width))
+        → r s′ at ≡ refused (rule field .number (big s′ p (rule field .width))) p
     pub mended : (s′ : List ℕ) → Agree p s s′ → p + rule field .width ≤ length s′ → rule field .InRange (big s′ p (rule field .width)) → p < place (r s′ at)
 
   -- that, or a field runs past the end

@@ -1,4 +1,4 @@
-// What all operations begin with: the record's refusals 1 to 9, or its header and sizes. They are counted; no tuple is walked.
+// What all operations begin with: the record's refusals, or its header and sizes. They are counted; no tuple is walked.
 use crate::sums::totals_of;
 use definitions::Refusal;
 use opening::Header;
@@ -47,7 +47,7 @@ pub enum Measured {
 // The longest list that is not refused.
 const LONGEST: usize = 2000000000;
 
-// Refusal 1 to 9, or the record's header and sizes.
+// A refusal of the record, or its header and sizes.
 pub fn measure(bytes: &[u8]) -> Measured
     ensures { λ r. ⌜ Allowed (now (bytes .entry)) r ⌝ }
 {

@@ -41,7 +41,10 @@ pub fn refusal_of(fault: Fault) -> Refusal
         Why::Count => Refusal::CountWrong { place },
         Why::Bound => Refusal::BoundWrong { place },
         Why::Literal => Refusal::LiteralWrong { place },
-        Why::Term => Refusal::TermWrong { place },
+        Why::Coefficient => Refusal::CoefficientWrong { place },
         Why::End => Refusal::EndWrong { place },
+        Why::Unknown => Refusal::VariableUnknown { place },
+        Why::Repeated => Refusal::VariableRepeated { place },
+        Why::Constant => Refusal::ConstantWrong { place },
     }
 }

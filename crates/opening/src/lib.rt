@@ -1,4 +1,4 @@
-// The whole record: 01's refusals 1 to 8 for every input, or its header: version, counts and places.
+// The whole record: its refusals up to 8 and 15 to 17 for every input, or its header: version, counts and places.
 ghost use mathlib.Core.Path.{_≡_};
 ghost use Prim.Native.Nat.{_≤_};
 ghost use Rattle.reader.specs.Said.{contextOf};
@@ -52,7 +52,7 @@ pub enum Opening {
     Refused(Refusal),
 }
 
-// Refusals 1 to 8, in 01's order: fewer than 5 bytes before the version, the stated length after it.
+// The record's refusals but 9, in 01's order: fewer than 5 bytes before the version, the stated length after it.
 pub fn open(bytes: &[u8]) -> Opening
     ensures { λ r. ⌜ Allowed (now (bytes .entry)) r ⌝ }
 {

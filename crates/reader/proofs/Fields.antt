@@ -30,7 +30,7 @@ module _ {A : Type 0} where
 
 -- ---- the definitions' fields
 module _ (s : List ℕ) (at : ℕ) where
-  pub coefficient-is : coefficient s at ≡ result._>>=_ (wholeFrom Why.Term (neg 64) (pos 64) 1 s at) (λ g. if not (eqZ (g .value) (pos 0)) then done g else refused 7 at)
+  pub coefficient-is : coefficient s at ≡ result._>>=_ (wholeFrom Why.Coefficient (neg 64) (pos 64) 1 s at) (λ g. if not (eqZ (g .value) (pos 0)) then done g else refused 7 at)
   unfolding coefficient wholeFrom
   coefficient-is = asked-and 7 at (within (neg 64) (pos 64)) (λ a. not (eqZ a (pos 0))) (signed 1 s at)
 

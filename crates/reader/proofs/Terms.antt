@@ -41,7 +41,7 @@ coefficient-got s at e = signed-got 1 s at (asked-got 7 at (λ a. within (neg 64
 
 variable-got : (ctx : Context) (seen : List ℕ) (s : List ℕ) (at : ℕ) {g : Got ℕ} → variable ctx seen s at ≡ done g → (g ≡ record { value = big s at 2; next = at + 2 }) × (at + 2 ≤ length s)
 unfolding variable
-variable-got ctx seen s at e = unsigned-got 2 s at (asked-got 7 at (λ x. ltb x (ctx .ints)) (unsigned 2 s at) (asked-got 7 at (λ x. not (any (eqb x) seen)) _ e))
+variable-got ctx seen s at e = unsigned-got 2 s at (asked-got 15 at (λ x. ltb x (ctx .ints)) (unsigned 2 s at) (asked-got 16 at (λ x. not (any (eqb x) seen)) _ e))
 
 module _ (ctx : Context) (seen : List ℕ) (s : List ℕ) (at : ℕ) where
   pub term-past : past (readTerm ctx seen s at) ≡ result._>>=_ (past (coefficient s at)) (λ p. past (variable ctx seen s p))

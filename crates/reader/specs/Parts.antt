@@ -23,7 +23,7 @@ unfoldable pub coefficient : Reader ℤ
 coefficient = asked 7 (λ a. within (neg 64) (pos 64) a && not (eqZ a (pos 0))) (signed 1)
 
 unfoldable pub variable : Context → List ℕ → Reader ℕ
-variable ctx seen = asked 7 (λ x. not (any (eqb x) seen)) (asked 7 (λ x. ltb x (ctx .ints)) (unsigned 2))
+variable ctx seen = asked 16 (λ x. not (any (eqb x) seen)) (asked 15 (λ x. ltb x (ctx .ints)) (unsigned 2))
 
 unfoldable pub readTerm : Context → List ℕ → Reader Term
 readTerm ctx seen = do
@@ -33,4 +33,4 @@ readTerm ctx seen = do
 
 -- a comparison's constant
 unfoldable pub constant : Reader ℤ
-constant = asked 7 (within (neg 1000000) (pos 1000000)) (signed 4)
+constant = asked 17 (within (neg 1000000) (pos 1000000)) (signed 4)

@@ -16,13 +16,16 @@ use Rattle.laws.specs.Reread.{comparisonAt}
 abbrev pub contextOf : known.Context → Context
 contextOf k = record { version = k .version; ints = k .ints; bools = k .bools }
 
--- 01's number
+-- 01's and 02's number
 abbrev pub number : Why → ℕ
 number Why.Count = 4
 number Why.Bound = 5
 number Why.Literal = 6
-number Why.Term = 7
+number Why.Coefficient = 7
 number Why.End = 8
+number Why.Unknown = 15
+number Why.Repeated = 16
+number Why.Constant = 17
 
 abbrev pub fault : {A : Type 0} → Fault → Result A
 fault f = refused (number (f .why)) (f .place)

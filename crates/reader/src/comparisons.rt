@@ -26,13 +26,13 @@ use fields::Unsigned;
 fn past_coefficient(rules: &[u8], at: usize) -> Step
     ensures { λ r. ⌜ saidStep r ≡ past (coefficient (now (rules .entry)) at) ⌝ }
 {
-    let read = whole_at(rules, at, 1, -64, 64, Why::Term);
+    let read = whole_at(rules, at, 1, -64, 64, Why::Coefficient);
     let Whole::Value { value, next } = read else {
         return Step::Refused(of_whole(read));
     };
     if value == 0 {
         return Step::Refused(Fault {
-            why: Why::Term,
+            why: Why::Coefficient,
             place: at,
         });
     }
@@ -64,15 +64,17 @@ fn past_variable(rules: &[u8], known: Context, first: usize, n: usize, at: usize
             place: at,
         });
     };
-    let wrong = Fault {
-        why: Why::Term,
-        place: at,
-    };
     if known.ints <= value {
-        return Step::Refused(wrong);
+        return Step::Refused(Fault {
+            why: Why::Unknown,
+            place: at,
+        });
     }
     if is_repeated(rules, first, n, value) {
-        return Step::Refused(wrong);
+        return Step::Refused(Fault {
+            why: Why::Repeated,
+            place: at,
+        });
     }
     Step::Next(next)
 }
@@ -109,7 +111,7 @@ fn past_terms(rules: &[u8], known: Context, first: usize, n: usize) -> Step
 fn constant_at(rules: &[u8], at: usize) -> Whole
     ensures { λ r. ⌜ saidWhole r ≡ constant (now (rules .entry)) at ⌝ }
 {
-    whole_at(rules, at, 4, -1000000, 1000000, Why::Term)
+    whole_at(rules, at, 4, -1000000, 1000000, Why::Constant)
 }
 
 // The terms one after another, then the constant.

@@ -1,4 +1,4 @@
-// From the bytes of the rules to literals and clauses, with 01's refusals 4, 6, 7 and 8. specs/Said.antt gives the definitions' result for each answer.
+// From the bytes of the rules to literals and clauses, with refusals 4, 6, 7, 8 and 15 to 17. specs/Said.antt gives the definitions' result for each answer.
 
 pub mod faults; // faults.rt: why a reading was refused
 pub mod checks; // checks.rt: fields whose value has a range
@@ -12,13 +12,16 @@ pub struct Context {
     pub bools: u32,
 }
 
-// What a field is refused for: 01's numbers 4 to 8.
+// What a field is refused for: 4 to 8, and 15 to 17 for a term's variable, unknown or repeated, and a comparison's constant.
 pub enum Why {
     Count,
     Bound,
     Literal,
-    Term,
+    Coefficient,
     End,
+    Unknown,
+    Repeated,
+    Constant,
 }
 
 // Why, and the place of the field's first byte.

@@ -4,7 +4,7 @@ use measure::Measured;
 use measure::measure;
 ghost use Rattle.size.specs.Outcome.{Allowed};
 
-// The three numbers, or refusal 1 to 9.
+// The three numbers, or a refusal of the record.
 pub fn size(bytes: &[u8]) -> Sizing
     ensures { λ r. ⌜ Allowed (now (bytes .entry)) r ⌝ }
 {

@@ -2,7 +2,7 @@
 
 use crate::refused;
 use crate::trial::{one_comparison, Board, Literal};
-use basmuthar::{compile, decode, image, judge, size, Sizes};
+use basmuthar::{closing, compile, decode, image, judge, size, Sizes};
 
 fn sizes(variables: usize, clauses: usize, numbers: usize) -> Sizes {
     Sizes { variables, clauses, numbers }
@@ -138,6 +138,32 @@ fn case_11_a_coefficient_and_a_version() {
     assert_eq!(size(&record), refused(7, 26));
     record[0] = 9;
     assert_eq!(size(&record), refused(3, 0));
+}
+
+/// Case 2 with the second term's variable 2 and 0, and with the constant 1,000,001.
+#[test]
+fn every_operation_says_which_part_of_a_term_is_wrong() {
+    let sound = one_comparison((2, 6), &[1, 1], 7).record();
+    let with = |place: usize, bytes: &[u8]| {
+        let mut record = sound.clone();
+        record[place..place + bytes.len()].copy_from_slice(bytes);
+        record
+    };
+    let constant = 1_000_001_i32.to_be_bytes();
+    let wrong = [
+        (with(25, &[65]), 7, 25),
+        (with(26, &[0, 2]), 15, 26),
+        (with(26, &[0, 0]), 16, 26),
+        (with(28, &constant), 17, 28),
+    ];
+    for (record, number, place) in wrong {
+        assert_eq!(size(&record), refused(number, place));
+        assert_eq!(compile(&record, &mut []), refused(number, place));
+        assert_eq!(decode(&record, &[], &mut [], &mut []), refused(number, place));
+        assert_eq!(judge(&record, &[], &[]), refused(number, place));
+        assert_eq!(image(&record, &[], &[], &mut []), refused(number, place));
+        assert_eq!(closing(&record, 9, &[2]), refused(number, place));
+    }
 }
 
 #[test]

@@ -80,5 +80,5 @@ fn there_is_a_record_for_every_refusal() {
     let notes = note_files().into_iter().map(|file| read_note(&file));
     let met: BTreeSet<u64> =
         notes.map(|note| numbers(&note.refusal["refused ".len()..])[0]).collect();
-    assert_eq!(met, (1..=14).chain([22, 23]).collect());
+    assert_eq!(met, (1..=17).chain([22, 23]).collect());
 }

@@ -1,4 +1,4 @@
-//! Damaged records: each way of damage leads to one of the refusals from 1 to 8.
+//! Damaged records: each way of damage leads to one of the refusals from 1 to 8 and from 15 to 17.
 
 use super::dice::Dice;
 use super::sound::common;
@@ -101,9 +101,9 @@ pub fn bad_values(board: &Board, field: Field) -> (u8, Vec<i64>) {
         Field::BooleanNumber => (6, vec![0, booleans + 1, 32_769, 65_535]),
         Field::TermCount => (4, vec![0, 4, 128, 255]),
         Field::Coefficient => (7, vec![0, 65, -65, 127, -128]),
-        Field::Variable => (7, vec![variables, variables + 1, 32_768, 65_535]),
+        Field::Variable => (15, vec![variables, variables + 1, 32_768, 65_535]),
         Field::Constant => (
-            7,
+            17,
             vec![1_000_001, -1_000_001, i32::MIN as i64, i32::MAX as i64],
         ),
     }

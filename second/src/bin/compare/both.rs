@@ -160,7 +160,7 @@ impl Both<'_> {
             let what = format!("{}\na refusal changed a list: {first:?}", given());
             return Err(self.differs(of, what));
         }
-        self.tally.answered(of, first.answer[0]);
+        self.tally.answered(of, first.answer[0], first.answer[1]);
         Ok(first)
     }
 }

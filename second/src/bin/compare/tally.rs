@@ -1,7 +1,7 @@
 //! Counts of what was met: answers by operation and refusal, ways of drawing, demand 3.
 
 use crate::outcomes::Outcomes;
-use std::collections::BTreeMap;
+use std::collections::{BTreeMap, BTreeSet};
 
 #[derive(Debug, Clone, Copy)]
 pub enum Operation {
@@ -17,7 +17,12 @@ pub enum Operation {
 const OPERATIONS: usize = 6;
 
 /// The numbers of the refusals.
-const REFUSALS: [usize; 16] = [1, 2, 3, 4, 5, 6, 7, 8, 9, 10, 11, 12, 13, 14, 22, 23];
+const REFUSALS: [usize; 19] = [
+    1, 2, 3, 4, 5, 6, 7, 8, 9, 10, 11, 12, 13, 14, 15, 16, 17, 22, 23,
+];
+
+/// The refusals of a comparison's parts, which have to be met at several places each.
+const PARTS: [usize; 4] = [7, 15, 16, 17];
 
 /// The refusal that other operations share and Closing has to meet by itself.
 const BAD_BYTE: usize = 12;
@@ -26,6 +31,8 @@ const BAD_BYTE: usize = 12;
 pub struct Tally {
     /// For each operation, how often each number was answered; 0 is accepted.
     answers: [[u64; 24]; OPERATIONS],
+    /// The places at which a part of a comparison was refused, for each of `PARTS`.
+    places: [BTreeSet<u64>; PARTS.len()],
     ways: BTreeMap<String, u64>,
     /// Boards, models, plain models and solutions of demand 3.
     pub demand: [u64; 4],
@@ -33,9 +40,12 @@ pub struct Tally {
 }
 
 impl Tally {
-    pub fn answered(&mut self, operation: Operation, number: u64) {
+    pub fn answered(&mut self, operation: Operation, number: u64, detail: u64) {
         if let Some(count) = self.answers[operation as usize].get_mut(number as usize) {
             *count += 1;
+        }
+        if let Some(part) = PARTS.iter().position(|&part| part as u64 == number) {
+            self.places[part].insert(detail);
         }
     }
 
@@ -54,6 +64,11 @@ impl Tally {
         if self.answers[Operation::Closing as usize][BAD_BYTE] == 0 {
             names.push(format!("closing refusal {BAD_BYTE}"));
         }
+        for (part, places) in PARTS.iter().zip(&self.places) {
+            if places.len() < 2 {
+                names.push(format!("refusal {part} at a second place"));
+            }
+        }
         names.extend(self.outcomes.never_met());
         names
     }
@@ -64,6 +79,9 @@ impl Tally {
         text += &self.answer_row("accepted", 0);
         for number in REFUSALS {
             text += &self.answer_row(&format!("refusal {number}"), number);
+        }
+        for (part, places) in PARTS.iter().zip(&self.places) {
+            text += &format!("refusal {part} at {} places\n", places.len());
         }
         text += &self.outcomes.table();
         for (way, count) in &self.ways {
