@@ -1,8 +1,8 @@
 #!/usr/bin/env python3
 """Wrong versions of the operations that change the code's shape, beside the must-fail edits, which keep it.
 
-Each is made in a copy of the crates, and the program `cases` is run over it, unproved. It has to end and to write something else
-than crates/cases/stdout; the first line that differs is printed.
+Each is made in a copy of the crates, and the programs `cases` and, for Closing, `hours` are run over it, unproved. One has to end and
+to write something else than its file `stdout`; the first line that differs is printed.
 """
 import pathlib
 import re
@@ -100,29 +100,30 @@ def changed(crates, changes):
     return before, True
 
 
-def run(copy):
+def run(copy, program):
     """Whether the program wrote what is expected; if not, the line of stdout where it first differs."""
-    done = subprocess.run(["rt", "try", "cases"], cwd=copy, capture_output=True, text=True)
+    done = subprocess.run(["rt", "try", program], cwd=copy, capture_output=True, text=True)
     told = done.stdout + done.stderr
     if done.returncode == 0:
         return True, None
     found = re.search(r"the interpreter ended, but did not write what is expected\non standard output, at byte (\d+)", told)
     if not found:
         return False, None
-    expected = (copy / "crates/cases/stdout").read_bytes()
+    expected = (copy / "crates" / program / "stdout").read_bytes()
     return False, expected[:int(found.group(1))].count(b"\n") + 1
 
 
 def tried(copy, changes):
     before, made = changed(copy / "crates", changes)
-    same, line = run(copy) if made else (True, None)
+    program = "hours" if changes[0][0].startswith("closing/") else "cases"
+    same, line = run(copy, program) if made else (True, None)
     for path, text in before.items():
         path.write_text(text)
     if not made:
         return "cannot be tried: a text does not stand once in its file"
     if same:
         return "NOT NOTICED"
-    return f"differs at line {line}" if line else "did not run to its end"
+    return f"differs at line {line} of {program}" if line else "did not run to its end"
 
 
 def main():
@@ -132,8 +133,9 @@ def main():
         copy = pathlib.Path(folder)
         shutil.copytree(root / "crates", copy / "crates")
         shutil.copy(root / "crates.txt", copy)
-        if not run(copy)[0]:
-            sys.exit("mutants: unchanged, the program cases does not write what is expected")
+        for program in ("cases", "hours"):
+            if not run(copy, program)[0]:
+                sys.exit(f"mutants: unchanged, the program {program} does not write what is expected")
         for name, changes in MUTANTS:
             answer = tried(copy, changes)
             noticed += answer.startswith("differs")

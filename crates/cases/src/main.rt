@@ -1,9 +1,4 @@
 // Cases of 01 and others, run: what the operations answer, and each lent list as it is left. Lists hold 99 in every place before.
-use crate::closings::closings;
-use crate::printing::put_list;
-use crate::printing::put_model;
-use crate::printing::put_sizing;
-use crate::printing::put_verdict;
 use crate::records::AT_MOST_7;
 use crate::records::BOOLEAN_OR_EARLY;
 use crate::records::EITHER_FIRST;
@@ -16,10 +11,12 @@ use compile::compile;
 use decode::decode;
 use image::image;
 use judge::judge;
+use printing::put_list;
+use printing::put_model;
+use printing::put_sizing;
+use printing::put_verdict;
 use size::size;
 
-pub mod closings; // closings.rt: Closing
-pub mod printing; // printing.rt: answers and lists as lines
 pub mod records; // records.rt: the records, and a model
 
 fn refused_sizes() {
@@ -159,5 +156,4 @@ fn main() {
     lengths_in_order();
     judgements();
     plain_models();
-    closings();
 }

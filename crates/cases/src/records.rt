@@ -38,21 +38,5 @@ pub const BOOLEAN_OR_EARLY: [u8; 28] = *b"\x01\0\0\0\x17\0\x01\0\x01\0\x01\
     \x02\0\0\x01\
     \x02\x01\x01\0\0\0\0\0\x01";
 
-// Case 7: x in 5..5.
-pub const ONE_VALUE: [u8; 15] = *b"\x01\0\0\0\x0A\0\x01\0\0\0\0\
-    \0\x05\0\x05";
-
-// x in -4..3.
-pub const AROUND_ZERO: [u8; 15] = *b"\x01\0\0\0\x0A\0\x01\0\0\0\0\
-    \xFF\xFC\0\x03";
-
-// x in -4,096..4,095: 8,192 values.
-pub const WIDEST: [u8; 15] = *b"\x01\0\0\0\x0A\0\x01\0\0\0\0\
-    \xF0\0\x0F\xFF";
-
-// x in 1000..1509: the makespan of 003, Table 1.
-pub const MAKESPAN: [u8; 15] = *b"\x01\0\0\0\x0A\0\x01\0\0\0\0\
-    \x03\xE8\x05\xE5";
-
 // Case 14: a model of case 13's board.
 pub const MODEL: [u8; 10] = *b"\0\x01\x01\x01\0\0\x01\x01\x01\0";

@@ -1,4 +1,4 @@
--- `cases::printing::without_sign` is safe: the negation of a 32-bit number fits 64 bits. Assumes nothing.
+-- `printing::without_sign` is safe: the negation of a 32-bit number fits 64 bits. Assumes nothing.
 use borrow.Author.Needs.{needs}
 use native.Mathlib.Omega.{arith}
 use lib.IntN.{ℤ, pos, _-ℤ_}
@@ -7,8 +7,8 @@ use mir.Syntax.{w32, w64}
 use mir.Val.{SFits}
 use mir.Facts.{toZ-ofZ, sfits-widen, fits-natAbs}
 use Rattle.laws.specs.Whole.{whole, back, abs-fits, abs-sub, sub-law}
-use Rattle.cases.proofs.printing.without_sign.Statement.{statement}
-use Rattle.cases.proofs.printing.without_sign.Tie as tie
+use Rattle.printing.proofs.without_sign.Statement.{statement}
+use Rattle.printing.proofs.without_sign.Tie as tie
 
 widened : {z : ℤ} → SFits w32 z → SFits w64 z
 widened = sfits-widen tt

@@ -1,11 +1,11 @@
--- `cases::closings::reply_after_reply` meets its contract.
+-- `hours::reply_after_reply` meets its contract.
 use mathlib.Core.Path.{sym}
 use Prim.Native.Nat.{suc, _-_}
 use lib.ListN.{length}
 use lib.Seq.{length-take-le}
 use borrow.Author.Needs.{needs}
-use Rattle.cases.proofs.closings.reply_after_reply.Statement.{statement}
-use Rattle.cases.proofs.closings.reply_after_reply.Tie as tie
+use Rattle.hours.proofs.reply_after_reply.Statement.{statement}
+use Rattle.hours.proofs.reply_after_reply.Tie as tie
 
 abbrev Inv-loop : tie.InvT-loop
 Inv-loop name bytes replies n₀ n = Unit {0}

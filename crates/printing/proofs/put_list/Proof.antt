@@ -1,9 +1,9 @@
--- `cases::printing::put_list` is safe. Assumes nothing.
+-- `printing::put_list` is safe. Assumes nothing.
 use borrow.Author.Needs.{needs}
 use Prim.Native.Nat.{_≤_, _-_}
 use lib.ListN.{length}
-use Rattle.cases.proofs.printing.put_list.Statement.{statement}
-use Rattle.cases.proofs.printing.put_list.Tie as tie
+use Rattle.printing.proofs.put_list.Statement.{statement}
+use Rattle.printing.proofs.put_list.Tie as tie
 
 abbrev Inv-loop : tie.InvT-loop
 Inv-loop list i₀ t4 i = i ≤ length list

@@ -1,13 +1,15 @@
-// Closing: ranges around 0, of one value and of 8,192, every kind of answer, and its refusals in their order.
-use crate::printing::put_hour;
+// Closing, run: ranges around 0, of one value and of 8,192, every kind of answer, and its refusals in their order.
 use crate::records::AROUND_ZERO;
 use crate::records::MAKESPAN;
 use crate::records::ONE_VALUE;
 use crate::records::WIDE_SUM;
 use crate::records::WIDEST;
 use closing::closing;
+use printing::put_hour;
 ghost use Prim.Native.Nat.{_≤_};
 ghost use lib.ListN.{length};
+
+pub mod records; // records.rt: the records
 
 // The answer to the first n replies, for each n up to all of them.
 fn reply_after_reply(name: &[u8], bytes: &[u8], replies: &[u8])
@@ -80,7 +82,7 @@ fn refused() {
     put_hour(b"case 10, variable 3", closing(&WIDE_SUM, 3, b"\x02"));
 }
 
-pub fn closings() {
+fn main() {
     makespan();
     around_zero();
     one_value();
