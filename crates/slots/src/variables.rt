@@ -9,7 +9,7 @@ ghost use Rattle.laws.specs.Admitted.{GoodBounds};
 ghost use Rattle.laws.specs.Boards.{Opens, boardOf};
 ghost use Rattle.slots.specs.Variables.{boundsRead, BoundsOf, numbered, FirstsOf};
 
-// Where the variable table begins.
+// Where the variable table begins: what laws call tableStart.
 const TABLE: usize = 11;
 
 pub fn bounds_of(bytes: &[u8], x: usize) -> Bounds
