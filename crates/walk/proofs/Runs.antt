@@ -9,6 +9,7 @@ use lib.ListN.{length, getD}
 use lib.IntN.{ℤ, pos, natAbs, _+ℤ_, _-ℤ_}
 use lib.Signed.{_≤ℤ_, _<ℤ_}
 use Rattle.definitions.specs.Tools.{All, floor, ceil}
+use Rattle.laws.specs.Limits.{numbersLimit}
 use Rattle.laws.specs.Whole.{whole, add-law, abs-law, part-law, abs-neg, abs-add, abs-sub, le-or-lt}
 use Rattle.laws.specs.Lists.{map-read}
 use Rattle.laws.specs.Tuples.{no-term}
@@ -207,7 +208,7 @@ lowered-steady p h = elim (decLe (p .r + 2) (p .d)) [
   | no l ↦ rw (lower-at p (omega arith)) (record { short = omega (arith, h .short); few = h .few }, omega (arith, abs-sub (p .literal) (pos 1)))
 ]
 
-literal-near : (s : Slot) → FairSlot s → (b : ℤ) → slotBounds s .lo ≤ℤ b → b ≤ℤ slotBounds s .hi → natAbs (slotLiteral s b) ≤ 20000000
+literal-near : (s : Slot) → FairSlot s → (b : ℤ) → slotBounds s .lo ≤ℤ b → b ≤ℤ slotBounds s .hi → natAbs (slotLiteral s b) ≤ numbersLimit
 literal-near s f b low high = ⊎-elim (λ g.
     let h : s .coefficient <ℤ pos 0 = omega (whole, g, f .some, abs-law (s .coefficient), part-law (s .coefficient)) in
     let i = ceil-inside s b f low high (ceil b (s .coefficient)) refl h in
