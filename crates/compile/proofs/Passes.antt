@@ -10,6 +10,7 @@ use Rattle.definitions.specs.Board.{Board, Clause, boundsOf}
 use Rattle.definitions.specs.Board as board
 use Rattle.definitions.specs.Reading.{Context}
 use Rattle.definitions.specs.Encoding.{selector, minus, axiomsOf, width, first, number, literalNumber}
+use Rattle.laws.specs.Limits.{selectorsLimit, numbersLimit}
 use Rattle.laws.specs.Whole.{whole, neg-law}
 use Rattle.laws.specs.Admitted.{Admitted, GoodComparison}
 use Rattle.laws.specs.Axioms as laws
@@ -78,10 +79,10 @@ module _ (s : List ℕ) (known : reader.Context) (rules : List ℕ) (k : Known s
   pub good-met : (place : ℕ) (constant : ℤ) → Stands (contextOf known) rules place constant → GoodComparison (length (boardOf s .bounds)) (comparisonAt rules place constant)
   good-met place constant h = rw (← ap (λ x. x .ints) (k .context)) (h .good)
 
-  pub few-bools : known .bools < 20000000
+  pub few-bools : known .bools < numbersLimit
   few-bools = omega (arith, bools-known, opens-admitted s (k .opens) .bools)
 
-  pub few-selectors : (n j : ℕ) → n ≡ first (boardOf s) (length (boardOf s .bounds)) → j ≤ 300000 → n + j < 20000000
+  pub few-selectors : (n j : ℕ) → n ≡ first (boardOf s) (length (boardOf s .bounds)) → j ≤ selectorsLimit → n + j < numbersLimit
   few-selectors n j e h = omega (arith, first-most (boardOf s) (opens-admitted s (k .opens)) (length (boardOf s .bounds)))
 
 -- ---- a step of a pass
@@ -90,7 +91,7 @@ module _ (B : Board) (ctx : Context) (t : List ℕ) (c : Cursor) where
     pub more : piecesNumbers B (comingAt ctx t c) ≡ pieceNumbers B (saidPiece ctx t p) ++ piecesNumbers B (comingAt ctx t c′)
     pub held : Held ctx t p
     pub onward : Onward ctx t c c′
-    pub few : selectorsTo ctx t p ≤ 300000
+    pub few : selectorsTo ctx t p ≤ selectorsLimit
 
   pub meets : (p : code.Piece) (c′ : Cursor) → Went ctx t c (Stepped.Met p c′) → Meets p c′
   unfolding Went

@@ -3,6 +3,7 @@ ghost use mathlib.Core.Path.{_≡_};
 ghost use Prim.Native.Nat.{_≤_};
 ghost use lib.ListN.{length};
 ghost use Rattle.definitions.specs.Encoding.{first};
+ghost use Rattle.laws.specs.Limits.{selectorsLimit};
 ghost use Rattle.laws.specs.Boards.{boardOf};
 ghost use Rattle.laws.specs.Pieces.{piecesFrom};
 ghost use Rattle.laws.specs.Written.{written};
@@ -30,7 +31,7 @@ fn put_piece(
     piece: Piece,
     list: &mut [i32],
 ) -> usize
-    requires { ⌜ Known (now bytes) known (now rules) × FirstsOf (boardOf (now bytes)) (now firsts) × (selectors ≡ first (boardOf (now bytes)) (length (boardOf (now bytes) .bounds))) × Held (contextOf known) (now rules) piece × (selectorsTo (contextOf known) (now rules) piece ≤ 300000) × (length (pieceNumbers (boardOf (now bytes)) (saidPiece (contextOf known) (now rules) piece)) ≤ length (now list)) ⌝ }
+    requires { ⌜ Known (now bytes) known (now rules) × FirstsOf (boardOf (now bytes)) (now firsts) × (selectors ≡ first (boardOf (now bytes)) (length (boardOf (now bytes) .bounds))) × Held (contextOf known) (now rules) piece × (selectorsTo (contextOf known) (now rules) piece ≤ selectorsLimit) × (length (pieceNumbers (boardOf (now bytes)) (saidPiece (contextOf known) (now rules) piece)) ≤ length (now list)) ⌝ }
     ensures { λ r. ⌜ (r ≡ length (pieceNumbers (boardOf (now (bytes .entry))) (saidPiece (contextOf known) (now (rules .entry)) piece))) × (now (list .exit) ≡ written (pieceNumbers (boardOf (now (bytes .entry))) (saidPiece (contextOf known) (now (rules .entry)) piece)) (now (list .entry))) ⌝ }
 {
     match piece {

@@ -17,7 +17,7 @@ use Rattle.laws.specs.Fits.{M-fits}
 use Rattle.laws.specs.Boards.{boardOf, opens-board}
 use Rattle.laws.specs.Reread.{Recorded, contextOf, tableEnd}
 use Rattle.laws.specs.Ahead.{literalsAt, clausesAt, coming}
-use Rattle.laws.specs.Pieces.{Piece, pieceClauses, piecesFrom, clausesIn, left-start, rules-pieces}
+use Rattle.laws.specs.Pieces.{Piece, pieceClauses, piecesFrom, clausesIn, remaining-start, rules-pieces}
 use Rattle.laws.specs.Mentions as Mentions
 use Rattle.opening.specs.declared.Header.{Header}
 use Rattle.rules.specs.declared.Cursor.{Cursor}
@@ -151,7 +151,7 @@ module _ {s : List ℕ} {h : Header} (o : Opened s h) (model : List ℕ) where
 
   begins : comingAt (contextOf (boardOf s)) tail begin ≡ piecesFrom 0 (boardOf s .clauses)
   unfolding comingAt coming literalsAt clausesAt
-  begins = rw (clauses-is o, opens-board s (o .opens) .clauses) (left-start true (boardOf s .clauses))
+  begins = rw (clauses-is o, opens-board s (o .opens) .clauses) (remaining-start true (boardOf s .clauses))
 
   begin-sound : Sound (contextOf (boardOf s)) tail begin
   unfolding literalsAt clausesAt

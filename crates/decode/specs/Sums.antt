@@ -14,10 +14,9 @@ use Rattle.definitions.specs.Result.{done, each}
 use Rattle.definitions.specs.Encoding.{Atom, SatClause, least, tuplesOf, sharp, clausesUnder, axiomsOf, axioms}
 use Rattle.definitions.specs.Meaning.{Assignment, assigned, compares, satisfies, inModel, valueOf, valuesOf}
 use Rattle.laws.specs.Whole.{whole, abs-le}
-use Rattle.laws.specs.Lists.{all-append, all-map, all-impl, map-all, flatten-all, all-countUp, countUp-all, any-right}
-use Rattle.laws.specs.Some.{any-append}
+use Rattle.laws.specs.Lists.{all-append, all-map, all-impl, map-all, flatten-all, all-countUp, countUp-all}
+use Rattle.laws.specs.Some.{any-right, any-append, some-true, lines}
 use Rattle.laws.specs.Search.{seek-all}
-use Rattle.laws.specs.Decide.{itself, some, lines}
 use Rattle.laws.specs.Written.{written, written-length}
 use Rattle.laws.specs.Admitted.{Admitted, GoodTerm, GoodComparison}
 use Rattle.laws.specs.Terms.{good-bounds}
@@ -83,7 +82,7 @@ module _ (B : Board) (model : List ℕ) where
       let p = proposition-1 (boundsOf B) v a q known .1 (rw e tt) in
       rw (led lead q) (all-map (λ c. trueClause B model c ≡ true) (λ c. lead ++ c) (clausesUnder [] (boundsOf B) q)
       (all-impl (Holds v) (λ c. trueClause B model (lead ++ c) ≡ true)
-      (λ c h. true-is _ (some (λ l. itself (satisfies v l)) (lead ++ c) .full (any-right (λ l. T (satisfies v l)) lead c h)))
+      (λ c h. true-is _ (some-true (satisfies v) (lead ++ c) .full (any-right (λ l. T (satisfies v l)) lead c h)))
       (clausesUnder [] (boundsOf B) q) p))
 
   -- ---- a list that begins with the values of all variables

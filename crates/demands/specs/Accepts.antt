@@ -13,7 +13,8 @@ use Rattle.definitions.specs.Result.{Result, done, need, each}
 use Rattle.definitions.specs.Encoding.{N, K, clauses, clauseList}
 use Rattle.definitions.specs.Meaning.{assigned, Solution, satisfies, inModel, Model, valuesOf, plainModel}
 use Rattle.definitions.specs.Operations.{accepted, _leaves_, long, bits, Sizes, sizesOf, Size, Compile, Decode, judged, Judge, Image}
-use Rattle.laws.specs.Decide.{some, itself, at-most}
+use Rattle.laws.specs.Decide.{itself, at-most}
+use Rattle.laws.specs.Some.{some-true}
 use Rattle.laws.specs.Readings.{same}
 use Rattle.demands.specs.Passed.{needed, of-length, for-each, and-then, made-of, lending-then, lending-made-of}
 
@@ -28,7 +29,7 @@ inside : (f : ℕ → Bool) (xs : List ℕ) → (each 14 0 (map f xs) ≡ done t
 inside f = for-each 14 f (λ x. itself (f x))
 
 lines : {A : Type 0} (f : A → Bool) (ls : List (List A)) → (each 13 0 (map (any f) ls) ≡ done tt) ↔ All (Any (λ x. T (f x))) ls
-lines f = for-each 13 (any f) (some (λ x. itself (f x)))
+lines f = for-each 13 (any f) (some-true f)
 
 module _ (s : List ℕ) (B : Board) (e : accepted s ≡ done B) where
   -- ---- Size and Compile

@@ -16,7 +16,8 @@ use Rattle.definitions.specs.Encoding.{selector, selections, number, clauseList
 use Rattle.definitions.specs.Meaning.{on, assigned, inBounds, compares, holds, Solution, inModel, Model, valuesOf, selection, Plain, plainModel}
 use Rattle.definitions.specs.Operations.{accepted, _leaves_, Decode, Judge, Image}
 use Rattle.laws.specs.Lists.{all-read, all-countUp, countUp-all}
-use Rattle.laws.specs.Decide.{Decides, equals, at-mostZ, is-within, every, some, lines}
+use Rattle.laws.specs.Decide.{Decides, equals, at-mostZ, is-within, every}
+use Rattle.laws.specs.Some.{some, lines}
 use Rattle.laws.specs.Admitted.{Admitted}
 use Rattle.laws.specs.Reread.{accepted-admitted}
 use Rattle.demands.specs.Flat.{Satisfies, is-zero, model-of-list}

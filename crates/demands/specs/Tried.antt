@@ -15,7 +15,8 @@ use Rattle.definitions.specs.Result.{done}
 use Rattle.definitions.specs.Meaning.{isSolution}
 use Rattle.definitions.specs.Operations.{accepted}
 use Rattle.definitions.specs.Closing.{Closing}
-use Rattle.laws.specs.Decide.{Decides, some, itself}
+use Rattle.laws.specs.Decide.{Decides}
+use Rattle.laws.specs.Some.{one-of, some-true}
 use Rattle.laws.specs.Tests.{isSolution-decides}
 use Rattle.laws.specs.Ranges.{any-range}
 use Rattle.demands.specs.Driving.{driven}
@@ -33,17 +34,8 @@ turns zero p = p []
 turns (suc n) p = any (λ b. turns n (λ l. p (b ∷ l))) (0 ∷ 1 ∷ [])
 
 -- ---- what a test finds is there
-module _ {A : Type 0} (P : A → Type 0) where
-  one-of : (l : List A) → Any P l → (x : A) × P x
-  one-of (x ∷ l) (inl k) = (x, k)
-  one-of (x ∷ l) (inr k) = one-of l k
-
--- the sound and the full half of a test of some entry
 found-in : {A : Type 0} (f : A → Bool) (l : List A) → T (any f l) → (x : A) × T (f x)
-found-in f l k = one-of (λ x. T (f x)) l (some (λ x. itself (f x)) l .sound k)
-
-finds : {A : Type 0} (f : A → Bool) (l : List A) → Any (λ x. T (f x)) l → T (any f l)
-finds f l k = some (λ x. itself (f x)) l .full k
+found-in f l k = one-of (λ x. T (f x)) l (some-true f l .sound k)
 
 tries-sound : (bs : List Bounds) (p : List ℤ → Bool) → T (tries bs p) → (vs : List ℤ) × T (p vs)
 tries-sound [] p k = ([], k)
@@ -70,7 +62,7 @@ module _ (d : Bounds) where
       let f : ℤ → Bool = λ v. tries bs (λ vs. p (v ∷ vs)) in
       let z = w 0 (omega arith) in
       let more = tries-full bs (λ vs. p (v ∷ vs)) vs (omega arith) (λ x h. w (suc x) (omega arith)) k in
-      finds f (range (b .lo) (b .hi)) (any-range (λ v. T (f v)) (b .lo) (b .hi) v (z .0) (z .1) more)
+      some-true f (range (b .lo) (b .hi)) .full (any-range (λ v. T (f v)) (b .lo) (b .hi) v (z .0) (z .1) more)
 
 turns-full : (n : ℕ) (p : List ℕ → Bool) (l : List ℕ) → length l ≡ n → All (λ b. b ≤ 1) l → T (p l) → T (turns n p)
 turns-full zero p [] e w k = k
@@ -79,7 +71,7 @@ turns-full (suc n) p [] e w k = absurd (omega arith)
 turns-full (suc n) p (b ∷ l) e w k =
     let f : ℕ → Bool = λ b. turns n (λ l. p (b ∷ l)) in
     let more = turns-full n (λ l. p (b ∷ l)) l (omega arith) (w .1) k in
-    finds f (0 ∷ 1 ∷ []) (bit (λ b. T (f b)) b (w .0) more)
+    some-true f (0 ∷ 1 ∷ []) .full (bit (λ b. T (f b)) b (w .0) more)
   where
     bit : (P : ℕ → Type 0) (b : ℕ) → b ≤ 1 → P b → Any P (0 ∷ 1 ∷ [])
     bit P zero h k = inl k

@@ -18,7 +18,7 @@ use Rattle.definitions.specs.Result.{Result, done, refused}
 use Rattle.definitions.specs.Result as result
 use Rattle.definitions.specs.Reading.{Got, big, twos, unsigned, signed}
 use Rattle.laws.specs.Whole.{whole, sub-law, sfits}
-use Rattle.laws.specs.Readings.{big-below}
+use Rattle.laws.specs.Readings.{never, big-below}
 
 -- what a call ensures of its result, where a match has told which case the result is
 pub told : {A B : Type 0} (f : A → B) {x y : A} {z : B} → f x ≡ z → x ≡ y → z ≡ f y
@@ -61,7 +61,7 @@ module _ (n : ℕ) (s : List ℕ) (at : ℕ) where
       go : (t : Bool) → leb (at + n) (length s) ≡ t → (if t then done (record { value = big s at n; next = at + n }) else refused 8 at) ≡ done g
           → (g ≡ record { value = big s at n; next = at + n }) × (at + n ≤ length s)
       go true e d = (cc, leb-true _ _ e)
-      go false e d = let z : _≡_ {A = ℕ} 0 1 = cc in absurd (omega arith)
+      go false e d = never d
 
   pub signed-got : {g : Got ℤ} → signed n s at ≡ done g → (g ≡ record { value = twos n (big s at n); next = at + n }) × (at + n ≤ length s)
   unfolding signed
@@ -70,7 +70,7 @@ module _ (n : ℕ) (s : List ℕ) (at : ℕ) where
       go : (m : Result (Got ℕ)) → unsigned n s at ≡ m → result._>>=_ m (λ h. done (record { value = twos n (h .value); next = h .next })) ≡ done g
           → (g ≡ record { value = twos n (big s at n); next = at + n }) × (at + n ≤ length s)
       go (done h) e d = let u = unsigned-got e in (cc (ap {B = Got ℤ} (λ h. record { value = twos n (h .value); next = h .next }) (u .0)), u .1)
-      go (refused why p) e d = let z : _≡_ {A = ℕ} 0 1 = cc in absurd (omega arith)
+      go (refused why p) e d = never d
 
 -- two's complement, as it is computed
 module _ (n v : ℕ) (few : n ≤ 4) (below : v < 256 ^ n) where

@@ -14,10 +14,11 @@ use Rattle.definitions.specs.Board.{isTrue, isFalse, atMost}
 use Rattle.definitions.specs.Result.{Result, done, refused}
 use Rattle.definitions.specs.Result as result
 use Rattle.definitions.specs.Reading.{Got, Reader, Context, asked, big, twos, unsigned, signed, count, bound, readBounds, boolean, readTerms, readComparison, ofKind, readLiteral, readClause, readBody}
-use Rattle.laws.specs.Decide.{Decides, both, at-most, at-mostZ, is-within}
+use Rattle.laws.specs.Decide.{Decides, apart, both, at-most, at-mostZ, is-within}
+use Rattle.laws.specs.Some.{new}
 use Rattle.laws.specs.Readings.{same, never, Orderly, orderly-give, orderly-asked, orderly-bind, orderly-unsigned}
 use Rattle.laws.specs.Grammar.{finds}
-use Rattle.laws.specs.Reads.{from-to, apart, equalsZ, new}
+use Rattle.laws.specs.Reads.{from-to, equalsZ}
 use Rattle.laws.specs.Refusals.{Ranged, integerCount, booleanCount, clauseCount, lower, upper, literalCount, kind, booleanNumber, termCount, coefficient, variable, constant, rule, some-bytes, Agree, big-agree, Outside, Because, missing, bad, Explained, refusal-is, explained-give, explained-bind, explained-mapped, explained-times}
 
 -- ---- a field

@@ -13,7 +13,7 @@ use mir.Val.{SFits}
 use Rattle.definitions.specs.Tools.{All, if_then_else_, sum}
 use Rattle.definitions.specs.Board.{Board, Bounds, Term, Comparison, Clause, isTrue, isFalse, atMost, boundsOf}
 use Rattle.definitions.specs.Encoding.{termBounds, least, tuplesOf, comparisons, selected, axioms, rules, SatClause, places, width, first, N, M, K}
-use Rattle.laws.specs.Limits.{sumsLimit, tuplesLimit}
+use Rattle.laws.specs.Limits.{sumsLimit, tuplesLimit, firstsLimit}
 use Rattle.laws.specs.Whole.{whole, add-law, sub-law, part-law, abs-law, abs-le, abs-add, abs-fits}
 use Rattle.laws.specs.Lists.{all-impl, sum-append, sum-most}
 use Rattle.laws.specs.Admitted.{Admitted, GoodBounds, GoodTerm, GoodComparison, GoodClause}
@@ -162,7 +162,7 @@ M-fits B r = omega (arith, most (axioms B), most (rules B), K-fits B r)
     most (l ∷ ls) = omega (arith, places-most l, most ls)
 
 -- ---- the numbers
-pub first-most : (B : Board) → Admitted B → (x : ℕ) → first B x ≤ 10000000
+pub first-most : (B : Board) → Admitted B → (x : ℕ) → first B x ≤ firstsLimit
 unfolding first
 first-most B g x =
     let bs = B .bounds in

@@ -13,7 +13,8 @@ use Rattle.definitions.specs.Tools.{Any, countUp, sum, size}
 use Rattle.definitions.specs.Board.{Board, Bounds, boundsOf, variables}
 use Rattle.definitions.specs.Encoding.{Atom, bool, order, selector, orders, selected, selections, atoms, width, first, number, N}
 use Rattle.laws.specs.Whole.{whole, add-law, sub-law, suc-law, part-law}
-use Rattle.laws.specs.Lists.{length-flat-map, sum-append, sum-take, length-countUp, countUp-append, countUp-shift, any-left, any-right, any-flatten, any-map, any-countUp}
+use Rattle.laws.specs.Lists.{length-flat-map, sum-append, sum-take, length-countUp, countUp-append, countUp-shift}
+use Rattle.laws.specs.Some.{any-left, any-right, any-flatten, any-map, any-countUp}
 use Rattle.laws.specs.Ranges.{range-shift}
 
 -- ---- variable by variable

@@ -13,3 +13,11 @@ tuplesLimit = 2 ^ 41
 -- a board's selectors
 abbrev pub selectorsLimit : ℕ
 selectorsLimit = 300000
+
+-- the first number of a variable, or of the selectors
+abbrev pub firstsLimit : ℕ
+firstsLimit = 10000000
+
+-- every variable's number, as a clause has it
+abbrev pub numbersLimit : ℕ
+numbersLimit = 20000000

@@ -1,28 +1,26 @@
 -- What each reader of the record reads: a good part (01, "The record"), by its fields. Assumes nothing.
 use mathlib.Core.Path.{_≡_, refl, sym, ap}
 use mathlib.Core.Logic.{_≢_}
-use mathlib.Core.Bool.{Bool, true, false, not, _&&_, _||_}
+use mathlib.Core.Bool.{_&&_}
 use mathlib.Core.List.{List, [], _∷_, map, flatten}
 use Prim.Native.Nat.{ℕ, zero, suc, _≤_, _<_, zero-le}
 use native.Mathlib.Omega.{arith}
 use lib.ListN.{length}
-use lib.Dec.{leb, eqb, T-not, not-T}
+use lib.Dec.{leb}
 use lib.IntN.{ℤ, pos}
 use lib.Signed.{_≤ℤ_, leZ}
-use Rattle.definitions.specs.Tools.{All, any, neg, eqZ}
+use Rattle.definitions.specs.Tools.{All, neg, eqZ}
 use Rattle.definitions.specs.Board.{Bounds, Term, Comparison, Literal, Clause, Board, isTrue, isFalse, atMost}
 use Rattle.definitions.specs.Reading.{Context, count, bound, readBounds, boolean, readTerms, readComparison, ofKind, readLiteral, readClause, readBody}
 use Rattle.laws.specs.Whole.{whole}
 use Rattle.laws.specs.Lists.{all-impl, all-both, all-every}
-use Rattle.laws.specs.Decide.{Decides, equals, both, at-most, at-mostZ, is-within}
+use Rattle.laws.specs.Decide.{Decides, apart, both, at-most, at-mostZ, is-within}
+use Rattle.laws.specs.Some.{new}
 use Rattle.laws.specs.Admitted.{Differ, GoodBounds, GoodTerm, GoodComparison, GoodLiteral, GoodClause, Admitted}
 use Rattle.laws.specs.Spelling.{several, natural, integer, boundsFields, termFields, comparisonFields, literalFields, clauseFields, bodyFields}
 use Rattle.laws.specs.Grammar.{Grammar, _⇒_, Just, just, Spelt, spelt, Then, _then_, Image, image, Reads, reads-as, reads-give, reads-asked, reads-bind, reads-mapped, reads-times, reads-unsigned, reads-signed, reads-tested, Many}
 
 -- ---- tests
-pub apart : (b : Bool) {P : Type 0} → Decides b P → Decides (not b) (¬ P)
-apart b d = record { sound = λ t p. T-not b t (d .full p); full = λ n. not-T b (λ t. n (d .sound t)) }
-
 pub equalsZ : (a b : ℤ) → Decides (eqZ a b) (a ≡ b)
 equalsZ a b =
     let d = both (leZ a b) (leZ b a) (at-mostZ a b) (at-mostZ b a) in
@@ -30,14 +28,6 @@ equalsZ a b =
       sound = λ t. let h = d .sound t in omega (whole, h .0, h .1);
       full = λ e. d .full (omega whole, omega whole);
     }
-
-neither : (b c : Bool) {P Q : Type 0} → Decides (not b) P → Decides (not c) Q → Decides (not (b || c)) (P × Q)
-neither true c d e = record { sound = λ t. absurd t; full = λ h. d .full (h .0) }
-neither false c d e = record { sound = λ t. (d .sound tt, e .sound t); full = λ h. e .full (h .1) }
-
-pub new : (x : ℕ) (seen : List ℕ) → Decides (not (any (eqb x) seen)) (All (λ y. x ≢ y) seen)
-new x [] = record { sound = λ t. tt; full = λ t. tt }
-new x (y ∷ seen) = neither (eqb x y) (any (eqb x) seen) (apart (eqb x y) (equals x y)) (new x seen)
 
 -- ---- fields
 abbrev pub FromTo : ℕ → ℕ → ℕ → Type 0

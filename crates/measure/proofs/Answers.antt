@@ -11,7 +11,7 @@ use Rattle.laws.specs.Reread.{accepted-parts}
 use Rattle.laws.specs.Boards.{boardOf, opens-is}
 use Rattle.opening.specs.declared.Header.{Header}
 use Rattle.opening.specs.Said.{mapDone, headerOf}
-use Rattle.opening.specs.Told.{opened, not-opened}
+use Rattle.opening.specs.Told.{mapped-refused, opened}
 use Rattle.measure.specs.declared.Totals.{Totals}
 use Rattle.measure.specs.Said.{totalsOf, measuredOf}
 
@@ -29,4 +29,4 @@ module _ (s : List ℕ) where
 
   pub unopened : (n d : ℕ) → mapDone headerOf (readBoard s) ≡ refused n d → refused n d ≡ mapDone measuredOf (accepted s)
   unfolding accepted
-  unopened n d e = rw (not-opened s e)
+  unopened n d e = rw (mapped-refused headerOf (readBoard s) e)

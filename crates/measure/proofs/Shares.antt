@@ -19,7 +19,7 @@ use Rattle.laws.specs.Admitted.{Admitted, GoodComparison}
 use Rattle.laws.specs.Grammar.{finds}
 use Rattle.laws.specs.Reread as reread
 use Rattle.laws.specs.Reread.{BoardRead, Recorded, tableEnd}
-use Rattle.laws.specs.Pieces.{Piece, line, lineFrom, line-length, piecesFrom, left, left-start}
+use Rattle.laws.specs.Pieces.{Piece, line, lineFrom, line-length, piecesFrom, remaining, remaining-start}
 use Rattle.laws.specs.Ahead.{gotten, length-times, literalsAt, clausesAt, coming}
 use Rattle.laws.specs.Sizes.{pieceCount, piecePlaces, pieceSelectors, N-sum, M-sum, K-sum}
 use Rattle.laws.specs.Fits.{tuples-fit, N-fits, M-fits, K-fits}
@@ -142,7 +142,7 @@ module _ (s : List ℕ) (B : Board) (g : Admitted B) (r : BoardRead s B) (ctx : 
 
   pub start-coming : comingAt ctx t (atStart n) ≡ piecesFrom 0 (B .clauses)
   unfolding comingAt coming literalsAt clausesAt
-  start-coming = ap (λ z. left true 0 [] (gotten z .value)) read ∙ left-start true (B .clauses)
+  start-coming = ap (λ z. remaining true 0 [] (gotten z .value)) read ∙ remaining-start true (B .clauses)
 
   pub start-adding : Adding (boundsOf B) (piecesFrom 0 (B .clauses)) (comingAt ctx t (atStart n)) (record { clauses = 0; places = 0; selectors = 0 })
   start-adding = rw start-coming (record { clauses = omega arith; places = omega arith; selectors = omega arith })

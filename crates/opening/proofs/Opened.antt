@@ -3,11 +3,11 @@ use mathlib.Core.Path.{_≡_, refl, sym, ap, _∙_}
 use mathlib.Core.Bool.{Bool, true, false, _&&_}
 use mathlib.Core.List.{List}
 use Prim.Native.Nat.{ℕ, _+_, _-_, _≤_, _<_}
+use native.Mathlib.Decide.{decLe}
 use native.Mathlib.Omega.{arith}
 use lib.ListN.{length, getD}
-use lib.Dec.{T, leb, eqb, leb→le}
-use borrow.Author.Tests.{le-leb, lt-leb, leb-false, eq-eqb, ne-eqb}
-use Rattle.definitions.specs.Tools.{if_then_else_}
+use lib.Dec.{leb, eqb}
+use borrow.Author.Tests.{le-leb, lt-leb, eq-eqb, ne-eqb}
 use Rattle.definitions.specs.Board.{Bounds, Clause, Board}
 use Rattle.definitions.specs.Result.{Result, done, refused, need, _>>_}
 use Rattle.definitions.specs.Result as result
@@ -15,9 +15,9 @@ use Rattle.definitions.specs.Reading.{Got, Context, times, big, unsigned, count
 use Rattle.definitions.specs.Operations.{readBoard}
 use Rattle.laws.specs.Readings.{same, never, place}
 use Rattle.laws.specs.Grammar.{reads-times, found}
-use Rattle.laws.specs.Reads.{reads-bounds, reads-clause}
+use Rattle.laws.specs.Reads.{from-to, reads-bounds, reads-clause}
 use Rattle.laws.specs.Reread.{theVersion, tableStart, table-read}
-use Rattle.fields.proofs.Laws.{unsigned-got}
+use Rattle.fields.proofs.Laws.{unsigned-there, unsigned-got}
 use Rattle.opening.specs.declared.Counts.{Counts}
 use Rattle.opening.specs.declared.Header.{Header}
 use Rattle.opening.specs.Said.{mapDone, headerOf}
@@ -36,16 +36,13 @@ record Counted (most : ℕ) (s : List ℕ) (at : ℕ) (g : Got ℕ) : Type 0 whe
   pub inside : at + 2 ≤ length s
   pub few : g .value ≤ most
 
-second : (a b : Bool) → T (a && b) → T b
-second true b t = t
-second false b t = absurd t
-
 counted : (most : ℕ) (s : List ℕ) (at : ℕ) {g : Got ℕ} → count 0 most 2 s at ≡ done g → Counted most s at g
 unfolding count
 counted most s at {g} e =
-    let u = unsigned-got 2 s at (asked-got 4 at (λ c. leb 0 c && leb c most) (unsigned 2 s at) e) in
-    let t = second (leb 0 (g .value)) (leb (g .value) most) (asked-good 4 at (λ c. leb 0 c && leb c most) (unsigned 2 s at) e) in
-    record { next = ap (λ g. g .next) (u .0); inside = u .1; few = leb→le (g .value) most t }
+    let good : ℕ → Bool = λ c. leb 0 c && leb c most in
+    let u = unsigned-got 2 s at (asked-got 4 at good (unsigned 2 s at) e) in
+    let t = from-to 0 most (g .value) .sound (asked-good 4 at good (unsigned 2 s at) e) in
+    record { next = ap (λ g. g .next) (u .0); inside = u .1; few = t .1 }
 
 pub record CountsGot (s : List ℕ) (at : ℕ) (g : Got Counts) : Type 0 where
   pub next : g .next ≡ at + 6
@@ -65,6 +62,10 @@ counts-got s at {g} e =
     (record { next = omega (arith, v′ .next, m′ .next, c′ .next); inside = omega (arith, c′ .next, c′ .inside); few = (v′ .few, m′ .few) })
 
 -- ---- the table and the clauses, and nothing after them
+either-way : {A P : Type 0} (m : Result A) → ((n d : ℕ) → m ≡ refused n d → P) → ((a : A) → m ≡ done a → P) → P
+either-way (refused n d) r f = r n d refl
+either-way (done a) r f = f a refl
+
 module _ (s : List ℕ) where
   abbrev closed : Got Board → Result Board
   closed g = need 8 (g .next) (eqb (g .next) (length s)) >> done (g .value)
@@ -73,20 +74,17 @@ module _ (s : List ℕ) where
     abbrev ctx : Context
     ctx = record { version = theVersion; ints = z .ints; bools = z .bools }
 
-    abbrev board : Result (Got Board)
-    board =
-        result._>>=_ (times (z .ints) readBounds s at) λ g.
-        result._>>=_ (times (z .clauses) (readClause ctx) s (g .next)) λ h.
-        done (record { value = record { bounds = g .value; bools = z .bools; clauses = h .value }; next = h .next })
+    abbrev table : Result (Got (List Bounds))
+    table = times (z .ints) readBounds s at
 
-    abbrev header : Result Header
-    header =
-        result._>>=_ (past (times (z .ints) readBounds s at)) λ rules.
-        result._>>=_ (rulesFrom (headed theVersion z at rules) s) λ _.
-        done (headed theVersion z at rules)
+    abbrev rules : ℕ → Result (Got (List Clause))
+    rules = times (z .clauses) (readClause ctx) s
 
-    ended : (g : Got (List Bounds)) (h : Got (List Clause)) → times (z .ints) readBounds s at ≡ done g → times (z .clauses) (readClause ctx) s (g .next) ≡ done h → (t : Bool)
-        → mapDone headerOf (need 8 (h .next) t >> done (record { bounds = g .value; bools = z .bools; clauses = h .value }))
+    abbrev board : Got (List Bounds) → Got (List Clause) → Board
+    board g h = record { bounds = g .value; bools = z .bools; clauses = h .value }
+
+    ended : (g : Got (List Bounds)) (h : Got (List Clause)) → table ≡ done g → rules (g .next) ≡ done h → (t : Bool)
+        → mapDone headerOf (need 8 (h .next) t >> done (board g h))
         ≡ result._>>=_ (result._>>=_ (need 8 (h .next) t) (λ _. done (h .next))) (λ _. done (headed theVersion z at (g .next)))
     ended g h b c false = refl
     ended g h b c true =
@@ -94,49 +92,28 @@ module _ (s : List ℕ) where
         let k = found (reads-times (reads-clause ctx) (z .clauses) .told s (g .next) (h .value) (h .next) c) .0 .0 in
         rw (t .1, begins, t .0, k)
 
-    body-is : mapDone headerOf (result._>>=_ board closed) ≡ header
+    body-is : mapDone headerOf (result._>>=_ (result._>>=_ table λ g. result._>>=_ (rules (g .next)) λ h. done (record { value = board g h; next = h .next })) closed)
+        ≡ (result._>>=_ (past table) λ place. result._>>=_ (rulesFrom (headed theVersion z at place) s) λ _. done (headed theVersion z at place))
     unfolding rulesFrom
-    body-is = table (times (z .ints) readBounds s at) refl
-      where
-        rules : (g : Got (List Bounds)) → times (z .ints) readBounds s at ≡ done g → (m : Result (Got (List Clause))) → times (z .clauses) (readClause ctx) s (g .next) ≡ m
-            → mapDone headerOf (result._>>=_ board closed) ≡ header
-        rules g b (refused n d) c = rw (b, c)
-        rules g b (done h) c = rw (b, c) (ended g h b c (eqb (h .next) (length s)))
-
-        table : (m : Result (Got (List Bounds))) → times (z .ints) readBounds s at ≡ m → mapDone headerOf (result._>>=_ board closed) ≡ header
-        table (refused n d) b = rw b
-        table (done g) b = rules g b (times (z .clauses) (readClause ctx) s (g .next)) refl
+    body-is =
+        either-way table (λ n d b. rw b) λ g b.
+        either-way (rules (g .next)) (λ n d c. rw (b, c)) λ h c.
+        rw (b, c) (ended g h b c (eqb (h .next) (length s)))
 
   -- ---- and the counts before them
-  abbrev InParts : Type 0
-  InParts = mapDone headerOf (result._>>=_ (readBody theVersion s 5) closed) ≡ headerFrom theVersion s 5
-
-  clauses : (v m : Got ℕ) → count 0 1024 2 s 5 ≡ done v → count 0 4096 2 s (v .next) ≡ done m → (r : Result (Got ℕ)) → count 0 4096 2 s (m .next) ≡ r → InParts
+  in-parts : mapDone headerOf (result._>>=_ (readBody theVersion s 5) closed) ≡ headerFrom theVersion s 5
   unfolding readBody readCounts headerFrom
-  clauses v m e e′ (refused n d) e″ = rw (e, e′, e″)
-  clauses v m e e′ (done c) e″ =
+  in-parts =
+      either-way (count 0 1024 2 s 5) (λ n d e. rw e) λ v e.
+      either-way (count 0 4096 2 s (v .next)) (λ n d e′. rw (e, e′)) λ m e′.
+      either-way (count 0 4096 2 s (m .next)) (λ n d e″. rw (e, e′, e″)) λ c e″.
       rw (e, e′, e″)
       (body-is (record { ints = v .value; bools = m .value; clauses = c .value }) (c .next)
       (omega (arith, counted 1024 s 5 e .next, counted 4096 s (v .next) e′ .next, counted 4096 s (m .next) e″ .next)))
 
-  bools : (v : Got ℕ) → count 0 1024 2 s 5 ≡ done v → (r : Result (Got ℕ)) → count 0 4096 2 s (v .next) ≡ r → InParts
-  unfolding readBody readCounts headerFrom
-  bools v e (refused n d) e′ = rw (e, e′)
-  bools v e (done m) e′ = clauses v m e e′ (count 0 4096 2 s (m .next)) refl
-
-  ints : (r : Result (Got ℕ)) → count 0 1024 2 s 5 ≡ r → InParts
-  unfolding readBody readCounts headerFrom
-  ints (refused n d) e = rw e
-  ints (done v) e = bools v e (count 0 4096 2 s (v .next)) refl
-
 -- ---- version and stated length
 missing : (n : ℕ) (s : List ℕ) (at : ℕ) {why d : ℕ} → unsigned n s at ≡ refused why d → length s < at + n
-unfolding unsigned
-missing n s at {why} {d} = go (leb (at + n) (length s)) refl
-  where
-    go : (t : Bool) → leb (at + n) (length s) ≡ t → _≡_ {A = Result (Got ℕ)} (if t then done (record { value = big s at n; next = at + n }) else refused 8 at) (refused why d) → length s < at + n
-    go true e x = never (sym x)
-    go false e x = leb-false _ _ e
+missing n s at e = elim (decLe (at + n) (length s)) [ yes k ↦ never (sym (unsigned-there n s at k ∙ e)) | no k ↦ omega arith ]
 
 -- ---- the checks in 01's order
 module _ (s : List ℕ) (short : length s ≤ 65536) where
@@ -184,4 +161,4 @@ module _ (s : List ℕ) (short : length s ≤ 65536) where
       unfolding readBoard
       board-is one h =
           let l : big s 1 4 ≡ length s - 5 = omega (arith, stated-is, begins .0) in
-          rw (le-leb _ _ short, le-leb _ _ (begins .1), ← version-is, one, begins .0, eq-eqb _ _ l) (ints s (count 0 1024 2 s 5) refl)
+          rw (le-leb _ _ short, le-leb _ _ (begins .1), ← version-is, one, begins .0, eq-eqb _ _ l) (in-parts s)

@@ -2,7 +2,6 @@
 use mathlib.Core.Path.{_≡_, refl, sym, ap, _∙_}
 use mathlib.Core.List.{List}
 use Prim.Native.Nat.{ℕ}
-use Rattle.definitions.specs.Board.{Board}
 use Rattle.definitions.specs.Result.{Result, done, refused}
 use Rattle.definitions.specs.Operations.{readBoard}
 use Rattle.laws.specs.Readings.{same, never}
@@ -11,17 +10,17 @@ use Rattle.opening.specs.declared.Header.{Header}
 use Rattle.opening.specs.Said.{mapDone, headerOf}
 use Rattle.opening.specs.Headers.{Opened}
 
-module _ (s : List ℕ) where
-  pub opened : {h : Header} → mapDone headerOf (readBoard s) ≡ done h → Opened s h
-  opened {h} = go (readBoard s) refl
-    where
-      go : (m : Result Board) → readBoard s ≡ m → mapDone headerOf m ≡ done h → Opened s h
-      go (done B) e d = record { opens = opens s B e; header = sym (same d) ∙ ap headerOf (sym (board-is s B e)) }
-      go (refused n d) e x = never x
+-- what a result was before it was mapped
+module _ {A B : Type 0} (f : A → B) where
+  pub mapped-done : (m : Result A) {b : B} → mapDone f m ≡ done b → (a : A) × (m ≡ done a) × (b ≡ f a)
+  mapped-done (done a) e = (a, refl, sym (same e))
+  mapped-done (refused n d) e = never e
 
-  pub not-opened : {n d : ℕ} → mapDone headerOf (readBoard s) ≡ refused n d → readBoard s ≡ refused n d
-  not-opened {n} {d} = go (readBoard s)
-    where
-      go : (m : Result Board) → mapDone headerOf m ≡ refused n d → m ≡ refused n d
-      go (done B) e = never (sym e)
-      go (refused why p) e = cc
+  pub mapped-refused : (m : Result A) {n d : ℕ} → mapDone f m ≡ refused n d → m ≡ refused n d
+  mapped-refused (done a) e = never (sym e)
+  mapped-refused (refused why p) e = cc
+
+pub opened : (s : List ℕ) {h : Header} → mapDone headerOf (readBoard s) ≡ done h → Opened s h
+opened s e =
+    let m = mapped-done headerOf (readBoard s) e in
+    record { opens = opens s (m .0) (m .1); header = m .2 ∙ ap headerOf (sym (board-is s (m .0) (m .1))) }

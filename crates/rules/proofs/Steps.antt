@@ -24,7 +24,7 @@ use Rattle.laws.specs.Spelling.{Stand, more, natural, comparisonFields, literal
 use Rattle.laws.specs.Grammar.{spelt, found}
 use Rattle.laws.specs.Reads.{reads-comparison, reads-literal}
 use Rattle.laws.specs.Reread.{comparisonAt, ComparisonRead, comparison-read}
-use Rattle.laws.specs.Pieces.{Piece, lone, opening, left, left-bool, left-negated, left-selected, left-lone}
+use Rattle.laws.specs.Pieces.{Piece, lone, opening, remaining, remaining-bool, remaining-negated, remaining-selected, remaining-lone}
 use Rattle.laws.specs.Ahead.{literalsAt, clausesAt, Readable, coming, Past, past-literal, literal-read, Into, into-clause, count-read, alone, coming-none}
 use Rattle.rules.specs.declared.Cursor.{Cursor}
 use Rattle.rules.specs.declared.Piece as code
@@ -68,7 +68,7 @@ module _ (ctx : Context) (t : List ℕ) where
       past = past-literal ctx t (c .literals - 1) (c .clauses) (c .place) (record { value = l; next = next }) (subst (λ n. Readable ctx t n (c .clauses) (c .place)) one-more (s .readable)) e
 
       these : coming ctx t (c .led) (c .selector) (c .literals) (c .clauses) (c .place)
-          ≡ left (c .led) (c .selector) (l ∷ literalsAt ctx t (c .literals - 1) next .value) (clausesAt ctx t (c .clauses) (literalsAt ctx t (c .literals - 1) next .next) .value)
+          ≡ remaining (c .led) (c .selector) (l ∷ literalsAt ctx t (c .literals - 1) next .value) (clausesAt ctx t (c .clauses) (literalsAt ctx t (c .literals - 1) next .next) .value)
       these = ap (λ n. coming ctx t (c .led) (c .selector) n (c .clauses) (c .place)) one-more ∙ past .these (c .led) (c .selector)
 
       onward : (j : ℕ) → j ≤ suc (c .selector) → Onward ctx t c (behind c next j)
@@ -76,17 +76,17 @@ module _ (ctx : Context) (t : List ℕ) where
 
     pub goes-bool : (b : ℕ) → readLiteral ctx t (c .place) ≡ done (record { value = isTrue b; next = next }) → Went ctx t c (Stepped.Passed (behind c next (c .selector)))
     unfolding Went comingAt coming
-    goes-bool b e = (these (isTrue b) e ∙ left-bool (c .led) (c .selector) b _ _, onward (isTrue b) e (c .selector) (omega arith))
+    goes-bool b e = (these (isTrue b) e ∙ remaining-bool (c .led) (c .selector) b _ _, onward (isTrue b) e (c .selector) (omega arith))
 
     pub goes-negated : (b : ℕ) → readLiteral ctx t (c .place) ≡ done (record { value = isFalse b; next = next }) → Went ctx t c (Stepped.Passed (behind c next (c .selector)))
     unfolding Went comingAt coming
-    goes-negated b e = (these (isFalse b) e ∙ left-negated (c .led) (c .selector) b _ _, onward (isFalse b) e (c .selector) (omega arith))
+    goes-negated b e = (these (isFalse b) e ∙ remaining-negated (c .led) (c .selector) b _ _, onward (isFalse b) e (c .selector) (omega arith))
 
     module _ (place : ℕ) (k : ℤ) (p : place ≡ c .place + 1) (e : readLiteral ctx t (c .place) ≡ done (record { value = atMost (comparisonAt t place k); next = next })) where
       pub goes-led : c .led ≡ true → Went ctx t c (Stepped.Met (code.Piece.Led (c .selector) place k) (behind c next (c .selector + 1)))
       unfolding Went comingAt coming
       goes-led d = (
-        rw (add-one, d) (rw d at (these (atMost (comparisonAt t place k)) e) ∙ left-selected (c .selector) (comparisonAt t place k) _ _),
+        rw (add-one, d) (rw d at (these (atMost (comparisonAt t place k)) e) ∙ remaining-selected (c .selector) (comparisonAt t place k) _ _),
         stands (c .place) place next k p e,
         onward (atMost (comparisonAt t place k)) e (c .selector + 1) (omega arith),
         omega (arith, s .few),
@@ -95,7 +95,7 @@ module _ (ctx : Context) (t : List ℕ) where
       pub goes-lone : c .led ≡ false → Went ctx t c (Stepped.Met (code.Piece.Lone place k) (behind c next (c .selector)))
       unfolding Went comingAt coming
       goes-lone d = (
-        rw d (rw d at (these (atMost (comparisonAt t place k)) e) ∙ left-lone (c .selector) (comparisonAt t place k) _ _),
+        rw d (rw d at (these (atMost (comparisonAt t place k)) e) ∙ remaining-lone (c .selector) (comparisonAt t place k) _ _),
         stands (c .place) place next k p e,
         onward (atMost (comparisonAt t place k)) e (c .selector) (omega arith),
         omega arith,

@@ -7,7 +7,7 @@ ghost use Rattle.definitions.specs.Reading.{times, readLiteral};
 ghost use Rattle.laws.specs.Ahead.{literalsAt};
 ghost use Rattle.laws.specs.Pieces.{lone};
 ghost use Rattle.rules.specs.Cursors.{Sound, Went, atStart, behind, within};
-use fields::plain;
+use fields::unchecked;
 use reader::Context;
 use reader::Literal;
 use reader::LiteralRead;
@@ -125,7 +125,7 @@ fn is_lone(rules: &[u8], known: Context, n: usize, at: usize) -> bool
     if n != 1 {
         return false;
     }
-    plain(rules, at, 1) == COMPARISON
+    unchecked(rules, at, 1) == COMPARISON
 }
 
 // The cursor before the first literal of the next clause.

@@ -8,6 +8,7 @@ use lib.IntN.{pos}
 use Rattle.definitions.specs.Board.{Board, boundsOf}
 use Rattle.definitions.specs.Board as board
 use Rattle.definitions.specs.Encoding.{first}
+use Rattle.laws.specs.Limits.{firstsLimit}
 use Rattle.laws.specs.Whole.{whole, abs-le, abs-law, ne-in}
 use Rattle.laws.specs.Lists.{all-map, all-impl, map-same}
 use Rattle.laws.specs.Admitted.{Admitted, GoodTerm, GoodComparison}
@@ -20,7 +21,7 @@ use Rattle.slots.specs.Variables.{numbered, FirstsOf}
 
 -- a table gives no variable too large a number to walk with
 abbrev pub Small : Board → List ℕ → Type 0
-Small B firsts = (x : ℕ) → x < length (B .bounds) → numbered firsts x ≤ 10000000
+Small B firsts = (x : ℕ) → x < length (B .bounds) → numbered firsts x ≤ firstsLimit
 
 -- the board's comparison q, ready to walk, where f numbers the variables
 pub record ReadyBy (B : Board) (f : ℕ → ℕ) (q : board.Comparison) (c : Comparison) : Type 0 where
@@ -35,7 +36,7 @@ module _ (B : Board) (g : Admitted B) where
   pub firsts-small : (firsts : List ℕ) → FirstsOf B firsts → Small B firsts
   firsts-small firsts e x h = omega (arith, e x (omega arith), first-most B g x)
 
-  module _ (f : ℕ → ℕ) (small : (x : ℕ) → x < length (B .bounds) → f x ≤ 10000000) where
+  module _ (f : ℕ → ℕ) (small : (x : ℕ) → x < length (B .bounds) → f x ≤ firstsLimit) where
     slot-fair : (t : board.Term) → GoodTerm (length (B .bounds)) t → FairSlot (slotOf B f t)
     unfolding slotOf
     slot-fair t h =

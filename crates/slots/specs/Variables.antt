@@ -18,6 +18,7 @@ use Rattle.laws.specs.Whole.{whole, sfits}
 use Rattle.laws.specs.Admitted.{GoodBounds}
 use Rattle.laws.specs.Terms.{good-bounds}
 use Rattle.laws.specs.Layout.{first-next}
+use Rattle.laws.specs.Reread.{tableStart}
 use Rattle.laws.specs.Boards.{Opens, boardOf, opens-board, opens-admitted}
 use Rattle.slots.specs.declared.Bounds.{Bounds}
 
@@ -42,10 +43,10 @@ module _ (b : Bounds) (g : GoodBounds (boundsRead b)) where
   upper-fits = sfits (omega (whole, g .lowest, g .ordered, g .highest))
 
 module _ (s : List ℕ) (o : Opens s) (x : ℕ) (h : x < length (boardOf s .bounds)) where
-  pub bounds-room : 15 + 4 * x ≤ length s
+  pub bounds-room : tableStart + 4 * x + 4 ≤ length s
   bounds-room = omega (arith, opens-board s o .room)
 
-  pub bounds-there : (l u : ℤ) → l ≡ twos 2 (big s (11 + 4 * x) 2) → u ≡ twos 2 (big s (11 + 4 * x + 2) 2)
+  pub bounds-there : (l u : ℤ) → l ≡ twos 2 (big s (tableStart + 4 * x) 2) → u ≡ twos 2 (big s (tableStart + 4 * x + 2) 2)
       → BoundsOf (boardOf s) x (record { lower = l; upper = u })
   bounds-there l u el eu =
       let e = opens-board s o .bounds x h in

@@ -6,10 +6,11 @@ use lib.IntN.{ℤ, natAbs, _+ℤ_, _-ℤ_}
 use mir.Syntax.{w32}
 use mir.Val.{SFits}
 use mir.Facts.{toZ-ofZ}
+use Rattle.laws.specs.Limits.{numbersLimit}
 use Rattle.laws.specs.Whole.{abs-fits, abs-add, abs-sub}
 
 abbrev pub Small : ℤ → Type 0
-Small z = natAbs z ≤ 20000000
+Small z = natAbs z ≤ numbersLimit
 
 -- what the numbers of the paper are
 pub million : (z : ℤ) → natAbs z ≤ 1000000 → Small z

@@ -92,21 +92,21 @@ slot-near s f = ⊎-elim (λ h. near (s .upper) (s .lower) (f .highest) (f .lowe
         let at-y = abs-mul-le (s .coefficient) y 64 4096 (f .few) hy in
         omega (arith, ap natAbs (e .0), ap natAbs (e .1), abs-sub (s .coefficient *ℤ x) (pos 1))
 
-module _ (s : Slot) (b : ℤ) (f : FairSlot s) (low : slotBounds s .lo ≤ℤ b) (high : b ≤ℤ slotBounds s .hi) where
+module _ {s : Slot} {b : ℤ} (h : FairSlot s × (slotBounds s .lo ≤ℤ b) × (b ≤ℤ slotBounds s .hi)) where
   bound-near : natAbs b ≤ 262145
-  bound-near = abs-le b (omega (whole, slot-near s f, abs-law (slotBounds s .lo), abs-law (slotBounds s .hi)))
+  bound-near = abs-le b (omega (whole, h .1, h .2, slot-near s (h .0), abs-law (slotBounds s .lo), abs-law (slotBounds s .hi)))
 
   pub bound-small : natAbs b ≤ 1000000
   bound-small = omega (arith, bound-near)
 
-  pub ceil-small : (c : ℤ) → c ≡ ceil b (s .coefficient) → Small c
-  ceil-small c e = omega (arith, bound-near, ap natAbs e, abs-ceil b (s .coefficient))
+  pub ceil-small : {c : ℤ} → c ≡ ceil b (s .coefficient) → Small c
+  ceil-small e = omega (arith, bound-near, ap natAbs e, abs-ceil b (s .coefficient))
 
-  pub floor-inside : (c : ℤ) → c ≡ floor b (s .coefficient) → pos 0 <ℤ s .coefficient → ((s .lower -ℤ pos 1) ≤ℤ c) × (c ≤ℤ s .upper)
-  floor-inside c e h = let r = rising s h in rw e (floor-within (s .coefficient) (s .lower) (s .upper) b h (rw (r .0) low) (rw (r .1) high))
+  pub floor-inside : {c : ℤ} → c ≡ floor b (s .coefficient) → pos 0 <ℤ s .coefficient → ((s .lower -ℤ pos 1) ≤ℤ c) × (c ≤ℤ s .upper)
+  floor-inside e g = let r = rising s g in rw e (floor-within (s .coefficient) (s .lower) (s .upper) b g (rw (r .0) (h .1)) (rw (r .1) (h .2)))
 
-  pub ceil-inside : (c : ℤ) → c ≡ ceil b (s .coefficient) → s .coefficient <ℤ pos 0 → ((s .lower -ℤ pos 1) ≤ℤ (c -ℤ pos 1)) × ((c -ℤ pos 1) ≤ℤ s .upper)
-  ceil-inside c e h = let r = falling s (omega whole) in rw e (ceil-within (s .coefficient) (s .lower) (s .upper) b h (rw (r .0) low) (rw (r .1) high))
+  pub ceil-inside : {c : ℤ} → c ≡ ceil b (s .coefficient) → s .coefficient <ℤ pos 0 → ((s .lower -ℤ pos 1) ≤ℤ (c -ℤ pos 1)) × ((c -ℤ pos 1) ≤ℤ s .upper)
+  ceil-inside e g = let r = falling s (omega whole) in rw e (ceil-within (s .coefficient) (s .lower) (s .upper) b g (rw (r .0) (h .1)) (rw (r .1) (h .2)))
 
 pub literal-rising : (s : Slot) (b : ℤ) → pos 0 <ℤ s .coefficient → slotLiteral s b ≡ pos (orderNumber s (floor b (s .coefficient)))
 unfolding slotLiteral

@@ -20,14 +20,16 @@ use Rattle.walk.proofs.Slots.{rising, falling, number-is, floor-inside,
 floor-at : (a l b : ℤ) (k r u : ℕ) → pos 0 <ℤ a → b ≡ (a *ℤ l -ℤ pos 1) +ℤ pos k → k + r ≡ natAbs a * u → r < natAbs a → floor b a ≡ (l +ℤ pos u) -ℤ pos 1
 floor-at (negsuc m) l b k r u h e t s = absurd (h .lt)
 floor-at (pos d) l b k r u h e t s =
+    let a = pos d in
     let y = l +ℤ pos u in
-    let m = mul-add (pos d) l (pos u) in
-    let n = mul-add (pos d) y (negsuc 0) in
-    let low : (y +ℤ negsuc 0) ≤ℤ floor b (pos d) =
-    below-floor (pos d) b (y +ℤ negsuc 0) h .0 (omega (whole, m, n, add-law (pos d *ℤ l) (pos d *ℤ pos u), add-law (pos d *ℤ y) (pos d *ℤ negsuc 0), mul-law (pos d) (negsuc 0), mul-law (pos d) (pos u), sub-law (pos d *ℤ l) (pos 1), add-law (pos d *ℤ l -ℤ pos 1) (pos k))) in
-    let high : floor b (pos d) <ℤ y = ⊎-elim (λ g.
-    let z = below-floor (pos d) b y h .1 g in
-    absurd (omega (whole, m, add-law (pos d *ℤ l) (pos d *ℤ pos u), mul-law (pos d) (pos u), sub-law (pos d *ℤ l) (pos 1), add-law (pos d *ℤ l -ℤ pos 1) (pos k)))) (λ g. g) (le-or-lt y (floor b (pos d))) in
+    let x = y +ℤ negsuc 0 in
+    let m = mul-add a l (pos u) in
+    let n = mul-add a y (negsuc 0) in
+    let low : x ≤ℤ floor b a =
+    below-floor a b x h .0 (omega (whole, m, n, add-law (a *ℤ l) (a *ℤ pos u), add-law (a *ℤ y) (a *ℤ negsuc 0), mul-law a (negsuc 0), mul-law a (pos u), sub-law (a *ℤ l) (pos 1), add-law (a *ℤ l -ℤ pos 1) (pos k))) in
+    let high : floor b a <ℤ y = ⊎-elim (λ g.
+    let z = below-floor a b y h .1 g in
+    absurd (omega (whole, m, add-law (a *ℤ l) (a *ℤ pos u), mul-law a (pos u), sub-law (a *ℤ l) (pos 1), add-law (a *ℤ l -ℤ pos 1) (pos k)))) (λ g. g) (le-or-lt y (floor b a)) in
     omega (whole, low, high, add-law y (negsuc 0), sub-law y (pos 1))
 
 -- ceil((a u - 1 + k) / a) - 1 is u - times
@@ -54,40 +56,38 @@ baseOf s = if ltZ (pos 0) (s .coefficient) then pos (s .first) else negℤ ((pos
 abbrev pub bound : Slot → ℕ → ℤ
 bound s k = slotBounds s .lo +ℤ pos k
 
-pub offset-literal : (s : Slot) → FairSlot s → (k r u : ℕ) → k + r ≡ natAbs (s .coefficient) * u → r < natAbs (s .coefficient) → bound s k ≤ℤ slotBounds s .hi → slotLiteral s (bound s k) ≡ baseOf s +ℤ pos u
-unfolding baseOf
-offset-literal s f k r u t h top = ⊎-elim down up (le-or-lt (s .coefficient) (pos 0))
-  where
-    a : ℤ
-    a = s .coefficient
+abbrev pub Within : Slot → ℕ → Type 0
+Within s k = bound s k ≤ℤ slotBounds s .hi
 
-    b : ℤ
-    b = bound s k
+module _ (s : Slot) (f : FairSlot s) (k r u : ℕ) (t : k + r ≡ natAbs (s .coefficient) * u) (h : r < natAbs (s .coefficient)) (top : Within s k) where
+  rising-literal : pos 0 <ℤ s .coefficient → slotLiteral s (bound s k) ≡ baseOf s +ℤ pos u
+  unfolding baseOf
+  rising-literal g =
+      let q = floor-at (s .coefficient) (s .lower) (bound s k) k r u g (ap (λ z. z +ℤ pos k) (sym (rising s g .0))) t h in
+      let c = floor (bound s k) (s .coefficient) in
+      let i = floor-inside (f, omega (whole, add-law (slotBounds s .lo) (pos k)), top) refl g in
+      let p = pos (s .first) in
+      rw (lt-test (pos 0) (s .coefficient) g)
+      (literal-rising s (bound s k) g ∙ sym (number-is s c f (i .0) (i .1))
+      ∙ omega (whole, q, add-law p (c -ℤ s .lower), add-law (p +ℤ (c -ℤ s .lower)) (pos 1), sub-law c (s .lower), add-law (s .lower) (pos u), sub-law (s .lower +ℤ pos u) (pos 1), add-law p (pos u)))
 
-    low : slotBounds s .lo ≤ℤ bound s k
-    low = omega (whole, add-law (slotBounds s .lo) (pos k))
+  falling-literal : s .coefficient ≤ℤ pos 0 → slotLiteral s (bound s k) ≡ baseOf s +ℤ pos u
+  unfolding baseOf
+  falling-literal g =
+      let g′ : s .coefficient <ℤ pos 0 = omega (whole, g, f .some, abs-law (s .coefficient), part-law (s .coefficient)) in
+      let q = ceil-at (s .coefficient) (s .upper) (bound s k) k r u g′ (ap (λ z. z +ℤ pos k) (sym (falling s g .0))) t h in
+      let ce = ceil (bound s k) (s .coefficient) in
+      let c = ce -ℤ pos 1 in
+      let i = ceil-inside (f, omega (whole, add-law (slotBounds s .lo) (pos k)), top) refl g′ in
+      let p = pos (s .first) in
+      let m = p +ℤ (c -ℤ s .lower) in
+      let n = p +ℤ (s .upper -ℤ s .lower) in
+      rw (ge-test (pos 0) (s .coefficient) g)
+      (literal-falling s (bound s k) g′ ∙ ap negℤ (sym (number-is s c f (i .0) (i .1)))
+      ∙ omega (whole, q, add-law p (c -ℤ s .lower), add-law m (pos 1), sub-law c (s .lower), sub-law (s .upper) (pos u), neg-law (m +ℤ pos 1), neg-law (n +ℤ pos 1), add-law p (s .upper -ℤ s .lower), add-law n (pos 1), sub-law (s .upper) (s .lower), add-law (negℤ (n +ℤ pos 1)) (pos u)))
 
-    up : pos 0 <ℤ s .coefficient → slotLiteral s (bound s k) ≡ (if ltZ (pos 0) (s .coefficient) then pos (s .first) else negℤ ((pos (s .first) +ℤ (s .upper -ℤ s .lower)) +ℤ pos 1)) +ℤ pos u
-    up g =
-        let q = floor-at (s .coefficient) (s .lower) (bound s k) k r u g (ap (λ z. z +ℤ pos k) (sym (rising s g .0))) t h in
-        let fl = floor (bound s k) (s .coefficient) in
-        let i = floor-inside s (bound s k) f low top fl refl g in
-        let n = number-is s fl f (i .0) (i .1) in
-        rw (lt-test (pos 0) (s .coefficient) g)
-        (literal-rising s (bound s k) g ∙ sym n
-        ∙ omega (whole, q, add-law (pos (s .first)) (fl -ℤ s .lower), add-law (pos (s .first) +ℤ (fl -ℤ s .lower)) (pos 1), sub-law fl (s .lower), add-law (s .lower) (pos u), sub-law (s .lower +ℤ pos u) (pos 1), add-law (pos (s .first)) (pos u)))
-
-    down : s .coefficient ≤ℤ pos 0 → slotLiteral s (bound s k) ≡ (if ltZ (pos 0) (s .coefficient) then pos (s .first) else negℤ ((pos (s .first) +ℤ (s .upper -ℤ s .lower)) +ℤ pos 1)) +ℤ pos u
-    down g =
-        let g′ : s .coefficient <ℤ pos 0 = omega (whole, g, f .some, abs-law (s .coefficient), part-law (s .coefficient)) in
-        let q = ceil-at (s .coefficient) (s .upper) (bound s k) k r u g′ (ap (λ z. z +ℤ pos k) (sym (falling s g .0))) t h in
-        let ce = ceil (bound s k) (s .coefficient) in
-        let c = ce -ℤ pos 1 in
-        let i = ceil-inside s (bound s k) f low top ce refl g′ in
-        let n = number-is s c f (i .0) (i .1) in
-        rw (ge-test (pos 0) (s .coefficient) g)
-        (literal-falling s (bound s k) g′ ∙ ap negℤ (sym n)
-        ∙ omega (whole, q, add-law (pos (s .first)) (c -ℤ s .lower), add-law (pos (s .first) +ℤ (c -ℤ s .lower)) (pos 1), sub-law c (s .lower), sub-law (s .upper) (pos u), neg-law ((pos (s .first) +ℤ (c -ℤ s .lower)) +ℤ pos 1), neg-law ((pos (s .first) +ℤ (s .upper -ℤ s .lower)) +ℤ pos 1), add-law (pos (s .first)) (s .upper -ℤ s .lower), add-law (pos (s .first) +ℤ (s .upper -ℤ s .lower)) (pos 1), sub-law (s .upper) (s .lower), add-law (negℤ ((pos (s .first) +ℤ (s .upper -ℤ s .lower)) +ℤ pos 1)) (pos u)))
+  pub offset-literal : slotLiteral s (bound s k) ≡ baseOf s +ℤ pos u
+  offset-literal = ⊎-elim falling-literal rising-literal (le-or-lt (s .coefficient) (pos 0))
 
 -- ---- to the next offset, and to the one before
 pub rest-up : (d k u : ℕ) → 0 < d → k + 0 ≡ d * u → k + 1 + (d - 1) ≡ d * (u + 1)
@@ -97,29 +97,25 @@ pub rest-down : (d k r u : ℕ) → r + 1 ≡ d → 1 ≤ k → k + r ≡ d * u 
 rest-down d k r zero h l e = absurd (omega (arith, e))
 rest-down d k r (suc u) h l e = let q : suc u - 1 ≡ u = omega arith in rw q (omega (arith, e))
 
-pub raise-at : (p : Spot) → p .r ≡ 0 → raised p ≡ record { d = p .d; r = p .d - 1; literal = p .literal +ℤ pos 1 }
+-- p with another rest and literal
+abbrev spot : Spot → ℕ → ℤ → Spot
+spot p r l = record { d = p .d; r = r; literal = l }
+
+pub raise-at : (p : Spot) → p .r ≡ 0 → raised p ≡ spot p (p .d - 1) (p .literal +ℤ pos 1)
 unfolding raised
 raise-at p e = rw e
 
-pub raise-on : (p : Spot) → 0 < p .r → raised p ≡ record { d = p .d; r = p .r - 1; literal = p .literal }
+pub raise-on : (p : Spot) → 0 < p .r → raised p ≡ spot p (p .r - 1) (p .literal)
 unfolding raised
-raise-on p h = go (p .r) h
-  where
-    go : (r : ℕ) → 0 < r → raisedBy p r ≡ record { d = p .d; r = r - 1; literal = p .literal }
-    go zero h = absurd (omega arith)
-    go (suc r) h = let q : r ≡ suc r - 1 = omega arith in ap (λ n. record { d = p .d; r = n; literal = p .literal }) q
+raise-on p h = let e : p .r ≡ suc (p .r - 1) = omega arith in ap (raisedBy p) e
 
-pub lower-at : (p : Spot) → p .d ≤ p .r + 1 → lowered p ≡ record { d = p .d; r = 0; literal = p .literal -ℤ pos 1 }
+pub lower-at : (p : Spot) → p .d ≤ p .r + 1 → lowered p ≡ spot p 0 (p .literal -ℤ pos 1)
 unfolding lowered
 lower-at p h = let e : p .d - (p .r + 1) ≡ 0 = omega arith in rw e
 
-pub lower-on : (p : Spot) → p .r + 1 < p .d → lowered p ≡ record { d = p .d; r = p .r + 1; literal = p .literal }
+pub lower-on : (p : Spot) → p .r + 1 < p .d → lowered p ≡ spot p (p .r + 1) (p .literal)
 unfolding lowered
-lower-on p h = go (p .d - (p .r + 1)) (omega arith)
-  where
-    go : (n : ℕ) → 0 < n → loweredBy p n ≡ record { d = p .d; r = p .r + 1; literal = p .literal }
-    go zero h = absurd (omega arith)
-    go (suc n) h = refl
+lower-on p h = let e : p .d - (p .r + 1) ≡ suc (p .d - (p .r + 1) - 1) = omega arith in ap (loweredBy p) e
 
 -- ---- along a row
 module _ (s : Slot) (f : FairSlot s) (k : ℕ) (p : Spot) (h : Holds s k p) where
@@ -127,8 +123,7 @@ module _ (s : Slot) (f : FairSlot s) (k : ℕ) (p : Spot) (h : Holds s k p) wher
   u = h .rest .times
 
   -- the literal is that of the same slot at another offset, moved as the multiples are
-  held : (v : ℕ) (q : Spot) (j r : ℕ) → bound s k ≤ℤ slotBounds s .hi → bound s j ≤ℤ slotBounds s .hi → j + r ≡ p .d * v → r < p .d
-      → q ≡ record { d = p .d; r = r; literal = (p .literal +ℤ pos v) -ℤ pos u } → Holds s j q
+  held : (v : ℕ) (q : Spot) (j r : ℕ) → Within s k → Within s j → j + r ≡ p .d * v → r < p .d → q ≡ spot p r ((p .literal +ℤ pos v) -ℤ pos u) → Holds s j q
   held v q j r top top′ e l i =
       let t : j + r ≡ natAbs (s .coefficient) * v = rw (← h .size) e in
       let t₀ : k + p .r ≡ natAbs (s .coefficient) * u = rw (← h .size) (h .rest .whole) in
@@ -140,31 +135,31 @@ module _ (s : Slot) (f : FairSlot s) (k : ℕ) (p : Spot) (h : Holds s k p) wher
         literal = omega (whole, h .literal, a, b, add-law (p .literal) (pos v), sub-law (p .literal +ℤ pos v) (pos u), add-law (baseOf s) (pos u), add-law (baseOf s) (pos v));
       })
 
-  pub holds-up : bound s (k + 1) ≤ℤ slotBounds s .hi → Holds s (k + 1) (raised p)
+  pub holds-up : Within s (k + 1) → Holds s (k + 1) (raised p)
   holds-up top =
-      let below : bound s k ≤ℤ slotBounds s .hi = omega (whole, add-law (slotBounds s .lo) (pos k), add-law (slotBounds s .lo) (pos (k + 1))) in
+      let below : Within s k = omega (whole, add-law (slotBounds s .lo) (pos k), add-law (slotBounds s .lo) (pos (k + 1))) in
       elim (decLe 1 (p .r)) [
         | yes l ↦
             held u (raised p) (k + 1) (p .r - 1) below top (omega (arith, h .rest .whole)) (omega (arith, h .rest .short))
-            (raise-on p l ∙ ap (λ z. record { d = p .d; r = p .r - 1; literal = z }) (omega (whole, add-law (p .literal) (pos u), sub-law (p .literal +ℤ pos u) (pos u))))
+            (raise-on p l ∙ ap (spot p (p .r - 1)) (omega (whole, add-law (p .literal) (pos u), sub-law (p .literal +ℤ pos u) (pos u))))
         | no l ↦
-            let z : p .r ≡ 0 = omega arith in
-            held (u + 1) (raised p) (k + 1) (p .d - 1) below top (rest-up (p .d) k u (omega (arith, h .rest .short)) (rw z at (h .rest .whole))) (omega (arith, h .rest .short))
-            (raise-at p z ∙ ap (λ z. record { d = p .d; r = p .d - 1; literal = z }) (omega (whole, add-law (p .literal) (pos 1), add-law (p .literal) (pos (u + 1)), sub-law (p .literal +ℤ pos (u + 1)) (pos u))))
+            let e : p .r ≡ 0 = omega arith in
+            held (u + 1) (raised p) (k + 1) (p .d - 1) below top (rest-up (p .d) k u (omega (arith, h .rest .short)) (rw e at (h .rest .whole))) (omega (arith, h .rest .short))
+            (raise-at p e ∙ ap (spot p (p .d - 1)) (omega (whole, add-law (p .literal) (pos 1), add-law (p .literal) (pos (u + 1)), sub-law (p .literal +ℤ pos (u + 1)) (pos u))))
       ]
 
-  pub holds-down : 1 ≤ k → bound s k ≤ℤ slotBounds s .hi → Holds s (k - 1) (lowered p)
+  pub holds-down : 1 ≤ k → Within s k → Holds s (k - 1) (lowered p)
   holds-down one top =
-      let below : bound s (k - 1) ≤ℤ slotBounds s .hi = omega (whole, add-law (slotBounds s .lo) (pos k), add-law (slotBounds s .lo) (pos (k - 1))) in
+      let below : Within s (k - 1) = omega (whole, add-law (slotBounds s .lo) (pos k), add-law (slotBounds s .lo) (pos (k - 1))) in
       elim (decLe (p .r + 2) (p .d)) [
         | yes l ↦
             held u (lowered p) (k - 1) (p .r + 1) top below (omega (arith, h .rest .whole)) (omega arith)
-            (lower-on p (omega arith) ∙ ap (λ z. record { d = p .d; r = p .r + 1; literal = z }) (omega (whole, add-law (p .literal) (pos u), sub-law (p .literal +ℤ pos u) (pos u))))
+            (lower-on p (omega arith) ∙ ap (spot p (p .r + 1)) (omega (whole, add-law (p .literal) (pos u), sub-law (p .literal +ℤ pos u) (pos u))))
         | no l ↦
-            let z : p .r + 1 ≡ p .d = omega (arith, h .rest .short) in
+            let e : p .r + 1 ≡ p .d = omega (arith, h .rest .short) in
             let some : 0 < u = positive (p .d) (k + p .r) u (omega arith) (h .rest .whole) in
-            held (u - 1) (lowered p) (k - 1) 0 top below (rest-down (p .d) k (p .r) u z one (h .rest .whole)) (omega (arith, h .rest .short))
-            (lower-at p (omega arith) ∙ ap (λ z. record { d = p .d; r = 0; literal = z }) (omega (whole, some, sub-law (p .literal) (pos 1), add-law (p .literal) (pos (u - 1)), sub-law (p .literal +ℤ pos (u - 1)) (pos u))))
+            held (u - 1) (lowered p) (k - 1) 0 top below (rest-down (p .d) k (p .r) u e one (h .rest .whole)) (omega (arith, h .rest .short))
+            (lower-at p (omega arith) ∙ ap (spot p 0) (omega (whole, some, sub-law (p .literal) (pos 1), add-law (p .literal) (pos (u - 1)), sub-law (p .literal +ℤ pos (u - 1)) (pos u))))
       ]
     where
       positive : (d n u : ℕ) → 0 < n → n ≡ d * u → 0 < u

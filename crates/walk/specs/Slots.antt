@@ -8,6 +8,7 @@ use Rattle.definitions.specs.Tools.{if_then_else_, size, floor, ceil, neg}
 use Rattle.definitions.specs.Board.{Bounds, Term, Board, boundsOf}
 use Rattle.definitions.specs.Encoding.{plus, minus, termBounds, sharp, first, number, literalNumber}
 use Rattle.definitions.specs.Encoding as Encoding
+use Rattle.laws.specs.Limits.{firstsLimit}
 use Rattle.walk.specs.declared.Slot.{Slot}
 
 -- ℓ(ax) and u(ax)
@@ -39,7 +40,7 @@ pub record FairSlot (s : Slot) : Type 0 where
   pub lowest : natAbs (s .lower) ≤ 4096
   pub highest : natAbs (s .upper) ≤ 4096
   pub ordered : s .lower ≤ℤ s .upper
-  pub numbered : s .first ≤ 10000000
+  pub numbered : s .first ≤ firstsLimit
 
 -- ---- what they are of a board's term, where f numbers the variables
 unfoldable pub slotOf : Board → (ℕ → ℕ) → Term → Slot

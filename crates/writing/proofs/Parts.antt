@@ -7,6 +7,7 @@ use lib.ListN.{length, set}
 use lib.IntN.{ℤ, pos, _+ℤ_, _-ℤ_}
 use mir.Syntax.{w32}
 use mir.Val.{toZ, ofZ}
+use Rattle.laws.specs.Limits.{numbersLimit}
 use Rattle.laws.specs.Lists.{flatten-append}
 use Rattle.laws.specs.Written.{written}
 use Rattle.walk.specs.declared.Comparison.{Comparison}
@@ -25,7 +26,7 @@ use Rattle.laws.specs.Filling.{Filling, begin, begun, one, three, ended}
 abbrev pub headed : ℕ → ℕ → List ℤ → List ℤ
 headed i w o = set (set (set (set o 0 (toZ w32 (ofZ w32 (pos 0 -ℤ toZ w32 i)))) 1 (pos 0)) 2 (toZ w32 (i + (w - 1)))) 3 (pos 0)
 
-pub units : (i w : ℕ) (o : List ℤ) → i + w < 20000000 → length (axiomNumbers i w) ≤ length o
+pub units : (i w : ℕ) (o : List ℤ) → i + w < numbersLimit → length (axiomNumbers i w) ≤ length o
     → Filling (axiomNumbers i w) (stepsFrom i (w - 1)) o (headed i w o) 4
 unfolding axiomNumbers
 units i w o h fit =

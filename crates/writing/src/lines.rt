@@ -5,6 +5,7 @@ ghost use lib.IntN.{natAbs};
 ghost use lib.ListN.{length};
 ghost use Rattle.definitions.specs.Result.{done};
 ghost use Rattle.definitions.specs.Reading.{times, readLiteral};
+ghost use Rattle.laws.specs.Limits.{numbersLimit};
 ghost use Rattle.laws.specs.Ahead.{literalsAt};
 ghost use Rattle.laws.specs.Written.{written};
 ghost use Rattle.reader.specs.Said.{contextOf};
@@ -16,7 +17,7 @@ use reader::clauses::literal_at;
 
 // A literal's number; a comparison's is that of its selector.
 fn number_of(literal: Literal, selector: u32) -> i32
-    requires { ⌜ natAbs (literalHere selector literal) < 20000000 ⌝ }
+    requires { ⌜ natAbs (literalHere selector literal) < numbersLimit ⌝ }
     ensures { λ r. ⌜ r ≡ literalHere selector literal ⌝ }
 {
     match literal {
@@ -51,7 +52,7 @@ pub fn put_line(
     selector: u32,
     list: &mut [i32],
 ) -> usize
-    requires { ⌜ (times n (readLiteral (contextOf known)) (now rules) place ≡ done (literalsAt (contextOf known) (now rules) n place)) × (known .bools < 20000000) × (selector + n < 20000000) × (length (lineNumbers selector (literalsAt (contextOf known) (now rules) n place .value)) ≤ length (now list)) ⌝ }
+    requires { ⌜ (times n (readLiteral (contextOf known)) (now rules) place ≡ done (literalsAt (contextOf known) (now rules) n place)) × (known .bools < numbersLimit) × (selector + n < numbersLimit) × (length (lineNumbers selector (literalsAt (contextOf known) (now rules) n place .value)) ≤ length (now list)) ⌝ }
     ensures { λ r. ⌜ (r ≡ length (lineNumbers selector (literalsAt (contextOf known) (now (rules .entry)) n place .value))) × (now (list .exit) ≡ written (lineNumbers selector (literalsAt (contextOf known) (now (rules .entry)) n place .value)) (now (list .entry))) ⌝ }
 {
     let mut next_place = place;

@@ -22,11 +22,11 @@ returns c =
     let s = c .before .before in
     sym (not-alone (contextOf (s .args .known)) (s .args .rules .now) (s .args .n) (s .args .at) (s .pre) (c .if1 .taken))
 
-plain-requires : tie.Need-plain-requires
-plain-requires c κs = (omega arith, by-kind (c .before .before) (c .if1 .left) .0)
+unchecked-requires : tie.Need-unchecked-requires
+unchecked-requires c κs = (omega arith, by-kind (c .before .before) (c .if1 .left) .0)
 
 returns-2 : tie.Need-returns-2
-returns-2 c = ap (λ k. eqb k 2) (c .plain .ensures) ∙ sym (by-kind (c .before .before .before) (c .before .if1 .left) .1)
+returns-2 c = ap (λ k. eqb k 2) (c .unchecked .ensures) ∙ sym (by-kind (c .before .before .before) (c .before .if1 .left) .1)
 
 pub is-lone-spec : {M : Type 1} → statement M
-is-lone-spec = tie.close (tie.spec returns plain-requires returns-2)
+is-lone-spec = tie.close (tie.spec returns unchecked-requires returns-2)

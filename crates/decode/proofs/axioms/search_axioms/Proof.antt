@@ -7,6 +7,7 @@ use mathlib.Core.List.{List, _++_, flatten}
 use Prim.Native.Nat.{ℕ, _+_, _-_, _≤_, _<_}
 use native.Mathlib.Omega.{arith}
 use lib.ListN.{length}
+use Rattle.definitions.specs.Board.{Board}
 use Rattle.definitions.specs.Encoding.{width, axioms}
 use Rattle.definitions.specs.Encoding as Encoding
 use Rattle.laws.specs.Boards.{boardOf}
@@ -21,22 +22,22 @@ use Rattle.decode.proofs.axioms.search_axioms.Statement.{statement}
 use Rattle.decode.proofs.axioms.search_axioms.Tie as tie
 
 -- the tests of all axioms, and of those from variable x on
-abbrev all : List ℕ → List ℕ → List Bool
-all bytes model = tests (boardOf bytes) model (flatten (axioms (boardOf bytes)))
+abbrev all : Board → List ℕ → List Bool
+all B model = tests B model (flatten (axioms B))
 
-abbrev from : List ℕ → List ℕ → ℕ → List Bool
-from bytes model x = tests (boardOf bytes) model (axiomsFrom (boardOf bytes) x)
+abbrev from : Board → List ℕ → ℕ → List Bool
+from B model x = tests B model (axiomsFrom B x)
 
 abbrev Inv-loop : tie.InvT-loop
 Inv-loop bytes model header x first number₀ width k₀ number k =
-    (k ≤ width + 1) × Goes 0 (all bytes model) number (axiomTests model first width k ++ from bytes model (x + 1))
+    let B = boardOf bytes in (k ≤ width + 1) × Goes 0 (all B model) number (axiomTests model first width k ++ from B model (x + 1))
 
 abbrev μ-loop : tie.MeasureT-loop
 μ-loop bytes model header x first number₀ width k₀ number k = width + 1 - k
 
 abbrev Inv-search : tie.InvT-search
 Inv-search bytes model header x₀ first₀ number₀ x first number =
-    (x ≤ header .ints) × (first ≡ Encoding.first (boardOf bytes) x) × Goes 0 (all bytes model) number (from bytes model x)
+    let B = boardOf bytes in (x ≤ header .ints) × (first ≡ Encoding.first B x) × Goes 0 (all B model) number (from B model x)
 
 abbrev μ-search : tie.MeasureT-search
 μ-search bytes model header x₀ first₀ number₀ x first number = header .ints - x
@@ -46,8 +47,8 @@ module _ (c : tie.After-width-of Inv-loop μ-loop Inv-search μ-search) where
   abbrev start : tie.Start Inv-loop μ-loop Inv-search μ-search
   start = c .before .before .before .before .before .before .before .before
 
-  abbrev bytes : List ℕ
-  bytes = start .args .bytes .now
+  abbrev B : Board
+  B = boardOf (start .args .bytes .now)
 
   abbrev model : List ℕ
   model = start .args .model .now
@@ -58,25 +59,22 @@ module _ (c : tie.After-width-of Inv-loop μ-loop Inv-search μ-search) where
   abbrev first : ℕ
   first = c .before .before .before .before .search .first
 
-  abbrev wide : ℕ
-  wide = c .width-of .result
+  numbered : first ≡ Encoding.first B x
+  numbered = c .before .before .before .before .search .inv .1
 
-  known : x < length (boardOf bytes .bounds)
+  known : x < length (B .bounds)
   known = inside (start .pre) x (omega arith) (c .before .bounds-of .ensures)
 
-  room : (1 ≤ first) × (2 ≤ wide) × (first + wide ≤ length model + 1) × (length model < 2147483648)
-  room = omega (arith, within (start .pre) x (omega arith) (c .before .bounds-of .ensures), c .before .before .before .before .search .inv .1, c .width-of .ensures, short (start .pre))
+  room : (1 ≤ first) × (2 ≤ c .width-of .result) × (first + c .width-of .result ≤ length model + 1) × (length model < 2147483648)
+  room = omega (arith, within (start .pre) x (omega arith) (c .before .bounds-of .ensures), numbered, c .width-of .ensures, short (start .pre))
 
-  here : from bytes model x ≡ axiomTests model first wide 0 ++ from bytes model (x + 1)
+  here : from B model x ≡ axiomTests model first (c .width-of .result) 0 ++ from B model (x + 1)
   here =
-      axioms-first (boardOf bytes) model x known (ordered (start .pre) x (omega arith) (c .before .bounds-of .ensures))
-      ∙ ap₂ (λ f w. axiomTests model f w 0 ++ from bytes model (x + 1)) (sym (c .before .before .before .before .search .inv .1)) (sym (c .width-of .ensures ∙ ap width (bounds-same (boardOf bytes) x _ (c .before .bounds-of .ensures))))
+      axioms-first B model x known (ordered (start .pre) x (omega arith) (c .before .bounds-of .ensures))
+      ∙ ap₂ (λ f w. axiomTests model f w 0 ++ from B model (x + 1)) (sym numbered) (sym (c .width-of .ensures ∙ ap width (bounds-same B x _ (c .before .bounds-of .ensures))))
 
-  onward : first + wide ≡ Encoding.first (boardOf bytes) (x + 1)
-  onward = omega (arith, first-more (boardOf bytes) x _ known (c .before .bounds-of .ensures), c .width-of .ensures, c .before .before .before .before .search .inv .1)
-
-  fit : length (all bytes model) < 9223372036854775808
-  fit = axioms-fit (boardOf bytes) model (recorded (start .pre .opened))
+  onward : first + c .width-of .result ≡ Encoding.first B (x + 1)
+  onward = omega (arith, first-more B x _ known (c .before .bounds-of .ensures), c .width-of .ensures, numbered)
 
 add-first : tie.Need-add-first Inv-loop μ-loop Inv-search μ-search
 add-first c = omega (arith, counts-small (c .before .before .before .pre .opened))
@@ -106,7 +104,8 @@ add-k : tie.Need-add-k Inv-loop μ-loop Inv-search μ-search
 add-k c = omega (arith, room (c .before .before .before .before))
 
 add-number : tie.Need-add-number Inv-loop μ-loop Inv-search μ-search
-add-number c = omega (arith, axiom-room _ _ _ _ _ (c .before .before .before .loop .inv .1) (c .before .before .loop-test .taken), fit (c .before .before .before .before))
+add-number c =
+    let s = c .before .before .before .before in omega (arith, axiom-room _ _ _ _ _ (c .before .before .before .loop .inv .1) (c .before .before .loop-test .taken), axioms-fit _ (model s) (recorded (start s .pre .opened)))
 
 loop-less : tie.Need-loop-less Inv-loop μ-loop Inv-search μ-search
 loop-less c = omega arith

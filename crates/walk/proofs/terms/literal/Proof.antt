@@ -9,7 +9,7 @@ use mir.Facts.{toZ-ofZ}
 use Rattle.definitions.specs.Tools.{floor, ceil}
 use Rattle.laws.specs.Whole.{whole, back, abs-law, part-law, zero-sub}
 use Rattle.walk.specs.Slots.{orderNumber}
-use Rattle.walk.proofs.Fits.{Small, small, less-small, fits}
+use Rattle.walk.proofs.Fits.{small, less-small, fits}
 use Rattle.walk.proofs.Slots.{coefficient-small, bound-small, ceil-small, floor-inside, ceil-inside, number-small, literal-rising, literal-falling}
 use Rattle.walk.proofs.terms.literal.Statement.{statement}
 use Rattle.walk.proofs.terms.literal.Tie as tie
@@ -23,7 +23,7 @@ floor-div-requires c κs =
     let s = c .before .before .before .before in
     let fa = coefficient-fits s in
     let fb = s .fits .b in
-    simp toZ-ofZ (omega (arith, bound-small (s .args .s) (s .args .b) (s .pre .0) (s .pre .1) (s .pre .2)))
+    simp toZ-ofZ (omega (arith, bound-small (s .pre)))
 
 module _ (c : tie.After-floor-div) where
   abbrev s : tie.Start
@@ -39,7 +39,7 @@ module _ (c : tie.After-floor-div) where
       simp toZ-ofZ at (c .floor-div .ensures)
 
   in-order : ((s .args .s .lower -ℤ pos 1) ≤ℤ c .floor-div .result) × (c .floor-div .result ≤ℤ s .args .s .upper)
-  in-order = floor-inside (s .args .s) (s .args .b) (s .pre .0) (s .pre .1) (s .pre .2) (c .floor-div .result) floored positive
+  in-order = floor-inside (s .pre) floored positive
 
 order-number-requires : tie.Need-order-number-requires
 order-number-requires c κs =
@@ -62,7 +62,7 @@ ceil-div-requires c κs =
     let s = c .before .before .before .before in
     let fa = coefficient-fits s in
     let fb = s .fits .b in
-    simp toZ-ofZ (omega (arith, bound-small (s .args .s) (s .args .b) (s .pre .0) (s .pre .1) (s .pre .2)))
+    simp toZ-ofZ (omega (arith, bound-small (s .pre)))
 
 module _ (c : tie.After-ceil-div) where
   abbrev s′ : tie.Start
@@ -77,17 +77,14 @@ module _ (c : tie.After-ceil-div) where
       let fb = s′ .fits .b in
       simp toZ-ofZ at (c .ceil-div .ensures)
 
-  ceiled-small : Small (c .ceil-div .result)
-  ceiled-small = ceil-small (s′ .args .s) (s′ .args .b) (s′ .pre .0) (s′ .pre .1) (s′ .pre .2) (c .ceil-div .result) ceiled
-
   in-order′ : ((s′ .args .s .lower -ℤ pos 1) ≤ℤ (c .ceil-div .result -ℤ pos 1)) × ((c .ceil-div .result -ℤ pos 1) ≤ℤ s′ .args .s .upper)
-  in-order′ = ceil-inside (s′ .args .s) (s′ .args .b) (s′ .pre .0) (s′ .pre .1) (s′ .pre .2) (c .ceil-div .result) ceiled negative
+  in-order′ = ceil-inside (s′ .pre) ceiled negative
 
   below : SFits w32 (c .ceil-div .result -ℤ pos 1)
-  below = less-small (c .ceil-div .result) (pos 1) ceiled-small (omega arith)
+  below = less-small (c .ceil-div .result) (pos 1) (ceil-small (s′ .pre) ceiled) (omega arith)
 
 sub-order-number : tie.Need-sub-order-number
-sub-order-number c = search (fits, ceiled-small c)
+sub-order-number c = let k = ceil-small (s′ c .pre) (ceiled c) in search (fits, k)
 
 order-number-requires-2 : tie.Need-order-number-requires-2
 order-number-requires-2 c κs =

@@ -11,6 +11,7 @@ use mir.Val.{SFits}
 use mir.Facts.{toZ-ofZ}
 use Rattle.definitions.specs.Result.{done}
 use Rattle.definitions.specs.Reading.{times, readLiteral}
+use Rattle.laws.specs.Limits.{numbersLimit}
 use Rattle.laws.specs.Ahead.{literalsAt}
 use Rattle.reader.specs.Said.{contextOf, saidLiteral}
 use Rattle.writing.specs.Lines.{lineNumbers, takes-few}
@@ -52,7 +53,7 @@ number-of-requires : tie.Need-number-of-requires Inv-loop μ-loop
 number-of-requires c κs =
     let s = c .before .before .before .before .before .before .before .args in
     let l = c .before .before .before .before .before .loop in
-    small (contextOf (s .known)) (s .rules .now) (l .next-place) (c .before .literal .given .0 .1 .0) (l .number) 20000000 (c .before .literal .given .0 .0) (sym (c .before .before .before .literal-at .ensures .0) ∙ ap (saidLiteral (s .rules .now)) (c .before .literal .given .1)) (c .before .before .before .before .before .before .before .pre .1) (omega (arith, l .inv .2, c .before .before .before .before .before .before .before .pre .2, c .before .before .before .before .loop-test .taken))
+    small (contextOf (s .known)) (s .rules .now) (l .next-place) (c .before .literal .given .0 .1 .0) (l .number) numbersLimit (c .before .literal .given .0 .0) (sym (c .before .before .before .literal-at .ensures .0) ∙ ap (saidLiteral (s .rules .now)) (c .before .literal .given .1)) (c .before .before .before .before .before .before .before .pre .1) (omega (arith, l .inv .2, c .before .before .before .before .before .before .before .pre .2, c .before .before .before .before .loop-test .taken))
 
 mul-t16 : tie.Need-mul-t16 Inv-loop μ-loop
 mul-t16 c =
