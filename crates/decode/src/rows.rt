@@ -41,12 +41,11 @@ fn search_run(model: &[u8], run: Run, number: usize) -> Checked
     while 0 < rest.count {
         let y = rest.y;
         let z = rest.z;
-        let behind = onward(rest);
         if !pair_holds(model, y.literal, z.literal) {
             return Checked::Fails(at);
         }
         at += 1;
-        rest = behind;
+        rest = onward(rest);
     }
     Checked::Hold(at)
 }

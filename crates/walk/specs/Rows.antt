@@ -1,9 +1,9 @@
 -- Rows: tuples one after another that differ in the last two places alone, and the literals along them. Assumes nothing.
-use mathlib.Core.Path.{_≡_, refl, ap, _∙_}
+use mathlib.Core.Path.{_≡_, refl, sym, ap, _∙_}
 use mathlib.Core.List.{List, [], _∷_, _++_, map}
 use Prim.Native.Nat.{ℕ, zero, suc, min, _+_, _-_, _*_, _≤_, _<_}
 use native.Mathlib.Omega.{arith}
-use lib.ListN.{length, getD, length-map}
+use lib.ListN.{length, getD, drop, length-map}
 use lib.IntN.{ℤ, pos, natAbs, _+ℤ_, _-ℤ_}
 use Rattle.walk.specs.declared.Slot.{Slot}
 use Rattle.walk.specs.declared.Spot.{Spot}
@@ -131,6 +131,10 @@ module _ (fixed : List ℤ) (y z : Spot) where
   unfolding rowFrom
   row-next zero h = absurd (omega arith)
   row-next (suc n) h = let e : n ≡ suc n - 1 = omega arith in ap (λ m. (fixed ++ (y .literal ∷ z .literal ∷ [])) ∷ rowFrom fixed (raised y) (lowered z) m) e
+
+pub run-first : (run : Run) → 0 < run .count → inRun run ≡ firstIn run ∷ drop 1 (inRun run)
+unfolding inRun
+run-first run h = let e = row-next (frontOf (run .front)) (run .y) (run .z) (run .count) h in e ∙ ap (λ l. firstIn run ∷ l) (sym (ap (drop 1) e))
 
 pub run-none : (run : Run) → run .count ≡ 0 → inRun run ≡ []
 unfolding inRun

@@ -11,14 +11,14 @@ use crate::tuples::literal_at;
 use crate::tuples::next;
 use crate::tuples::room;
 ghost use mathlib.Core.Path.{_≡_};
-ghost use mathlib.Core.List.{_∷_, _++_};
+ghost use mathlib.Core.List.{_++_};
 ghost use Prim.Native.Nat.{_+_, _-_, _≤_, _<_};
 ghost use lib.IntN.{natAbs};
-ghost use lib.ListN.{take};
+ghost use lib.ListN.{take, drop};
 ghost use Rattle.definitions.specs.Tools.{All};
 ghost use Rattle.walk.specs.Comparisons.{FairComparison, Walking, present, toCome};
 ghost use Rattle.walk.specs.Walks.{places, Fine};
-ghost use Rattle.walk.specs.Rows.{rowLength, rowClauses, Rest, slotAt, offsetAt, Holds, Steady, raised, lowered, frontOf, firstIn, inRun, ReadyRun, inRow, Ready};
+ghost use Rattle.walk.specs.Rows.{rowLength, rowClauses, Rest, slotAt, offsetAt, Holds, Steady, raised, lowered, frontOf, inRun, ReadyRun, inRow, Ready};
 
 // How many tuples the row has from the present one on.
 fn row_length(w: Walk) -> u32
@@ -156,7 +156,7 @@ pub fn row_at(c: Comparison, w: Walk) -> Row
 // Behind the first clause of the run.
 pub fn onward(run: Run) -> Run
     requires { ⌜ ReadyRun run × (0 < run .count) ⌝ }
-    ensures { λ r. ⌜ ReadyRun r × (r .front ≡ run .front) × (inRun run ≡ firstIn run ∷ inRun r) ⌝ }
+    ensures { λ r. ⌜ ReadyRun r × (r .front ≡ run .front) × (inRun r ≡ drop 1 (inRun run)) ⌝ }
 {
     let front = run.front;
     let y = run.y;

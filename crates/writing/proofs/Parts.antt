@@ -3,7 +3,7 @@ use mathlib.Core.Path.{_≡_, refl, sym, ap, ap₂, _∙_, subst}
 use mathlib.Core.List.{List, [], _∷_, _++_, map, flatten, map-append, append-assoc, append-nil}
 use Prim.Native.Nat.{ℕ, _+_, _-_, _≤_, _<_}
 use native.Mathlib.Omega.{arith}
-use lib.ListN.{length, set}
+use lib.ListN.{length, drop, set}
 use lib.IntN.{ℤ, pos, _+ℤ_, _-ℤ_}
 use mir.Syntax.{w32}
 use mir.Val.{toZ, ofZ}
@@ -16,7 +16,7 @@ use Rattle.walk.specs.declared.At.the-variants.{Tuple, End}
 use Rattle.walk.specs.declared.Spot.{Spot}
 use Rattle.walk.specs.declared.Front.{Front}
 use Rattle.walk.specs.declared.Run.{Run}
-use Rattle.walk.specs.Rows.{frontOf, raised, lowered, firstIn, inRun, ReadyRun, run-none, row-next}
+use Rattle.walk.specs.Rows.{frontOf, raised, lowered, inRun, ReadyRun, run-first, run-none, row-next}
 use Rattle.walk.specs.Comparisons.{toCome, none-left}
 use Rattle.walk.proofs.Runs.{raised-steady, lowered-steady}
 use Rattle.writing.specs.Signs.{plus-is, minus-is}
@@ -61,9 +61,8 @@ module _ (lead : Front) (run : Run) where
   pub run-end : run .count ≡ 0 → led lead (inRun run) ≡ []
   run-end h = ap (led lead) (run-none run h) ∙ led-none lead
 
-  pub run-more : (rest : Run) → inRun run ≡ firstIn run ∷ inRun rest
-      → led lead (inRun run) ≡ clause (stays lead (run .front) ++ (run .y .literal ∷ run .z .literal ∷ [])) ++ led lead (inRun rest)
-  run-more rest e = ap (led lead) e ∙ led-next lead (run .front) (run .y .literal ∷ run .z .literal ∷ []) (inRun rest)
+  pub run-more : 0 < run .count → led lead (inRun run) ≡ clause (stays lead (run .front) ++ (run .y .literal ∷ run .z .literal ∷ [])) ++ led lead (drop 1 (inRun run))
+  run-more h = ap (led lead) (run-first run h) ∙ led-next lead (run .front) (run .y .literal ∷ run .z .literal ∷ []) (drop 1 (inRun run))
 
 -- ---- a run whose literals move with each clause
 abbrev unit : ℤ → Spot
@@ -81,7 +80,7 @@ unit-is run ready h = ap₂ (λ y z. record { front = run .front; y = y; z = z; 
 pub units-more : (lead front : Front) (y z : ℤ) (n : ℕ) → 0 < n
     → led lead (inRun (unitRun front y z n)) ≡ clause (stays lead front ++ (y ∷ z ∷ [])) ++ led lead (inRun (unitRun front (y +ℤ pos 1) (z -ℤ pos 1) (n - 1)))
 unfolding inRun raised lowered
-units-more lead front y z n h = run-more lead (unitRun front y z n) (unitRun front (y +ℤ pos 1) (z -ℤ pos 1) (n - 1)) (row-next (frontOf front) (unit y) (unit z) n h)
+units-more lead front y z n h = ap (led lead) (row-next (frontOf front) (unit y) (unit z) n h) ∙ led-next lead front (y ∷ z ∷ []) (inRun (unitRun front (y +ℤ pos 1) (z -ℤ pos 1) (n - 1)))
 
 pub units-ready : (front : Front) (y z : ℤ) (n : ℕ) → 0 < n → ReadyRun (unitRun front y z n) → ReadyRun (unitRun front (y +ℤ pos 1) (z -ℤ pos 1) (n - 1))
 unfolding raised lowered

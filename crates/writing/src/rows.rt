@@ -69,9 +69,8 @@ fn put_stepped(lead: Front, run: Run, list: &mut [i32]) -> usize
         let front = rest.front;
         let y = rest.y;
         let z = rest.z;
-        let behind = onward(rest);
         at += put_clause(lead, front, y.literal, z.literal, &mut list[at..]);
-        rest = behind;
+        rest = onward(rest);
     }
     at
 }

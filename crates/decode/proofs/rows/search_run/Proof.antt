@@ -1,12 +1,12 @@
 -- `decode::rows::search_run` meets its contract.
 use borrow.Author.Needs.{needs}
 use borrow.Author.Tests.{not-true, not-false}
-use mathlib.Core.Path.{_≡_, sym, ap, _∙_}
+use mathlib.Core.Path.{_≡_, sym, ap, _∙_, subst}
 use mathlib.Core.Bool.{Bool, false}
 use mathlib.Core.List.{List, _∷_, [], map}
 use Prim.Native.Nat.{ℕ}
 use native.Mathlib.Omega.{arith}
-use lib.ListN.{length, length-map}
+use lib.ListN.{length, drop, length-map}
 use lib.IntN.{ℤ}
 use mir.Syntax.{w32}
 use mir.Val.{SFits}
@@ -16,7 +16,7 @@ use Rattle.laws.specs.Whole.{abs-fits}
 use Rattle.laws.specs.Lists.{append-all}
 use Rattle.laws.specs.Mentions.{InList}
 use Rattle.walk.specs.declared.Run.{Run}
-use Rattle.walk.specs.Rows.{frontOf, firstIn, inRun, ReadyRun, run-none}
+use Rattle.walk.specs.Rows.{frontOf, firstIn, inRun, ReadyRun, run-first, run-none}
 use Rattle.decode.specs.Truth.{trueTail}
 use Rattle.decode.specs.Goes.{Goes, goes-start, goes-one, goes-stop, goes-end}
 use Rattle.decode.specs.Rows.{fixed-open}
@@ -37,13 +37,10 @@ abbrev μ-loop : tie.MeasureT-loop
 loop-holds : tie.Need-loop-holds Inv-loop μ-loop
 loop-holds c = let p = c .before .pre in (goes-start _ _, p .0, p .1, p .2)
 
-onward-requires : tie.Need-onward-requires Inv-loop μ-loop
-onward-requires c κs = (c .before .before .before .before .loop .inv .1, c .before .before .if1 .taken)
-
 -- the first clause, and what is behind it
-module _ (c : tie.After-onward Inv-loop μ-loop) where
+module _ (c : tie.After-z Inv-loop μ-loop) where
   abbrev l : tie.At-loop Inv-loop μ-loop
-  l = c .before .before .before .before .before
+  l = c .before .before .before .before
 
   abbrev s : tie.Start Inv-loop μ-loop
   s = l .before .before
@@ -57,11 +54,14 @@ module _ (c : tie.After-onward Inv-loop μ-loop) where
   abbrev pair : List ℤ
   pair = run .y .literal ∷ run .z .literal ∷ []
 
-  more : tests model run ≡ trueTail model (firstIn run) ∷ tests model (c .onward .result)
-  more = ap (map (trueTail model)) (c .onward .ensures .2)
+  next : inRun run ≡ firstIn run ∷ drop 1 (inRun run)
+  next = run-first run (c .before .before .if1 .taken)
 
-  numbered : All (All (InList (length model))) (firstIn run ∷ inRun (c .onward .result))
-  numbered = rw (c .onward .ensures .2) at (l .loop .inv .3)
+  more : tests model run ≡ trueTail model (firstIn run) ∷ map (trueTail model) (drop 1 (inRun run))
+  more = ap (map (trueTail model)) next
+
+  numbered : All (All (InList (length model))) (firstIn run ∷ drop 1 (inRun run))
+  numbered = subst (All (All (InList (length model)))) next (l .loop .inv .3)
 
   y-fits : SFits w32 (run .y .literal)
   y-fits = abs-fits (omega (arith, l .loop .inv .1 .rising .near))
@@ -76,7 +76,7 @@ pair-holds-requires c κs =
 
 -- the last two literals tell of the first clause
 module _ (c : tie.After-pair-holds Inv-loop μ-loop) where
-  abbrev b : tie.After-onward Inv-loop μ-loop
+  abbrev b : tie.After-z Inv-loop μ-loop
   b = c .before .before .before
 
   told : c .pair-holds .result ≡ trueTail (model b) (firstIn (run b))
@@ -92,15 +92,18 @@ add-at c =
     let r = b (c .before) in
     omega (arith, l r .loop .inv .0 .count, ap length (more r), s r .pre .4, length-map (inRun (s r .args .run)) (trueTail (model r)))
 
+onward-requires : tie.Need-onward-requires Inv-loop μ-loop
+onward-requires c κs = let r = b (c .before) in (l r .loop .inv .1, r .before .before .if1 .taken)
+
 loop-less : tie.Need-loop-less Inv-loop μ-loop
-loop-less c = omega (arith, ap length (b (c .before) .onward .ensures .2))
+loop-less c = omega (arith, ap length (c .onward .ensures .2), ap length (next (b (c .before .before))))
 
 loop-again : tie.Need-loop-again Inv-loop μ-loop
 loop-again c =
-    let p = c .before in
+    let p = c .before .before in
     let inv = l (b p) .loop .inv in
-    let e = b p .onward .ensures in
-    (goes-one (inv .0) _ _ (more (b p)) (sym (told p) ∙ not-false _ (c .if2 .left)), e .0, rw (e .1) (inv .2), numbered (b p) .1)
+    let e = c .onward .ensures in
+    (rw (e .2) (goes-one (inv .0) _ _ (more (b p)) (sym (told p) ∙ not-false _ (c .before .if2 .left))), e .0, rw (e .1) (inv .2), rw (e .2) (numbered (b p) .1))
 
 returns-2 : tie.Need-returns-2 Inv-loop μ-loop
 returns-2 c =
@@ -114,10 +117,10 @@ search-run-spec =
     Inv-loop
     μ-loop
     loop-holds
-    onward-requires
     pair-holds-requires
     returns
     add-at
+    onward-requires
     loop-less
     loop-again
     returns-2)

@@ -1,7 +1,7 @@
 -- `walk::rows::onward` meets its contract.
 use borrow.Author.Needs.{needs}
-use mathlib.Core.Path.{refl}
-use native.Mathlib.Omega.{arith}
+use mathlib.Core.Path.{refl, sym, ap}
+use lib.ListN.{drop}
 use Rattle.walk.specs.Rows.{inRun, frontOf, row-next}
 use Rattle.walk.proofs.Runs.{steady-one, raised-steady, lowered-steady}
 use Rattle.walk.proofs.rows.onward.Statement.{statement}
@@ -28,7 +28,7 @@ returns c =
     rw (c .before .before .up .ensures, c .before .down .ensures) (
       record { rising = raised-steady (run .y) (run .count) (s .pre .1) (s .pre .0 .rising); falling = lowered-steady (run .z) (run .count) (s .pre .1) (s .pre .0 .falling) },
       refl,
-      row-next (frontOf (run .front)) (run .y) (run .z) (run .count) (s .pre .1),
+      sym (ap (drop 1) (row-next (frontOf (run .front)) (run .y) (run .z) (run .count) (s .pre .1))),
     )
 
 pub onward-spec : {M : Type 1} → statement M

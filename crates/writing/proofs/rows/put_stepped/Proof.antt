@@ -4,7 +4,7 @@ use mathlib.Core.Path.{_≡_, refl, ap}
 use mathlib.Core.List.{List, _∷_, [], _++_}
 use Prim.Native.Nat.{_+_, _≤_}
 use native.Mathlib.Omega.{arith}
-use lib.ListN.{length}
+use lib.ListN.{length, drop}
 use lib.IntN.{ℤ}
 use mir.Syntax.{w32}
 use mir.Val.{SFits}
@@ -13,7 +13,7 @@ use Rattle.laws.specs.Whole.{abs-fits}
 use Rattle.laws.specs.Written.{written, rest, rest-length}
 use Rattle.laws.specs.Filling.{Filling, begin, room-before, room, room-for, part, ended}
 use Rattle.walk.specs.declared.Run.{Run}
-use Rattle.walk.specs.Rows.{inRun, ReadyRun}
+use Rattle.walk.specs.Rows.{inRun, ReadyRun, run-first}
 use Rattle.writing.specs.Numbers.{clause, stays, led}
 use Rattle.writing.proofs.Parts.{run-end, run-more}
 use Rattle.writing.proofs.rows.put_stepped.Statement.{statement}
@@ -29,13 +29,10 @@ abbrev μ-loop : tie.MeasureT-loop
 loop-holds : tie.Need-loop-holds Inv-loop μ-loop
 loop-holds c = (begin _ _ _ refl (c .pre .1), c .pre .0)
 
-onward-requires : tie.Need-onward-requires Inv-loop μ-loop
-onward-requires c κs = (c .before .before .before .before .loop .inv .1, c .before .before .if1 .taken)
-
 -- the first clause, and what is behind it
-module _ (c : tie.After-onward Inv-loop μ-loop) where
+module _ (c : tie.After-z Inv-loop μ-loop) where
   abbrev l : tie.At-loop Inv-loop μ-loop
-  l = c .before .before .before .before .before
+  l = c .before .before .before .before
 
   abbrev run : Run
   run = l .loop .rest
@@ -43,11 +40,11 @@ module _ (c : tie.After-onward Inv-loop μ-loop) where
   abbrev first : List ℤ
   first = clause (stays (l .before .args .lead) (run .front) ++ (run .y .literal ∷ run .z .literal ∷ []))
 
-  more : led (l .before .args .lead) (inRun run) ≡ first ++ led (l .before .args .lead) (inRun (c .onward .result))
-  more = run-more (l .before .args .lead) run (c .onward .result) (c .onward .ensures .2)
+  more : led (l .before .args .lead) (inRun run) ≡ first ++ led (l .before .args .lead) (drop 1 (inRun run))
+  more = run-more (l .before .args .lead) run (c .before .before .if1 .taken)
 
   fits : l .loop .at + length first ≤ length (l .loop .list)
-  fits = room-for (l .loop .inv .0) first (led (l .before .args .lead) (inRun (c .onward .result))) more
+  fits = room-for (l .loop .inv .0) first (led (l .before .args .lead) (drop 1 (inRun run))) more
 
   y-fits : SFits w32 (run .y .literal)
   y-fits = abs-fits (omega (arith, l .loop .inv .1 .rising .near))
@@ -74,7 +71,7 @@ put-clause-requires c κs =
 
 -- the first clause is written
 module _ (c : tie.After-put-clause Inv-loop μ-loop) where
-  abbrev b : tie.After-onward Inv-loop μ-loop
+  abbrev b : tie.After-z Inv-loop μ-loop
   b = c .before .before .before .before
 
   wrote : (c .put-clause .result ≡ length (first b)) × (c .put-clause .last .1 .1 .1 .1 .0 ≡ written (first b) (rest (l b .loop .list) (l b .loop .at)))
@@ -86,13 +83,19 @@ add-at c =
     let here = l (b p) .loop in
     let h : here .at + p .put-clause .result ≤ length (l (b p) .before .args .list .now) = omega (arith, wrote p .0, here .inv .0 .long, fits (b p)) in search (needs, l (b p) .before .good .1 .1 .0)
 
+onward-requires : tie.Need-onward-requires Inv-loop μ-loop
+onward-requires c κs = let r = b (c .before) in (l r .loop .inv .1, r .before .before .if1 .taken)
+
 loop-less : tie.Need-loop-less Inv-loop μ-loop
-loop-less c = omega (arith, ap length (b (c .before) .onward .ensures .2))
+loop-less c =
+    let r = b (c .before .before) in
+    omega (arith, ap length (c .onward .ensures .2), ap length (run-first (run r) (r .before .before .if1 .taken)))
 
 loop-again : tie.Need-loop-again Inv-loop μ-loop
 loop-again c =
-    let p = c .before in
-    (part (l (b p) .loop .inv .0) _ _ (more (b p)) _ _ (wrote p .0) (wrote p .1), b p .onward .ensures .0)
+    let p = c .before .before in
+    let e = c .onward .ensures in
+    (rw (e .2) (part (l (b p) .loop .inv .0) _ _ (more (b p)) _ _ (wrote p .0) (wrote p .1)), e .0)
 
 same-length : tie.Need-same-length Inv-loop μ-loop
 same-length c = c .before .before .loop .inv .0 .long
@@ -109,13 +112,13 @@ put-stepped-spec =
     Inv-loop
     μ-loop
     loop-holds
-    onward-requires
     mul-put-clause
     sub-put-clause
     part-put-clause-start
     part-put-clause-end
     put-clause-requires
     add-at
+    onward-requires
     loop-less
     loop-again
     same-length
