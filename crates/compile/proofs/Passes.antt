@@ -1,17 +1,16 @@
 -- The passes over an accepted record's variables and over the pieces of its rules. Assumes nothing.
-use mathlib.Core.Path.{_≡_, sym, ap, ap₂, _∙_}
+use mathlib.Core.Path.{_≡_, refl, sym, ap, ap₂, _∙_}
 use mathlib.Core.List.{List, [], _∷_, _++_}
 use Prim.Native.Nat.{ℕ, _+_, _≤_, _<_}
 use native.Mathlib.Omega.{arith}
 use lib.ListN.{length}
-use lib.IntN.{ℤ, pos}
+use lib.IntN.{ℤ}
 use Rattle.definitions.specs.Tools.{neg}
 use Rattle.definitions.specs.Board.{Board, Clause, boundsOf}
 use Rattle.definitions.specs.Board as board
 use Rattle.definitions.specs.Reading.{Context}
 use Rattle.definitions.specs.Encoding.{selector, minus, axiomsOf, width, first, number, literalNumber}
 use Rattle.laws.specs.Limits.{selectorsLimit, numbersLimit}
-use Rattle.laws.specs.Whole.{whole, neg-law}
 use Rattle.laws.specs.Admitted.{Admitted, GoodComparison}
 use Rattle.laws.specs.Axioms as laws
 use Rattle.laws.specs.Axioms.{axioms-more}
@@ -32,8 +31,9 @@ use Rattle.slots.specs.declared.Bounds.{Bounds}
 use Rattle.slots.specs.Terms.{TermsStand}
 use Rattle.slots.specs.Variables.{boundsRead, BoundsOf, bounds-same}
 use Rattle.walk.specs.declared.Comparison.{Comparison}
+use Rattle.walk.specs.declared.Front.the-variants.{Nothing, Literal}
 use Rattle.walk.specs.Comparisons.{Shows}
-use Rattle.writing.specs.Numbers.{numbersOf, numbers-append, underLead, lead-some, lead-none, under-is}
+use Rattle.writing.specs.Numbers.{numbersOf, numbers-append, underLead, under-is}
 use Rattle.writing.specs.Axioms.{axiomNumbers, axioms-are}
 use Rattle.writing.specs.Lines.{lineNumbers, line-is}
 use Rattle.compile.specs.Lists.{axiomsFrom, pieceNumbers, piecesNumbers, pieces-more, pieces-end}
@@ -58,15 +58,13 @@ module _ (B : Board) (n : ℕ) (e : n ≡ first B (length (B .bounds))) where
   unfolding pieceNumbers pieceClauses
   line-numbers j C = ap (λ k. lineNumbers (k + j) C) e ∙ line-is B j C
 
-  pub led-numbers : (j : ℕ) (q : board.Comparison) (c : Comparison) → Shows B q c → underLead (neg (n + j)) c ≡ pieceNumbers B (under (minus (selector j) ∷ []) q)
+  pub led-numbers : (j : ℕ) (q : board.Comparison) (c : Comparison) → Shows B q c → underLead (Literal (neg (n + j))) c ≡ pieceNumbers B (under (minus (selector j) ∷ []) q)
   unfolding pieceNumbers pieceClauses literalNumber number first
-  led-numbers j q c h =
-      let s = lead-some (neg (n + j)) (omega (whole, e, neg-law (pos (n + j)))) in
-      under-is B q c (neg (n + j)) (minus (selector j) ∷ []) h (ap (λ k. neg (k + j) ∷ []) (sym e) ∙ sym s)
+  led-numbers j q c h = under-is B q c (Literal (neg (n + j))) (minus (selector j) ∷ []) h (ap (λ k. neg (k + j) ∷ []) (sym e))
 
-pub lone-numbers : (B : Board) (q : board.Comparison) (c : Comparison) → Shows B q c → underLead (pos 0) c ≡ pieceNumbers B (under [] q)
+pub lone-numbers : (B : Board) (q : board.Comparison) (c : Comparison) → Shows B q c → underLead Nothing c ≡ pieceNumbers B (under [] q)
 unfolding pieceNumbers pieceClauses
-lone-numbers B q c h = under-is B q c (pos 0) [] h (sym (lead-none (pos 0) (omega whole)))
+lone-numbers B q c h = under-is B q c Nothing [] h refl
 
 -- ---- what is known of a piece's bytes
 module _ (s : List ℕ) (known : reader.Context) (rules : List ℕ) (k : Known s known rules) where

@@ -18,6 +18,7 @@ use rules::Stepped;
 use rules::start;
 use rules::step;
 use slots::comparisons::ready;
+use walk::Front;
 use writing::comparisons::put_comparison;
 use writing::lines::put_line;
 
@@ -49,7 +50,7 @@ fn put_piece(
         ),
         Piece::Lone { place, constant } => put_comparison(
             ready(bytes, firsts, rules, place, constant),
-            0,
+            Front::Nothing,
             list,
         ),
         Piece::Led {
@@ -58,9 +59,10 @@ fn put_piece(
             constant,
         } => {
             let number = selectors + selector as u32;
+            let negated = -(number as i32);
             put_comparison(
                 ready(bytes, firsts, rules, place, constant),
-                -(number as i32),
+                Front::Literal(negated),
                 list,
             )
         }

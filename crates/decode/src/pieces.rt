@@ -1,6 +1,5 @@
 // The clauses of a piece of the rules: each is the piece's lead and, behind it, the literals of a tuple.
 use crate::lines::line_holds;
-use crate::truth::holds;
 use judge::literals::compares;
 use lent::is_on;
 use measure::count::tuples_of;
@@ -11,10 +10,8 @@ use slots::variables::first_in;
 use walk::At;
 use walk::Comparison;
 use walk::Slot;
-use walk::Walk;
 use walk::tuples::first_tuple;
 use walk::tuples::least;
-use walk::tuples::tuple_literal;
 ghost use mathlib.Core.Path.{_≡_};
 ghost use Prim.Native.Nat.{_+_, _<_};
 ghost use lib.ListN.{length};
@@ -23,12 +20,12 @@ ghost use lib.Signed.{_≤ℤ_};
 ghost use Rattle.definitions.specs.Tools.{All};
 ghost use Rattle.laws.specs.Boards.{Opens, boardOf};
 ghost use Rattle.laws.specs.Reread.{comparisonAt, contextOf};
-ghost use Rattle.laws.specs.Mentions.{InList, Sound};
+ghost use Rattle.laws.specs.Mentions.{Sound};
 ghost use Rattle.rules.specs.Cursors.{saidPiece, Held, Stands};
-ghost use Rattle.walk.specs.Comparisons.{FairComparison, Walking, overLeast, present, toCome};
+ghost use Rattle.walk.specs.Comparisons.{FairComparison, Walking, overLeast, toCome};
 ghost use Rattle.slots.specs.Variables.{FirstsOf};
 ghost use Rattle.decode.specs.Given.{Given};
-ghost use Rattle.decode.specs.Truth.{trueClause, trueTail};
+ghost use Rattle.decode.specs.Truth.{trueClause};
 ghost use Rattle.decode.specs.Sums.{Told, ValuesIn, Shown};
 ghost use Rattle.decode.specs.Tails.{leadOf, passedBy, walkedBy, Tails, Single, TailsOf};
 
@@ -174,19 +171,4 @@ pub fn walked(held: bool, tails: Comparison) -> At
         return At::End;
     }
     first_tuple(tails)
-}
-
-// Whether some literal of the present tuple holds.
-pub fn tuple_holds(model: &[u8], tails: Comparison, tuple: Walk) -> bool
-    requires { ⌜ FairComparison tails × Walking tails (At.Tuple tuple) × All (InList (length (now model))) (present tails tuple) × (length (now model) < 2147483648) ⌝ }
-    ensures { λ r. ⌜ r ≡ trueTail (now (model .entry)) (present tails tuple) ⌝ }
-{
-    let mut i: usize = 0;
-    while i < tails.n {
-        if holds(model, tuple_literal(tails, tuple, i)) {
-            return true;
-        }
-        i += 1;
-    }
-    false
 }

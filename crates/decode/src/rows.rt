@@ -1,25 +1,23 @@
 // A row of a comparison's clauses, searched for the first that does not hold; they are counted on from `number`.
 use crate::Checked;
-use crate::pieces::tuple_holds;
 use crate::truth::holds;
 use walk::At;
 use walk::Comparison;
-use walk::Spot;
+use walk::Front;
+use walk::Row;
+use walk::Run;
 use walk::Walk;
-use walk::rows::down;
-use walk::rows::row_length;
-use walk::rows::spot_at;
-use walk::rows::up;
-use walk::tuples::tuple_literal;
+use walk::rows::onward;
+use walk::rows::row_at;
 ghost use mathlib.Core.Path.{_≡_};
 ghost use mathlib.Core.List.{_∷_, [], map};
-ghost use Prim.Native.Nat.{_+_, _-_, _≤_, _<_};
-ghost use lib.ListN.{length, getD};
-ghost use lib.IntN.{pos, natAbs};
+ghost use mathlib.Core.Bool.{false};
+ghost use Prim.Native.Nat.{_+_, _<_};
+ghost use lib.ListN.{length};
 ghost use Rattle.definitions.specs.Tools.{All};
 ghost use Rattle.laws.specs.Mentions.{InList};
-ghost use Rattle.walk.specs.Comparisons.{FairComparison, Walking, present};
-ghost use Rattle.walk.specs.Rows.{Steady, frontOf, rowFrom, rowClauses};
+ghost use Rattle.walk.specs.Comparisons.{FairComparison, Walking};
+ghost use Rattle.walk.specs.Rows.{frontOf, inRun, ReadyRun, rowClauses};
 ghost use Rattle.decode.specs.Goes.{Sought};
 ghost use Rattle.decode.specs.Truth.{trueTail};
 
@@ -33,55 +31,55 @@ fn pair_holds(model: &[u8], y: i32, z: i32) -> bool
     holds(model, z)
 }
 
-// So many clauses of two literals, which are stepped.
-fn search_pairs(model: &[u8], y: Spot, z: Spot, count: u32, number: usize) -> Checked
-    requires { ⌜ Steady y × Steady z × (natAbs (y .literal) + count ≤ 40000000) × (natAbs (z .literal) + count ≤ 40000000) × All (All (InList (length (now model)))) (rowFrom [] y z count) × (length (now model) < 2147483648) × (number + count < 9223372036854775808) ⌝ }
-    ensures { λ r. ⌜ Sought number (map (trueTail (now (model .entry))) (rowFrom [] y z count)) r ⌝ }
+// The clauses of a run whose front does not hold: the last two literals of each decide.
+fn search_run(model: &[u8], run: Run, number: usize) -> Checked
+    requires { ⌜ ReadyRun run × (trueTail (now model) (frontOf (run .front)) ≡ false) × All (All (InList (length (now model)))) (inRun run) × (length (now model) < 2147483648) × (number + length (inRun run) < 9223372036854775808) ⌝ }
+    ensures { λ r. ⌜ Sought number (map (trueTail (now (model .entry))) (inRun run)) r ⌝ }
 {
     let mut at = number;
-    let mut left = count;
-    let mut p = y;
-    let mut q = z;
-    while 0 < left {
-        if !pair_holds(model, p.literal, q.literal) {
+    let mut rest = run;
+    while 0 < rest.count {
+        let y = rest.y;
+        let z = rest.z;
+        if !pair_holds(model, y.literal, z.literal) {
             return Checked::Fails(at);
         }
         at += 1;
-        p = up(p);
-        q = down(q);
-        left -= 1;
+        rest = onward(rest);
     }
     Checked::Hold(at)
 }
 
-// Whether the literal of the first of three terms holds; of two there is none.
-fn front_holds(model: &[u8], tails: Comparison, tuple: Walk) -> bool
-    requires { ⌜ FairComparison tails × Walking tails (At.Tuple tuple) × All (InList (length (now model))) (frontOf (tails .n - 2) (getD (present tails tuple) 0 (pos 0))) × (length (now model) < 2147483648) ⌝ }
-    ensures { λ r. ⌜ r ≡ trueTail (now (model .entry)) (frontOf (tails .n - 2) (getD (present tails tuple) 0 (pos 0))) ⌝ }
+fn front_holds(model: &[u8], front: Front) -> bool
+    requires { ⌜ All (InList (length (now model))) (frontOf front) × (length (now model) < 2147483648) ⌝ }
+    ensures { λ r. ⌜ r ≡ trueTail (now (model .entry)) (frontOf front) ⌝ }
 {
-    if tails.n < 3 {
+    let Front::Literal(literal) = front else {
         return false;
-    }
-    holds(model, tuple_literal(tails, tuple, 0))
+    };
+    holds(model, literal)
 }
 
-// The clauses of the present tuple's row. The literal of the first of three terms stays along it: where it holds, so do all.
+// The clauses of the present tuple's row. A front stays along it: where it holds, so do all.
 pub fn search_row(model: &[u8], tails: Comparison, tuple: Walk, number: usize) -> Checked
     requires { ⌜ FairComparison tails × Walking tails (At.Tuple tuple) × All (All (InList (length (now model)))) (rowClauses tails tuple) × (length (now model) < 2147483648) × (number + length (rowClauses tails tuple) < 9223372036854775808) ⌝ }
     ensures { λ r. ⌜ Sought number (map (trueTail (now (model .entry))) (rowClauses tails tuple)) r ⌝ }
 {
-    let n = tails.n;
-    if n < 2 {
-        if tuple_holds(model, tails, tuple) {
-            return Checked::Hold(number + 1);
+    match row_at(tails, tuple) {
+        Row::One(front) => {
+            if front_holds(model, front) {
+                Checked::Hold(number + 1)
+            } else {
+                Checked::Fails(number)
+            }
         }
-        return Checked::Fails(number);
+        Row::Many(run) => {
+            let front = run.front;
+            if front_holds(model, front) {
+                Checked::Hold(number + run.count as usize)
+            } else {
+                search_run(model, run, number)
+            }
+        }
     }
-    let count = row_length(tuple);
-    let y = spot_at(tails, tuple, n - 2);
-    let z = spot_at(tails, tuple, n - 1);
-    if front_holds(model, tails, tuple) {
-        return Checked::Hold(number + count as usize);
-    }
-    search_pairs(model, y, z, count, number)
 }

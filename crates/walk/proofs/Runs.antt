@@ -5,7 +5,7 @@ use mathlib.Core.List.{List, [], _∷_, _++_, map, map-map, map-append}
 use Prim.Native.Nat.{ℕ, zero, suc, min, _+_, _-_, _≤_, _<_}
 use native.Mathlib.Omega.{arith}
 use native.Mathlib.Decide.{decLe}
-use lib.ListN.{length, getD}
+use lib.ListN.{length, getD, take}
 use lib.IntN.{ℤ, pos, natAbs, _+ℤ_, _-ℤ_}
 use lib.Signed.{_≤ℤ_, _<ℤ_}
 use Rattle.definitions.specs.Tools.{All, floor, ceil}
@@ -22,7 +22,7 @@ use Rattle.walk.specs.declared.At.the-variants.{Tuple, End}
 use Rattle.walk.specs.Slots.{FairSlot, slotBounds, orderNumber, slotLiteral}
 use Rattle.walk.specs.Walks.{placesOf, moved, blank, seen, tuplesLeft, Fine, Over}
 use Rattle.walk.specs.Comparisons.{FairComparison, Walking, paddedRanges, placed, literalsAt, present, toCome, present-length, walking-fine}
-use Rattle.walk.specs.Rows.{along, run, rowLength, rowOf, rowClauses, After, slotAt, offsetAt, Holds, Steady, raised, lowered, rowFrom, frontOf}
+use Rattle.walk.specs.Rows.{along, run, rowLength, rowOf, rowClauses, After, slotAt, offsetAt, Holds, Steady, raised, lowered, rowFrom}
 use Rattle.walk.proofs.Moves.{move-second}
 use Rattle.walk.proofs.Slots.{floor-inside, ceil-inside, number-small, literal-rising, literal-falling}
 use Rattle.walk.proofs.Padding.{no-place, slot-fair, range-none, padded-length, low-is, bound-inside, literal-read}
@@ -92,12 +92,16 @@ behind c w o i e r n = (
 
 -- ---- literals
 -- two or three of them
-parts : (l : List ℤ) (n : ℕ) → length l ≡ n → 2 ≤ n → n ≤ 3 → l ≡ frontOf (n - 2) (getD l 0 (pos 0)) ++ (getD l (n - 2) (pos 0) ∷ getD l (n - 1) (pos 0) ∷ [])
+parts : (l : List ℤ) (n : ℕ) → length l ≡ n → 2 ≤ n → n ≤ 3 → l ≡ take (n - 2) l ++ (getD l (n - 2) (pos 0) ∷ getD l (n - 1) (pos 0) ∷ [])
 parts [] n e h k = absurd (omega arith)
 parts (x ∷ []) n e h k = absurd (omega arith)
 parts (x ∷ y ∷ []) n e h k = let q : n ≡ 2 = omega arith in rw q refl
 parts (x ∷ y ∷ z ∷ []) n e h k = let q : n ≡ 3 = omega arith in rw q refl
 parts (x ∷ y ∷ z ∷ v ∷ l) n e h k = absurd (omega arith)
+
+pub first-taken : (l : List ℤ) (n : ℕ) → n ≡ 1 → 0 < length l → take n l ≡ getD l 0 (pos 0) ∷ []
+first-taken [] n e h = absurd (omega arith)
+first-taken (x ∷ l) n e h = rw e refl
 
 module _ (c : Comparison) (f : FairComparison c) (two : 2 ≤ c .n) where
   -- the slot of the j-th term from the end
@@ -122,8 +126,8 @@ module _ (c : Comparison) (f : FairComparison c) (two : 2 ≤ c .n) where
           subst (Within (slotAt c i)) e
           (bound-inside c f w o i h (bound (slotAt c i) (offsetAt c w i)) (ap (λ z. z +ℤ pos (offsetAt c w i)) (sym (low-is c f w o i h))) .1)
 
-    abbrev fixed : List ℤ
-    fixed = frontOf (c .n - 2) (getD (present c w) 0 (pos 0))
+    abbrev pub fixed : List ℤ
+    fixed = take (c .n - 2) (present c w)
 
     -- the present tuple's literals
     present-is : (y z : Spot) → Holds (slot 2) (w .b .k) y → Holds (slot 1) (w .c .k) z → present c w ≡ fixed ++ (y .literal ∷ z .literal ∷ [])
@@ -147,7 +151,9 @@ module _ (c : Comparison) (f : FairComparison c) (two : 2 ≤ c .n) where
           let q : 0 + 3 - c .n ≡ 0 = omega (arith, f .few) in
           let at : (v : Walk) → Walking c (Tuple v) → getD (present c v) 0 (pos 0) ≡ slotLiteral (slotAt c 0) (v .a .lo +ℤ pos (v .a .k)) =
           λ v p. literal-read c f v p 0 (omega (arith, two)) ∙ ap (λ j. let b = getD (placesOf v) j no-place in slotLiteral (slotAt c 0) (b .lo +ℤ pos (b .k))) q in
-          ap (frontOf (c .n - 2)) (at (along w i) (walking-along w o i h) ∙ sym (at w o))
+          let one : (v : Walk) → Walking c (Tuple v) → take (c .n - 2) (present c v) ≡ slotLiteral (slotAt c 0) (v .a .lo +ℤ pos (v .a .k)) ∷ [] =
+          λ v p. first-taken (present c v) (c .n - 2) (omega (arith, f .few)) (omega (arith, present-length c v f)) ∙ ap (λ z. z ∷ []) (at v p) in
+          one (along w i) (walking-along w o i h) ∙ sym (one w o)
       | no k ↦ let q : c .n - 2 ≡ 0 = omega arith in rw q refl
     ]
 
@@ -193,17 +199,21 @@ row-single c f w o h =
     ap (λ n. map (present c) (run w 0 (suc n))) m ∙ ap (λ v. present c v ∷ []) (along-none w)
 
 -- ---- what the code computes with
-pub raised-steady : (p : Spot) → Steady p → Steady (raised p) × (natAbs (raised p .literal) ≤ natAbs (p .literal) + 1)
-raised-steady p h = elim (decLe 1 (p .r)) [
-  | yes l ↦ rw (raise-on p l) (record { short = omega (arith, h .short); few = h .few }, omega arith)
-  | no l ↦ rw (raise-at p (omega arith)) (record { short = omega (arith, h .short); few = h .few }, omega (arith, abs-add (p .literal) (pos 1)))
-]
+module _ (p : Spot) (n : ℕ) (some : 0 < n) (h : Steady p n) where
+  pub steady-one : Steady p 1
+  steady-one = record { short = h .short; few = h .few; near = omega (arith, h .near) }
 
-pub lowered-steady : (p : Spot) → Steady p → Steady (lowered p) × (natAbs (lowered p .literal) ≤ natAbs (p .literal) + 1)
-lowered-steady p h = elim (decLe (p .r + 2) (p .d)) [
-  | yes l ↦ rw (lower-on p (omega arith)) (record { short = omega arith; few = h .few }, omega arith)
-  | no l ↦ rw (lower-at p (omega arith)) (record { short = omega (arith, h .short); few = h .few }, omega (arith, abs-sub (p .literal) (pos 1)))
-]
+  pub raised-steady : Steady (raised p) (n - 1)
+  raised-steady = elim (decLe 1 (p .r)) [
+    | yes l ↦ rw (raise-on p l) (record { short = omega (arith, h .short); few = h .few; near = omega (arith, h .near) })
+    | no l ↦ rw (raise-at p (omega arith)) (record { short = omega (arith, h .short); few = h .few; near = omega (arith, h .near, abs-add (p .literal) (pos 1)) })
+  ]
+
+  pub lowered-steady : Steady (lowered p) (n - 1)
+  lowered-steady = elim (decLe (p .r + 2) (p .d)) [
+    | yes l ↦ rw (lower-on p (omega arith)) (record { short = omega arith; few = h .few; near = omega (arith, h .near) })
+    | no l ↦ rw (lower-at p (omega arith)) (record { short = omega (arith, h .short); few = h .few; near = omega (arith, h .near, abs-sub (p .literal) (pos 1)) })
+  ]
 
 literal-near : (s : Slot) → FairSlot s → (b : ℤ) → slotBounds s .lo ≤ℤ b → b ≤ℤ slotBounds s .hi → natAbs (slotLiteral s b) ≤ numbersLimit
 literal-near s f b low high = ⊎-elim (λ g.
@@ -216,10 +226,10 @@ literal-near s f b low high = ⊎-elim (λ g.
 
 -- a spot at the present tuple is ready to go along its row
 pub spot-ready : (c : Comparison) (f : FairComparison c) → 2 ≤ c .n → (w : Walk) → Walking c (Tuple w) → (i : ℕ) → i < c .n → (p : Spot) → Holds (slotAt c i) (offsetAt c w i) p
-    → Steady p × (natAbs (p .literal) + rowLength w ≤ 40000000)
+    → Steady p (rowLength w)
 spot-ready c f two w o i h p e =
     let s = slotAt c i in
     let g = slot-fair c f i h in
     let near = literal-near s g (bound s (offsetAt c w i)) (omega (whole, add-law (slotBounds s .lo) (pos (offsetAt c w i)))) (top c f two w o h refl) in
     let d = walking-fine c w o in
-    (record { short = e .rest .short; few = omega (arith, e .size, g .few) }, omega (arith, ap natAbs (e .literal), near, d .1 .0 .narrow))
+    record { short = e .rest .short; few = omega (arith, e .size, g .few); near = omega (arith, ap natAbs (e .literal), near, d .1 .0 .narrow) }

@@ -1,12 +1,17 @@
 -- Rows: tuples one after another that differ in the last two places alone, and the literals along them. Assumes nothing.
-use mathlib.Core.Path.{_≡_, refl, ap, _∙_}
+use mathlib.Core.Path.{_≡_, refl, sym, ap, _∙_}
 use mathlib.Core.List.{List, [], _∷_, _++_, map}
 use Prim.Native.Nat.{ℕ, zero, suc, min, _+_, _-_, _*_, _≤_, _<_}
 use native.Mathlib.Omega.{arith}
-use lib.ListN.{length, getD, length-map}
+use lib.ListN.{length, getD, drop, length-map}
 use lib.IntN.{ℤ, pos, natAbs, _+ℤ_, _-ℤ_}
 use Rattle.walk.specs.declared.Slot.{Slot}
 use Rattle.walk.specs.declared.Spot.{Spot}
+use Rattle.walk.specs.declared.Front.{Front}
+use Rattle.walk.specs.declared.Front.the-variants.{Nothing, Literal}
+use Rattle.walk.specs.declared.Run.{Run}
+use Rattle.walk.specs.declared.Row.{Row}
+use Rattle.walk.specs.declared.Row.the-variants.{One, Many}
 use Rattle.walk.specs.declared.Comparison.{Comparison}
 use Rattle.walk.specs.declared.Walk.{Walk}
 use Rattle.walk.specs.declared.At.{At}
@@ -60,10 +65,11 @@ pub record Holds (s : Slot) (k : ℕ) (p : Spot) : Type 0 where
   pub rest : Rest (p .d) k (p .r)
   pub literal : p .literal ≡ slotLiteral s (slotBounds s .lo +ℤ pos k)
 
--- what the code computes with
-pub record Steady (p : Spot) : Type 0 where
+-- what the code computes with: it can be stepped n times
+pub record Steady (p : Spot) (n : ℕ) : Type 0 where
   pub short : p .r < p .d
   pub few : p .d ≤ 64
+  pub near : natAbs (p .literal) + n ≤ 40000000
 
 -- at the next offset, and at the one before
 abbrev pub raisedBy : Spot → ℕ → Spot
@@ -85,18 +91,30 @@ unfoldable pub rowFrom : List ℤ → Spot → Spot → ℕ → List (List ℤ)
 rowFrom fixed y z zero = []
 rowFrom fixed y z (suc n) = (fixed ++ (y .literal ∷ z .literal ∷ [])) ∷ rowFrom fixed (raised y) (lowered z) n
 
--- the literal of the first of three terms; of two there is none
-abbrev pub frontOf : ℕ → ℤ → List ℤ
-frontOf zero l = []
-frontOf (suc m) l = l ∷ []
+-- a literal in front of others, or none
+abbrev pub frontOf : Front → List ℤ
+frontOf Nothing = []
+frontOf (Literal l) = l ∷ []
 
-pub front-some : (m : ℕ) (l : ℤ) → 0 < m → frontOf m l ≡ l ∷ []
-front-some zero l h = absurd (omega arith)
-front-some (suc m) l h = refl
+-- the clauses of a run, and the first of them
+abbrev pub firstIn : Run → List ℤ
+firstIn run = frontOf (run .front) ++ (run .y .literal ∷ run .z .literal ∷ [])
 
-pub front-none : (m : ℕ) (l : ℤ) → m ≡ 0 → frontOf m l ≡ []
-front-none zero l h = refl
-front-none (suc m) l h = absurd (omega arith)
+unfoldable pub inRun : Run → List (List ℤ)
+inRun run = rowFrom (frontOf (run .front)) (run .y) (run .z) (run .count)
+
+pub record ReadyRun (run : Run) : Type 0 where
+  pub rising : Steady (run .y) (run .count)
+  pub falling : Steady (run .z) (run .count)
+
+-- the clauses of a row
+abbrev pub inRow : Row → List (List ℤ)
+inRow (One front) = frontOf front ∷ []
+inRow (Many run) = inRun run
+
+abbrev pub Ready : Row → Type 0
+Ready (One front) = Unit {0}
+Ready (Many run) = ReadyRun run
 
 pub row-count : (fixed : List ℤ) (y z : Spot) (n : ℕ) → length (rowFrom fixed y z n) ≡ n
 unfolding rowFrom
@@ -113,6 +131,14 @@ module _ (fixed : List ℤ) (y z : Spot) where
   unfolding rowFrom
   row-next zero h = absurd (omega arith)
   row-next (suc n) h = let e : n ≡ suc n - 1 = omega arith in ap (λ m. (fixed ++ (y .literal ∷ z .literal ∷ [])) ∷ rowFrom fixed (raised y) (lowered z) m) e
+
+pub run-first : (run : Run) → 0 < run .count → inRun run ≡ firstIn run ∷ drop 1 (inRun run)
+unfolding inRun
+run-first run h = let e = row-next (frontOf (run .front)) (run .y) (run .z) (run .count) h in e ∙ ap (λ l. firstIn run ∷ l) (sym (ap (drop 1) e))
+
+pub run-none : (run : Run) → run .count ≡ 0 → inRun run ≡ []
+unfolding inRun
+run-none run h = row-none (frontOf (run .front)) (run .y) (run .z) (run .count) h
 
 -- ---- what a row shows
 run-length : (w : Walk) (i n : ℕ) → length (run w i n) ≡ n

@@ -43,6 +43,26 @@ pub struct Spot {
     pub literal: i32,
 }
 
+// A literal in front of others, or none.
+pub enum Front {
+    Nothing,
+    Literal(i32),
+}
+
+// Clauses that differ in the literals of the last two terms alone: so many, from these two literals on.
+pub struct Run {
+    pub front: Front,
+    pub y: Spot,
+    pub z: Spot,
+    pub count: u32,
+}
+
+// The clauses of a row: one clause of one literal or none where there are fewer than two terms, else a run.
+pub enum Row {
+    One(Front),
+    Many(Run),
+}
+
 // Where a walk stands: at a tuple, or behind the last.
 pub enum At {
     Tuple(Walk),

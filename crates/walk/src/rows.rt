@@ -2,6 +2,9 @@
 // place but one rises, that of the last falls, each by 1 after as many tuples as its coefficient says.
 use crate::At;
 use crate::Comparison;
+use crate::Front;
+use crate::Row;
+use crate::Run;
 use crate::Spot;
 use crate::Walk;
 use crate::tuples::next;
@@ -11,13 +14,14 @@ ghost use mathlib.Core.Path.{_≡_};
 ghost use mathlib.Core.List.{_++_};
 ghost use Prim.Native.Nat.{_+_, _-_, _≤_, _<_};
 ghost use lib.IntN.{natAbs};
+ghost use lib.ListN.{take, drop};
 ghost use Rattle.definitions.specs.Tools.{All};
-ghost use Rattle.walk.specs.Comparisons.{FairComparison, Walking, toCome};
+ghost use Rattle.walk.specs.Comparisons.{FairComparison, Walking, present, toCome};
 ghost use Rattle.walk.specs.Walks.{placesOf, Fine};
-ghost use Rattle.walk.specs.Rows.{rowLength, rowClauses, Rest, slotAt, offsetAt, Holds, Steady, raised, lowered};
+ghost use Rattle.walk.specs.Rows.{rowLength, rowClauses, Rest, slotAt, offsetAt, Holds, Steady, raised, lowered, frontOf, inRun, ReadyRun, inRow, Ready};
 
 // How many tuples the row has from the present one on.
-pub fn row_length(w: Walk) -> u32
+fn row_length(w: Walk) -> u32
     requires { ⌜ All Fine (placesOf w) ⌝ }
     ensures { λ r. ⌜ r ≡ rowLength w ⌝ }
 {
@@ -60,7 +64,7 @@ fn magnitude(a: i32) -> u32
 }
 
 // The literal of term i at the present tuple, ready to go along the row.
-pub fn spot_at(c: Comparison, w: Walk, i: usize) -> Spot
+fn spot_at(c: Comparison, w: Walk, i: usize) -> Spot
     requires { ⌜ FairComparison c × Walking c (At.Tuple w) × (i < c .n) ⌝ }
     ensures { λ r. ⌜ Holds (slotAt c i) (offsetAt c w i) r ⌝ }
 {
@@ -80,8 +84,8 @@ pub fn spot_at(c: Comparison, w: Walk, i: usize) -> Spot
 }
 
 // At the next offset.
-pub fn up(p: Spot) -> Spot
-    requires { ⌜ Steady p × (natAbs (p .literal) ≤ 40000000) ⌝ }
+fn up(p: Spot) -> Spot
+    requires { ⌜ Steady p 1 ⌝ }
     ensures { λ r. ⌜ r ≡ raised p ⌝ }
 {
     let d = p.d;
@@ -101,8 +105,8 @@ pub fn up(p: Spot) -> Spot
 }
 
 // At the offset before.
-pub fn down(p: Spot) -> Spot
-    requires { ⌜ Steady p × (natAbs (p .literal) ≤ 40000000) ⌝ }
+fn down(p: Spot) -> Spot
+    requires { ⌜ Steady p 1 ⌝ }
     ensures { λ r. ⌜ r ≡ lowered p ⌝ }
 {
     let d = p.d;
@@ -118,5 +122,49 @@ pub fn down(p: Spot) -> Spot
         d: d,
         r: 0,
         literal: p.literal - 1,
+    }
+}
+
+// The first so many literals of the present tuple: one or none.
+fn front_at(c: Comparison, w: Walk, some: usize) -> Front
+    requires { ⌜ FairComparison c × Walking c (At.Tuple w) × (some ≤ c .n) × (some ≤ 1) ⌝ }
+    ensures { λ r. ⌜ frontOf r ≡ take some (present c w) ⌝ }
+{
+    if some == 0 {
+        return Front::Nothing;
+    }
+    Front::Literal(tuple_literal(c, w, 0))
+}
+
+// The clauses of the present tuple's row.
+pub fn row_at(c: Comparison, w: Walk) -> Row
+    requires { ⌜ FairComparison c × Walking c (At.Tuple w) ⌝ }
+    ensures { λ r. ⌜ Ready r × (inRow r ≡ rowClauses c w) ⌝ }
+{
+    let n = c.n;
+    if n < 2 {
+        return Row::One(front_at(c, w, n));
+    }
+    Row::Many(Run {
+        front: front_at(c, w, n - 2),
+        y: spot_at(c, w, n - 2),
+        z: spot_at(c, w, n - 1),
+        count: row_length(w),
+    })
+}
+
+// Behind the first clause of the run.
+pub fn onward(run: Run) -> Run
+    requires { ⌜ ReadyRun run × (0 < run .count) ⌝ }
+    ensures { λ r. ⌜ ReadyRun r × (r .front ≡ run .front) × (inRun r ≡ drop 1 (inRun run)) ⌝ }
+{
+    let front = run.front;
+    let y = run.y;
+    let z = run.z;
+    Run {
+        front: front,
+        y: up(y),
+        z: down(z),
+        count: run.count - 1,
     }
 }

@@ -3,7 +3,7 @@ use mathlib.Core.Path.{_≡_, refl, sym, ap, ap₂, _∙_, subst}
 use mathlib.Core.List.{List, [], _∷_, _++_, map, flatten, map-append, append-assoc, append-nil}
 use Prim.Native.Nat.{ℕ, _+_, _-_, _≤_, _<_}
 use native.Mathlib.Omega.{arith}
-use lib.ListN.{length, set}
+use lib.ListN.{length, drop, set}
 use lib.IntN.{ℤ, pos, _+ℤ_, _-ℤ_}
 use mir.Syntax.{w32}
 use mir.Val.{toZ, ofZ}
@@ -15,10 +15,13 @@ use Rattle.walk.specs.declared.Walk.{Walk}
 use Rattle.walk.specs.declared.At.{At}
 use Rattle.walk.specs.declared.At.the-variants.{Tuple, End}
 use Rattle.walk.specs.declared.Spot.{Spot}
-use Rattle.walk.specs.Rows.{rowClauses, raised, lowered, rowFrom, row-none, row-next}
+use Rattle.walk.specs.declared.Front.{Front}
+use Rattle.walk.specs.declared.Run.{Run}
+use Rattle.walk.specs.Rows.{frontOf, raised, lowered, inRun, ReadyRun, run-first, run-none, row-next}
 use Rattle.walk.specs.Comparisons.{toCome, none-left}
+use Rattle.walk.proofs.Runs.{raised-steady, lowered-steady}
 use Rattle.writing.specs.Signs.{plus-is, minus-is}
-use Rattle.writing.specs.Numbers.{clause, flat, leadOf, led, unit, clause-led, led-none, led-more}
+use Rattle.writing.specs.Numbers.{clause, flat, stays, led, led-none, led-more}
 use Rattle.writing.specs.Axioms.{stepsFrom, axiomNumbers}
 use Rattle.laws.specs.Filling.{Filling, begin, begun, one, three, ended}
 
@@ -35,66 +38,70 @@ units i w o h fit =
     let e = ap₂ (λ a b. a ∷ pos 0 ∷ b ∷ pos 0 ∷ stepsFrom i (w - 1)) (sym u) (sym v) in
     one (one (one (one (begin _ _ o refl fit) _ _ e) (pos 0) _ refl) _ _ refl) (pos 0) _ refl
 
--- the lead of a clause, before its literals
-pub leading : (lead : ℤ) (ls o out : List ℤ) (at : ℕ) → length (clause (leadOf lead ++ ls)) ≤ length o → at ≡ length (leadOf lead) → out ≡ written (leadOf lead) o
-    → Filling (clause (leadOf lead ++ ls)) (clause ls) o out at
-leading lead ls o out at fit en ey =
-    let e = clause-led lead ls in
-    subst (λ all. Filling all (clause ls) o out at) (sym e) (begun (leadOf lead) (clause ls) o out at (rw e at fit) en ey)
-
--- the lead alone, before the clause's end
-pub lead-alone : (lead : ℤ) (o out : List ℤ) (at : ℕ) → length (clause (leadOf lead)) ≤ length o → at ≡ length (leadOf lead) → out ≡ written (leadOf lead) o
-    → Filling (clause (leadOf lead)) (pos 0 ∷ []) o out at
-unfolding clause
-lead-alone lead o out at = begun (leadOf lead) (pos 0 ∷ []) o out at
-
 -- ---- rows
 pub paired : (y z : ℤ) (o : List ℤ) → 3 ≤ length o → (3 ≡ length (clause (y ∷ z ∷ []))) × (set (set (set o 0 y) 1 z) 2 (pos 0) ≡ written (clause (y ∷ z ∷ [])) o)
 unfolding clause
 paired y z o h = ended (three (begin (y ∷ z ∷ pos 0 ∷ []) (y ∷ z ∷ pos 0 ∷ []) o refl h) y z (pos 0) [] refl) refl
 
--- the literals that stay, before the last two
-module _ (lead front : List ℤ) (y z : ℤ) where
-  pub pair-behind : clause (lead ++ (front ++ (y ∷ z ∷ []))) ≡ (lead ++ front) ++ clause (y ∷ z ∷ [])
+-- the literals that stay, before others, and before the clause's end
+module _ (fixed : List ℤ) (o out : List ℤ) (at : ℕ) (en : at ≡ length fixed) (ey : out ≡ written fixed o) where
+  pub staying : (ls : List ℤ) → length (clause (fixed ++ ls)) ≤ length o → Filling (clause (fixed ++ ls)) (clause ls) o out at
   unfolding clause
-  pair-behind =
-      ap (λ l. l ++ (pos 0 ∷ [])) (sym (append-assoc lead front (y ∷ z ∷ []))) ∙ append-assoc (lead ++ front) (y ∷ z ∷ []) (pos 0 ∷ [])
+  staying ls fit =
+      let e = append-assoc fixed ls (pos 0 ∷ []) in
+      subst (λ all. Filling all (clause ls) o out at) (sym e) (begun fixed (clause ls) o out at (rw e at fit) en ey)
 
-  pub staying : (o out : List ℤ) (at : ℕ) → length (clause (lead ++ (front ++ (y ∷ z ∷ [])))) ≤ length o → at ≡ length (lead ++ front) → out ≡ written (lead ++ front) o
-      → Filling (clause (lead ++ (front ++ (y ∷ z ∷ [])))) (clause (y ∷ z ∷ [])) o out at
-  staying o out at fit en ey =
-      subst (λ all. Filling all (clause (y ∷ z ∷ [])) o out at) (sym pair-behind) (begun (lead ++ front) (clause (y ∷ z ∷ [])) o out at (rw pair-behind at fit) en ey)
+  pub alone : length (clause fixed) ≤ length o → Filling (clause fixed) (pos 0 ∷ []) o out at
+  unfolding clause
+  alone fit = begun fixed (pos 0 ∷ []) o out at fit en ey
 
-module _ (lead : ℤ) (fixed : List ℤ) (p q : Spot) where
-  pub row-end : (n : ℕ) → n ≡ 0 → led lead (rowFrom fixed p q n) ≡ []
-  row-end n h = ap (led lead) (row-none fixed p q n h) ∙ led-none lead
+led-next : (lead front : Front) (ls : List ℤ) (cs : List (List ℤ)) → led lead ((frontOf front ++ ls) ∷ cs) ≡ clause (stays lead front ++ ls) ++ led lead cs
+led-next lead front ls cs = led-more lead (frontOf front ++ ls) cs ∙ ap (λ l. clause l ++ led lead cs) (sym (append-assoc (frontOf lead) (frontOf front) ls))
 
-  pub row-more : (n : ℕ) → 0 < n → led lead (rowFrom fixed p q n) ≡ clause (leadOf lead ++ (fixed ++ (p .literal ∷ q .literal ∷ []))) ++ led lead (rowFrom fixed (raised p) (lowered q) (n - 1))
-  row-more n h = ap (led lead) (row-next fixed p q n h) ∙ led-more lead (fixed ++ (p .literal ∷ q .literal ∷ [])) (rowFrom fixed (raised p) (lowered q) (n - 1))
+module _ (lead : Front) (run : Run) where
+  pub run-end : run .count ≡ 0 → led lead (inRun run) ≡ []
+  run-end h = ap (led lead) (run-none run h) ∙ led-none lead
 
-pub units-more : (lead : ℤ) (fixed : List ℤ) (y z : ℤ) (n : ℕ) → 0 < n
-    → led lead (rowFrom fixed (unit y) (unit z) n) ≡ clause (leadOf lead ++ (fixed ++ (y ∷ z ∷ []))) ++ led lead (rowFrom fixed (unit (y +ℤ pos 1)) (unit (z -ℤ pos 1)) (n - 1))
+  pub run-more : 0 < run .count → led lead (inRun run) ≡ clause (stays lead (run .front) ++ (run .y .literal ∷ run .z .literal ∷ [])) ++ led lead (drop 1 (inRun run))
+  run-more h = ap (led lead) (run-first run h) ∙ led-next lead (run .front) (run .y .literal ∷ run .z .literal ∷ []) (drop 1 (inRun run))
+
+-- ---- a run whose literals move with each clause
+abbrev unit : ℤ → Spot
+unit l = record { d = 1; r = 0; literal = l }
+
+abbrev pub unitRun : Front → ℤ → ℤ → ℕ → Run
+unitRun front y z n = record { front = front; y = unit y; z = unit z; count = n }
+
+pub unit-is : (run : Run) → ReadyRun run → run .y .d + run .z .d < 3 → run ≡ unitRun (run .front) (run .y .literal) (run .z .literal) (run .count)
+unit-is run ready h = ap₂ (λ y z. record { front = run .front; y = y; z = z; count = run .count }) (one-step (run .y) (omega (arith, ready .rising .short, ready .falling .short)) (omega (arith, ready .rising .short, ready .falling .short))) (one-step (run .z) (omega (arith, ready .rising .short, ready .falling .short)) (omega (arith, ready .rising .short, ready .falling .short)))
+  where
+    one-step : (p : Spot) → p .d ≡ 1 → p .r ≡ 0 → p ≡ unit (p .literal)
+    one-step p d r = ap₂ (λ a b. record { d = a; r = b; literal = p .literal }) d r
+
+pub units-more : (lead front : Front) (y z : ℤ) (n : ℕ) → 0 < n
+    → led lead (inRun (unitRun front y z n)) ≡ clause (stays lead front ++ (y ∷ z ∷ [])) ++ led lead (inRun (unitRun front (y +ℤ pos 1) (z -ℤ pos 1) (n - 1)))
+unfolding inRun raised lowered
+units-more lead front y z n h = ap (led lead) (row-next (frontOf front) (unit y) (unit z) n h) ∙ led-next lead front (y ∷ z ∷ []) (inRun (unitRun front (y +ℤ pos 1) (z -ℤ pos 1) (n - 1)))
+
+pub units-ready : (front : Front) (y z : ℤ) (n : ℕ) → 0 < n → ReadyRun (unitRun front y z n) → ReadyRun (unitRun front (y +ℤ pos 1) (z -ℤ pos 1) (n - 1))
 unfolding raised lowered
-units-more lead fixed y z n h = row-more lead fixed (unit y) (unit z) n h
+units-ready front y z n h ready = record { rising = raised-steady (unit y) n h (ready .rising); falling = lowered-steady (unit z) n h (ready .falling) }
 
-pub unit-is : (p : Spot) → p .d ≡ 1 → p .r ≡ 0 → p ≡ unit (p .literal)
-unit-is p d r = ap₂ (λ a b. record { d = a; r = b; literal = p .literal }) d r
-
-pub led-append : (lead : ℤ) (cs ds : List (List ℤ)) → led lead (cs ++ ds) ≡ led lead cs ++ led lead ds
+pub led-append : (lead : Front) (cs ds : List (List ℤ)) → led lead (cs ++ ds) ≡ led lead cs ++ led lead ds
 unfolding flat
 led-append lead cs ds =
-    ap (λ l. flatten (map clause l)) (map-append (λ ls. leadOf lead ++ ls) cs ds)
-    ∙ ap flatten (map-append clause (map (λ ls. leadOf lead ++ ls) cs) (map (λ ls. leadOf lead ++ ls) ds))
-    ∙ flatten-append (map clause (map (λ ls. leadOf lead ++ ls) cs)) (map clause (map (λ ls. leadOf lead ++ ls) ds))
+    ap (λ l. flatten (map clause l)) (map-append (λ ls. frontOf lead ++ ls) cs ds)
+    ∙ ap flatten (map-append clause (map (λ ls. frontOf lead ++ ls) cs) (map (λ ls. frontOf lead ++ ls) ds))
+    ∙ flatten-append (map clause (map (λ ls. frontOf lead ++ ls) cs)) (map clause (map (λ ls. frontOf lead ++ ls) ds))
 
-pub led-single : (lead : ℤ) (ls : List ℤ) → led lead (ls ∷ []) ≡ clause (leadOf lead ++ ls)
-led-single lead ls = led-more lead ls [] ∙ ap (λ l. clause (leadOf lead ++ ls) ++ l) (led-none lead) ∙ append-nil (clause (leadOf lead ++ ls))
+pub led-single : (lead : Front) (ls : List ℤ) → led lead (ls ∷ []) ≡ clause (frontOf lead ++ ls)
+led-single lead ls = led-more lead ls [] ∙ ap (λ l. clause (frontOf lead ++ ls) ++ l) (led-none lead) ∙ append-nil (clause (frontOf lead ++ ls))
 
 -- ---- the clauses of the tuples to come
-module _ (c : Comparison) (lead : ℤ) (cur : At) where
+module _ (c : Comparison) (lead : Front) (cur : At) where
   pub led-end : cur ≡ End → led lead (toCome c cur) ≡ []
   led-end q = ap (led lead) (ap (toCome c) q ∙ none-left c) ∙ led-none lead
 
   -- a row, and then the rest
-  pub led-on : (w : Walk) → cur ≡ Tuple w → (rest : List (List ℤ)) → toCome c (Tuple w) ≡ rowClauses c w ++ rest → led lead (toCome c cur) ≡ led lead (rowClauses c w) ++ led lead rest
-  led-on w q rest e = ap (led lead) (ap (toCome c) q ∙ e) ∙ led-append lead (rowClauses c w) rest
+  pub led-on : (w : Walk) → cur ≡ Tuple w → (row rest : List (List ℤ)) → toCome c (Tuple w) ≡ row ++ rest → led lead (toCome c cur) ≡ led lead row ++ led lead rest
+  led-on w q row rest e = ap (led lead) (ap (toCome c) q ∙ e) ∙ led-append lead row rest

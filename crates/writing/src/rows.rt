@@ -1,27 +1,25 @@
 // A row of a comparison's clauses: the literals of all terms but the last two stay, and those of the last two are stepped.
 ghost use mathlib.Core.Path.{_≡_};
-ghost use Prim.Native.Nat.{_+_, _≤_};
+ghost use Prim.Native.Nat.{_+_, _≤_, _<_};
 ghost use mathlib.Core.List.{_∷_, [], _++_};
-ghost use lib.IntN.{natAbs};
 ghost use lib.ListN.{length};
 ghost use Rattle.laws.specs.Written.{written};
-ghost use Rattle.walk.specs.Rows.{Steady, frontOf, rowFrom};
-ghost use Rattle.writing.specs.Numbers.{clause, leadOf, led, unit};
-use crate::comparisons::put_lead;
-use walk::Spot;
-use walk::rows::down;
-use walk::rows::up;
+ghost use Rattle.walk.specs.Rows.{frontOf, inRun, ReadyRun, inRow, Ready};
+ghost use Rattle.writing.specs.Numbers.{clause, led, stays};
+use walk::Front;
+use walk::Row;
+use walk::Run;
+use walk::rows::onward;
 
-// The literal of the first of three terms; of two there is none.
-fn put_front(front: usize, literal: i32, list: &mut [i32]) -> usize
-    requires { ⌜ length (frontOf front literal) ≤ length (now list) ⌝ }
-    ensures { λ r. ⌜ (r ≡ length (frontOf front literal)) × (now (list .exit) ≡ written (frontOf front literal) (now (list .entry))) ⌝ }
+fn put_front(front: Front, list: &mut [i32]) -> usize
+    requires { ⌜ length (frontOf front) ≤ length (now list) ⌝ }
+    ensures { λ r. ⌜ (r ≡ length (frontOf front)) × (now (list .exit) ≡ written (frontOf front) (now (list .entry))) ⌝ }
 {
-    if 0 < front {
-        list[0] = literal;
-        return 1;
-    }
-    0
+    let Front::Literal(literal) = front else {
+        return 0;
+    };
+    list[0] = literal;
+    1
 }
 
 // The last two terms' literals and 0.
@@ -35,67 +33,62 @@ fn put_pair(y: i32, z: i32, list: &mut [i32]) -> usize
     3
 }
 
-fn put_fixed(lead: i32, front: usize, literal: i32, list: &mut [i32]) -> usize
-    requires { ⌜ length (leadOf lead ++ frontOf front literal) ≤ length (now list) ⌝ }
-    ensures { λ r. ⌜ (r ≡ length (leadOf lead ++ frontOf front literal)) × (now (list .exit) ≡ written (leadOf lead ++ frontOf front literal) (now (list .entry))) ⌝ }
+fn put_fixed(lead: Front, front: Front, list: &mut [i32]) -> usize
+    requires { ⌜ length (stays lead front) ≤ length (now list) ⌝ }
+    ensures { λ r. ⌜ (r ≡ length (stays lead front)) × (now (list .exit) ≡ written (stays lead front) (now (list .entry))) ⌝ }
 {
-    let at = put_lead(lead, list);
-    at + put_front(front, literal, &mut list[at..])
+    let at = put_front(lead, list);
+    at + put_front(front, &mut list[at..])
 }
 
-fn put_clause(lead: i32, front: usize, literal: i32, y: i32, z: i32, list: &mut [i32]) -> usize
-    requires { ⌜ length (clause (leadOf lead ++ (frontOf front literal ++ (y ∷ z ∷ [])))) ≤ length (now list) ⌝ }
-    ensures { λ r. ⌜ (r ≡ length (clause (leadOf lead ++ (frontOf front literal ++ (y ∷ z ∷ []))))) × (now (list .exit) ≡ written (clause (leadOf lead ++ (frontOf front literal ++ (y ∷ z ∷ [])))) (now (list .entry))) ⌝ }
+fn put_clause(lead: Front, front: Front, y: i32, z: i32, list: &mut [i32]) -> usize
+    requires { ⌜ length (clause (stays lead front ++ (y ∷ z ∷ []))) ≤ length (now list) ⌝ }
+    ensures { λ r. ⌜ (r ≡ length (clause (stays lead front ++ (y ∷ z ∷ [])))) × (now (list .exit) ≡ written (clause (stays lead front ++ (y ∷ z ∷ []))) (now (list .entry))) ⌝ }
 {
-    let at = put_fixed(lead, front, literal, list);
+    let at = put_fixed(lead, front, list);
     at + put_pair(y, z, &mut list[at..])
 }
 
-// So many clauses.
-fn put_stepped(
-    lead: i32,
-    front: usize,
-    literal: i32,
-    y: Spot,
-    z: Spot,
-    count: u32,
-    list: &mut [i32],
-) -> usize
-    requires { ⌜ Steady y × Steady z × (natAbs (y .literal) + count ≤ 40000000) × (natAbs (z .literal) + count ≤ 40000000) × (length (led lead (rowFrom (frontOf front literal) y z count)) ≤ length (now list)) ⌝ }
-    ensures { λ r. ⌜ (r ≡ length (led lead (rowFrom (frontOf front literal) y z count))) × (now (list .exit) ≡ written (led lead (rowFrom (frontOf front literal) y z count)) (now (list .entry))) ⌝ }
+// One clause, of fewer than two terms.
+fn put_short(lead: Front, front: Front, list: &mut [i32]) -> usize
+    requires { ⌜ length (clause (stays lead front)) ≤ length (now list) ⌝ }
+    ensures { λ r. ⌜ (r ≡ length (clause (stays lead front))) × (now (list .exit) ≡ written (clause (stays lead front)) (now (list .entry))) ⌝ }
+{
+    let at = put_fixed(lead, front, list);
+    list[at] = 0;
+    at + 1
+}
+
+fn put_stepped(lead: Front, run: Run, list: &mut [i32]) -> usize
+    requires { ⌜ ReadyRun run × (length (led lead (inRun run)) ≤ length (now list)) ⌝ }
+    ensures { λ r. ⌜ (r ≡ length (led lead (inRun run))) × (now (list .exit) ≡ written (led lead (inRun run)) (now (list .entry))) ⌝ }
 {
     let mut at: usize = 0;
-    let mut left = count;
-    let mut p = y;
-    let mut q = z;
-    while 0 < left {
-        at += put_clause(lead, front, literal, p.literal, q.literal, &mut list[at..]);
-        p = up(p);
-        q = down(q);
-        left -= 1;
+    let mut rest = run;
+    while 0 < rest.count {
+        let front = rest.front;
+        let y = rest.y;
+        let z = rest.z;
+        at += put_clause(lead, front, y.literal, z.literal, &mut list[at..]);
+        rest = onward(rest);
     }
     at
 }
 
-// So many clauses where both coefficients are 1 or -1: one literal rises with each, the other falls.
-fn put_units(
-    lead: i32,
-    front: usize,
-    literal: i32,
-    y: i32,
-    z: i32,
-    count: u32,
-    list: &mut [i32],
-) -> usize
-    requires { ⌜ (natAbs y + count ≤ 40000000) × (natAbs z + count ≤ 40000000) × (length (led lead (rowFrom (frontOf front literal) (unit y) (unit z) count)) ≤ length (now list)) ⌝ }
-    ensures { λ r. ⌜ (r ≡ length (led lead (rowFrom (frontOf front literal) (unit y) (unit z) count))) × (now (list .exit) ≡ written (led lead (rowFrom (frontOf front literal) (unit y) (unit z) count)) (now (list .entry))) ⌝ }
+// Where both coefficients are 1 or -1, one literal rises with each clause, the other falls.
+fn put_units(lead: Front, run: Run, list: &mut [i32]) -> usize
+    requires { ⌜ ReadyRun run × (run .y .d + run .z .d < 3) × (length (led lead (inRun run)) ≤ length (now list)) ⌝ }
+    ensures { λ r. ⌜ (r ≡ length (led lead (inRun run))) × (now (list .exit) ≡ written (led lead (inRun run)) (now (list .entry))) ⌝ }
 {
+    let front = run.front;
+    let y = run.y;
+    let z = run.z;
     let mut at: usize = 0;
-    let mut left = count;
-    let mut p = y;
-    let mut q = z;
+    let mut left = run.count;
+    let mut p = y.literal;
+    let mut q = z.literal;
     while 0 < left {
-        at += put_clause(lead, front, literal, p, q, &mut list[at..]);
+        at += put_clause(lead, front, p, q, &mut list[at..]);
         p += 1;
         q -= 1;
         left -= 1;
@@ -103,21 +96,21 @@ fn put_units(
     at
 }
 
-// A row of so many clauses.
-pub fn put_row(
-    lead: i32,
-    front: usize,
-    literal: i32,
-    y: Spot,
-    z: Spot,
-    count: u32,
-    list: &mut [i32],
-) -> usize
-    requires { ⌜ Steady y × Steady z × (natAbs (y .literal) + count ≤ 40000000) × (natAbs (z .literal) + count ≤ 40000000) × (length (led lead (rowFrom (frontOf front literal) y z count)) ≤ length (now list)) ⌝ }
-    ensures { λ r. ⌜ (r ≡ length (led lead (rowFrom (frontOf front literal) y z count))) × (now (list .exit) ≡ written (led lead (rowFrom (frontOf front literal) y z count)) (now (list .entry))) ⌝ }
+// The row's clauses, each under the lead.
+pub fn put_row(lead: Front, row: Row, list: &mut [i32]) -> usize
+    requires { ⌜ Ready row × (length (led lead (inRow row)) ≤ length (now list)) ⌝ }
+    ensures { λ r. ⌜ (r ≡ length (led lead (inRow row))) × (now (list .exit) ≡ written (led lead (inRow row)) (now (list .entry))) ⌝ }
 {
-    if y.d + z.d < 3 {
-        return put_units(lead, front, literal, y.literal, z.literal, count, list);
+    match row {
+        Row::One(front) => put_short(lead, front, list),
+        Row::Many(run) => {
+            let y = run.y;
+            let z = run.z;
+            if y.d + z.d < 3 {
+                put_units(lead, run, list)
+            } else {
+                put_stepped(lead, run, list)
+            }
+        }
     }
-    put_stepped(lead, front, literal, y, z, count, list)
 }

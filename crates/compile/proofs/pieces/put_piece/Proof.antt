@@ -59,20 +59,20 @@ add-number c =
     let s = c .before .before .before .before .before .before in
     omega (arith, (few-selectors (s .args .bytes .now) (s .args .known) (s .args .rules .now) (s .pre .0) (s .args .selectors) (c .before .piece3 .given .0 .0) (s .pre .2) (omega (arith, rw (c .before .piece3 .given .1) at (s .pre .4)))))
 
+cast-negated : tie.Need-cast-negated
+cast-negated c =
+    let s = c .before .before .before .before .before .before in
+    omega (arith, (few-selectors (s .args .bytes .now) (s .args .known) (s .args .rules .now) (s .pre .0) (s .args .selectors) (c .before .piece3 .given .0 .0) (s .pre .2) (omega (arith, rw (c .before .piece3 .given .1) at (s .pre .4)))))
+
+sub-negated : tie.Need-sub-negated
+sub-negated c =
+    let s = c .before .before .before .before .before .before in
+    minus-fits (s .args .selectors + c .before .piece3 .given .0 .0) (omega (arith, (few-selectors (s .args .bytes .now) (s .args .known) (s .args .rules .now) (s .pre .0) (s .args .selectors) (c .before .piece3 .given .0 .0) (s .pre .2) (omega (arith, rw (c .before .piece3 .given .1) at (s .pre .4))))))
+
 ready-requires-2 : tie.Need-ready-requires-2
 ready-requires-2 c κs =
     let s = c .before .before .before .before .before .before in
     let e = c .before .piece3 .given .1 in let t : Stands (contextOf (s .args .known)) (s .args .rules .now) _ _ = rw e at (s .pre .3) in let f = constant-fits (contextOf (s .args .known)) (s .args .rules .now) t in (s .pre .0 .opens, firsts-small (boardOf (s .args .bytes .now)) (opens-admitted _ (s .pre .0 .opens)) (s .args .firsts .now) (s .pre .1), terms-met (s .args .bytes .now) (s .args .known) (s .args .rules .now) (s .pre .0) _ _ t, rw (toZ-ofZ f) (good-met (s .args .bytes .now) (s .args .known) (s .args .rules .now) (s .pre .0) _ _ t))
-
-cast-put-comparison : tie.Need-cast-put-comparison
-cast-put-comparison c =
-    let s = c .before .before .before .before .before .before .before in
-    omega (arith, (few-selectors (s .args .bytes .now) (s .args .known) (s .args .rules .now) (s .pre .0) (s .args .selectors) (c .before .before .piece3 .given .0 .0) (s .pre .2) (omega (arith, rw (c .before .before .piece3 .given .1) at (s .pre .4)))))
-
-sub-put-comparison : tie.Need-sub-put-comparison
-sub-put-comparison c =
-    let s = c .before .before .before .before .before .before .before in
-    minus-fits (s .args .selectors + c .before .before .piece3 .given .0 .0) (omega (arith, (few-selectors (s .args .bytes .now) (s .args .known) (s .args .rules .now) (s .pre .0) (s .args .selectors) (c .before .before .piece3 .given .0 .0) (s .pre .2) (omega (arith, rw (c .before .before .piece3 .given .1) at (s .pre .4))))))
 
 put-comparison-requires-2 : tie.Need-put-comparison-requires-2
 put-comparison-requires-2 c κs =
@@ -117,9 +117,9 @@ put-piece-spec =
     enum-known-piece-3
     cast-number
     add-number
+    cast-negated
+    sub-negated
     ready-requires-2
-    cast-put-comparison
-    sub-put-comparison
     put-comparison-requires-2
     same-length
     returns
