@@ -40,11 +40,6 @@ module _ (ints : ℕ) where
   term-good ts r i d h g l = rw (term-of ts r i d h l) (all-at (GoodTerm ints) (termRead d) ts g i (omega (arith, h .counted)))
 
 -- ---- in bytes
--- at a place stands the count of a comparison's terms, and then the terms
-pub record TermsStand (s : List ℕ) (place : ℕ) : Type 0 where
-  pub few : big s place 1 ≤ 3
-  pub room : place + 1 + 3 * big s place 1 ≤ length s
-
 module _ (s : List ℕ) (place : ℕ) where
   pub terms-count : length (termsAt s place) ≡ big s place 1
   unfolding termsAt
