@@ -11,10 +11,10 @@ ghost use Rattle.rules.specs.Cursors.{Held, saidPiece, selectorsTo};
 ghost use Rattle.rules.specs.Known.{Known};
 ghost use Rattle.slots.specs.Variables.{FirstsOf};
 ghost use Rattle.compile.specs.Lists.{pieceNumbers, piecesNumbers};
+use rules::Ahead;
 use rules::Piece;
-use rules::Stepped;
+use rules::next_piece;
 use rules::start;
-use rules::step;
 use slots::comparisons::ready;
 use writing::comparisons::put_comparison;
 use writing::lines::put_line;
@@ -71,17 +71,10 @@ pub fn put_pieces(
     let mut at: usize = 0;
     let mut cursor = start(clauses);
     loop {
-        match step(rules, cursor) {
-            Stepped::Met(piece, next) => {
-                at += put_piece(bytes, firsts, rules, selectors, piece, &mut list[at..]);
-                cursor = next;
-            }
-            Stepped::Passed(next) => {
-                cursor = next;
-            }
-            Stepped::End => {
-                return at;
-            }
-        }
+        let Ahead::Met(piece, next) = next_piece(rules, cursor) else {
+            return at;
+        };
+        at += put_piece(bytes, firsts, rules, selectors, piece, &mut list[at..]);
+        cursor = next;
     }
 }

@@ -1,5 +1,4 @@
 // The search over the rules: it stops at the first clause none of whose literals holds.
-use crate::Ahead;
 use crate::Checked;
 use crate::axioms::search_axioms;
 use crate::pieces::passed;
@@ -10,10 +9,9 @@ use crate::rows::search_row;
 use crate::values::write_values;
 use lent::Found;
 use opening::Header;
-use rules::Cursor;
-use rules::Stepped;
+use rules::Ahead;
+use rules::next_piece;
 use rules::start;
-use rules::step;
 use slots::FIRSTS;
 use slots::variables::put_firsts;
 use walk::At;
@@ -25,38 +23,15 @@ ghost use Rattle.definitions.specs.Result.{each};
 ghost use Rattle.definitions.specs.Encoding.{clauses};
 ghost use Rattle.laws.specs.Boards.{boardOf};
 ghost use Rattle.lent.specs.Said.{saidFound};
-ghost use Rattle.rules.specs.Cursors.{Steady};
 ghost use Rattle.rules.specs.Known.{Known};
 ghost use Rattle.slots.specs.Variables.{FirstsOf};
 ghost use Rattle.decode.specs.Given.{Given};
 ghost use Rattle.decode.specs.Truth.{tests};
 ghost use Rattle.decode.specs.Sums.{Told, ValuesIn};
-ghost use Rattle.decode.specs.Next.{Comes};
 ghost use Rattle.decode.specs.Passes.{ruleTests};
 
 // The most integer variables that a record has.
 const VALUES: usize = 1024;
-
-// The next piece at or behind the cursor.
-fn next_piece(rules: &[u8], cursor: Cursor) -> Ahead
-    requires { ⌜ Steady (now rules) cursor ⌝ }
-    ensures { λ r. ⌜ Comes (now (rules .entry)) cursor r ⌝ }
-{
-    let mut at = cursor;
-    loop {
-        match step(rules, at) {
-            Stepped::Met(piece, behind) => {
-                return Ahead::Met(piece, behind);
-            }
-            Stepped::Passed(behind) => {
-                at = behind;
-            }
-            Stepped::End => {
-                return Ahead::Nothing;
-            }
-        }
-    }
-}
 
 // The clauses of the rules, which are counted from `from` on: piece by piece, and in a piece that is not known to hold its tuples,
 // row by row. The axioms hold, and `values` are what they tell.

@@ -1,7 +1,7 @@
 -- The plain model in the parts that are written one after another. Assumes nothing.
 use mathlib.Core.Path.{_≡_, refl, sym, ap, ap₂, _∙_}
 use mathlib.Core.Bool.{Bool, true, not}
-use mathlib.Core.List.{List, [], _∷_, _++_, map, flatten, append-assoc, map-append, map-map}
+use mathlib.Core.List.{List, [], _∷_, _++_, map, flatten, map-append, map-map}
 use Prim.Native.Nat.{ℕ, suc, _+_, _-_, _<_}
 use native.Mathlib.Omega.{arith}
 use lib.ListN.{length, getD, length-map}
@@ -15,7 +15,7 @@ use Rattle.definitions.specs.Meaning.{Assignment, on, compares, selection, trut
 use Rattle.laws.specs.Lists.{all-every, counted-at, length-countUp, map-same, map-flatten, map-at}
 use Rattle.laws.specs.Ranges.{range-shift}
 use Rattle.laws.specs.Layout.{orders-count}
-use Rattle.laws.specs.Pieces.{Piece, line, under, compared, used, lone, opening, piecesFrom}
+use Rattle.laws.specs.Pieces.{Piece, line, under, compared, lone, opening, piecesFrom}
 
 abbrev pub bit : Bool → ℕ
 bit b = if b then 1 else 0

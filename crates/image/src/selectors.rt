@@ -15,10 +15,10 @@ ghost use Rattle.image.specs.Selectors.{ledAt, Passing};
 use crate::parts::bit;
 use judge::literals::compares;
 use opening::Header;
+use rules::Ahead;
 use rules::Piece;
-use rules::Stepped;
+use rules::next_piece;
 use rules::start;
-use rules::step;
 
 // Of the pieces of the rules, a comparison under its selector has a byte.
 fn put_led(rules: &[u8], clauses: usize, values: &[i32], model: &mut [u8]) -> usize
@@ -28,36 +28,31 @@ fn put_led(rules: &[u8], clauses: usize, values: &[i32], model: &mut [u8]) -> us
     let mut at: usize = 0;
     let mut cursor = start(clauses);
     loop {
-        match step(rules, cursor) {
-            Stepped::Met(piece, next) => match piece {
-                Piece::Led {
-                    selector: _,
-                    place,
-                    constant,
-                } => {
-                    model[at] = bit(compares(rules, values, place, constant));
-                    at += 1;
-                    cursor = next;
-                }
-                Piece::Line {
-                    place: _,
-                    literals: _,
-                    selector: _,
-                } => {
-                    cursor = next;
-                }
-                Piece::Lone {
-                    place: _,
-                    constant: _,
-                } => {
-                    cursor = next;
-                }
-            },
-            Stepped::Passed(next) => {
+        let Ahead::Met(piece, next) = next_piece(rules, cursor) else {
+            return at;
+        };
+        match piece {
+            Piece::Led {
+                selector: _,
+                place,
+                constant,
+            } => {
+                model[at] = bit(compares(rules, values, place, constant));
+                at += 1;
                 cursor = next;
             }
-            Stepped::End => {
-                return at;
+            Piece::Line {
+                place: _,
+                literals: _,
+                selector: _,
+            } => {
+                cursor = next;
+            }
+            Piece::Lone {
+                place: _,
+                constant: _,
+            } => {
+                cursor = next;
             }
         }
     }

@@ -21,7 +21,7 @@ use Rattle.reader.specs.Said.{literalOf}
 use Rattle.reader.specs.Literals.{Rereads, KnownLiteral, known-literal}
 use Rattle.rules.specs.declared.Cursor.{Cursor}
 use Rattle.rules.specs.declared.Piece.{Piece}
-use Rattle.rules.specs.Cursors.{saidPiece, comingAt, atStart, Held, Sound, Onward, Meets, Passes}
+use Rattle.rules.specs.Cursors.{saidPiece, comingAt, atStart, Held, Sound, Meets}
 use Rattle.rules.specs.Known.{start-coming}
 use Rattle.judge.specs.Suited.{Suiting}
 use Rattle.judge.specs.Clauses.{begun, holdsIn}
@@ -77,9 +77,6 @@ module _ (values : List ℤ) (booleans t : List ℕ) (n : ℕ) where
       record { suiting = l; same = ap (seek 13 (any (holds a)) 0) e; count = omega (arith, ap length e, parts-length clauseAt t n 0) }
 
 module _ {values : List ℤ} {booleans t : List ℕ} {n i : ℕ} {c : Cursor} (h : Seeking values booleans t n i c) where
-  on : {c′ : Cursor} → Onward (h .suiting .ctx) t c c′ → Suiting values booleans (λ ctx. Sound ctx t c′)
-  on o = record { ctx = h .suiting .ctx; suited = h .suiting .suited; such = o .sound }
-
   module _ {p : Piece} {c′ : Cursor} (m : Meets (h .suiting .ctx) t c p c′) where
     pub piece-suits : Suiting values booleans (λ ctx. Held ctx t p)
     piece-suits = record { ctx = h .suiting .ctx; suited = h .suiting .suited; such = m .held }
@@ -98,14 +95,7 @@ module _ {values : List ℤ} {booleans t : List ℕ} {n i : ℕ} {c : Cursor} (h
     seek-fails e = next e
 
     pub seek-on : true ≡ holdsIn (assigned values booleans) t p → Seeking values booleans t n (i + begun p) c′
-    seek-on e = record { suiting = on (m .onward); same = next e; count = counted }
-
-  pub seek-passed : {c′ : Cursor} → Passes (h .suiting .ctx) t c c′ → Seeking values booleans t n i c′
-  seek-passed m = record {
-    suiting = on (m .onward);
-    same = rw (← m .same) (h .same);
-    count = rw (← m .same) (h .count);
-  }
+    seek-on e = record { suiting = record { ctx = h .suiting .ctx; suited = h .suiting .suited; such = m .onward .sound }; same = next e; count = counted }
 
   pub seek-none : comingAt t c ≡ [] → done tt ≡ seek 13 (any (holds (assigned values booleans))) 0 (clausesAt t n 0 .value)
   unfolding clausesRecorded

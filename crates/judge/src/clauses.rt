@@ -3,10 +3,10 @@ use crate::literals::compares;
 use crate::literals::holds;
 use lent::Found;
 use reader::rereading::literal_again;
+use rules::Ahead;
 use rules::Piece;
-use rules::Stepped;
+use rules::next_piece;
 use rules::start;
-use rules::step;
 ghost use mathlib.Core.Path.{_≡_};
 ghost use mathlib.Core.List.{map};
 ghost use Rattle.definitions.specs.Tools.{any};
@@ -87,20 +87,13 @@ pub fn first_failing(rules: &[u8], values: &[i32], booleans: &[u8], clauses: usi
     let mut number: usize = 0;
     let mut cursor = start(clauses);
     loop {
-        match step(rules, cursor) {
-            Stepped::Met(piece, next) => {
-                if !piece_holds(rules, values, booleans, piece) {
-                    return Found::At(number);
-                }
-                number += clauses_in(piece);
-                cursor = next;
-            }
-            Stepped::Passed(next) => {
-                cursor = next;
-            }
-            Stepped::End => {
-                return Found::Nothing;
-            }
+        let Ahead::Met(piece, next) = next_piece(rules, cursor) else {
+            return Found::Nothing;
+        };
+        if !piece_holds(rules, values, booleans, piece) {
+            return Found::At(number);
         }
+        number += clauses_in(piece);
+        cursor = next;
     }
 }

@@ -1,18 +1,16 @@
 -- The literals and clauses of an accepted record, read again without checks. Assumes nothing.
 use mathlib.Core.Path.{_≡_, refl, sym, ap, ap₂, _∙_}
-use mathlib.Core.Bool.{Bool, false}
 use mathlib.Core.List.{List, [], _∷_}
 use Prim.Native.Nat.{ℕ, zero, suc, _+_, _*_, _-_, _≤_, _<_}
 use native.Mathlib.Numerals.{sub-one}
 use native.Mathlib.Omega.{arith}
 use lib.ListN.{length}
-use lib.Dec.{eqb}
 use lib.IntN.{ℤ}
-use Rattle.definitions.specs.Board.{Comparison, Literal, Clause, isTrue, isFalse, atMost}
+use Rattle.definitions.specs.Board.{Literal, Clause, isTrue, isFalse, atMost}
 use Rattle.definitions.specs.Result.{Result, done, refused}
 use Rattle.definitions.specs.Result as result
 use Rattle.definitions.specs.Reading.{Got, Reader, Context, times, big, twos, count, readLiteral, readClause}
-use Rattle.laws.specs.Admitted.{GoodComparison, GoodLiteral}
+use Rattle.laws.specs.Admitted.{GoodLiteral}
 use Rattle.laws.specs.Readings.{same, never, times-parts}
 use Rattle.laws.specs.Spelling.{Stand, none, more, literalFields, natural}
 use Rattle.laws.specs.Grammar.{found}
@@ -60,38 +58,26 @@ module _ {A : Type 0} (f : List ℕ → ℕ → Got A) (t : List ℕ) where
 abbrev pub constantAt : List ℕ → ℕ → ℤ
 constantAt t place = twos 4 (big t (place + 1 + 3 * big t place 1) 4)
 
-abbrev ofKind : List ℕ → ℕ → ℕ → Got Literal
-ofKind t at zero = record { value = isTrue (big t (at + 1) 2); next = at + 3 }
-ofKind t at (suc zero) = record { value = isFalse (big t (at + 1) 2); next = at + 3 }
-ofKind t at (suc (suc k)) = record { value = atMost (comparisonAt t (at + 1) (constantAt t (at + 1))); next = at + 6 + 3 * big t (at + 1) 1 }
+-- where the kind is k
+abbrev pub saidBy : List ℕ → ℕ → ℕ → Got Literal
+saidBy t at zero = record { value = isTrue (big t (at + 1) 2); next = at + 3 }
+saidBy t at (suc zero) = record { value = isFalse (big t (at + 1) 2); next = at + 3 }
+saidBy t at (suc (suc k)) = record { value = atMost (comparisonAt t (at + 1) (constantAt t (at + 1))); next = at + 6 + 3 * big t (at + 1) 1 }
 
 unfoldable pub literalAt : List ℕ → ℕ → Got Literal
-literalAt t at = ofKind t at (big t at 1)
+literalAt t at = saidBy t at (big t at 1)
 
 -- its bytes are there
 pub record There (t : List ℕ) (at : ℕ) : Type 0 where
   pub kind : at + 1 ≤ length t
   pub known : big t at 1 ≤ 2
-  pub few : 2 ≤ big t at 1 → big t (at + 1) 1 ≤ 3
+  pub few : big t at 1 ≡ 2 → big t (at + 1) 1 ≤ 3
   pub room : literalAt t at .next ≤ length t
 
 module _ (t : List ℕ) (at : ℕ) where
-  pub boolean-at : big t at 1 ≡ 0 → literalAt t at ≡ record { value = isTrue (big t (at + 1) 2); next = at + 3 }
+  pub literal-said : {k : ℕ} → big t at 1 ≡ k → literalAt t at ≡ saidBy t at k
   unfolding literalAt
-  boolean-at e = rw e
-
-  pub negated-at : big t at 1 ≡ 1 → literalAt t at ≡ record { value = isFalse (big t (at + 1) 2); next = at + 3 }
-  unfolding literalAt
-  negated-at e = rw e
-
-  pub comparison-at : 2 ≤ big t at 1 → literalAt t at ≡ record { value = atMost (comparisonAt t (at + 1) (constantAt t (at + 1))); next = at + 6 + 3 * big t (at + 1) 1 }
-  unfolding literalAt
-  comparison-at h = go (big t at 1) h
-    where
-      go : (k : ℕ) → 2 ≤ k → ofKind t at k ≡ record { value = atMost (comparisonAt t (at + 1) (constantAt t (at + 1))); next = at + 6 + 3 * big t (at + 1) 1 }
-      go zero h = absurd (omega arith)
-      go (suc zero) h = absurd (omega arith)
-      go (suc (suc k)) h = refl
+  literal-said e = rw e
 
   -- a literal that was read
   module _ (ctx : Context) where
@@ -107,16 +93,16 @@ module _ (t : List ℕ) (at : ℕ) where
         let n : at + 1 + 2 ≡ at + 3 = omega arith in
         record {
           same = ap₂ (λ b n. record { value = l b; next = n }) (sym v) n ∙ sym i;
-          there = record { kind = h; known = omega arith; few = λ c. absurd (omega arith); room = omega (arith, ap (λ g. g .next) i) };
+          there = record { kind = h; known = omega arith; few = λ c. absurd (omega (arith, e)); room = omega (arith, ap (λ g. g .next) i) };
           good = g;
         }
 
     stand-read : (l : Literal) (next : ℕ) → GoodLiteral (ctx .ints) (ctx .bools) l → Stand t at (literalFields l) next → LiteralRead (record { value = l; next = next })
-    stand-read (isTrue b) next g (more h k s) = boolean-read 0 b next isTrue g (omega arith) k (boolean-at k) h s
-    stand-read (isFalse b) next g (more h k s) = boolean-read 1 b next isFalse g (omega arith) k (negated-at k) h s
+    stand-read (isTrue b) next g (more h k s) = boolean-read 0 b next isTrue g (omega arith) k (literal-said k) h s
+    stand-read (isFalse b) next g (more h k s) = boolean-read 1 b next isFalse g (omega arith) k (literal-said k) h s
     stand-read (atMost q) next g (more h k s) =
         let r = comparison-stand (ctx .ints) t (at + 1) q next g s in
-        let i = comparison-at (omega (arith, k)) in
+        let i = literal-said k in
         let n : next ≡ at + 6 + 3 * big t (at + 1) 1 = omega (arith, r .next) in
         record {
           same = rw (n, i, ← r .terms, ← r .constant);

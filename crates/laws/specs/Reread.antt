@@ -137,7 +137,6 @@ abbrev pub comparisonAt : List ℕ → ℕ → ℤ → Comparison
 comparisonAt s at constant = record { terms = termsAt s at; constant = constant }
 
 pub record ComparisonRead (s : List ℕ) (at : ℕ) (q : Comparison) (end : ℕ) : Type 0 where
-  pub some : 1 ≤ big s at 1
   pub few : big s at 1 ≤ 3
   pub terms : q .terms ≡ termsAt s at
   pub constant : q .constant ≡ twos 4 (big s (at + 1 + 3 * big s at 1) 4)
@@ -159,7 +158,6 @@ module _ (ints : ℕ) (s : List ℕ) (at : ℕ) (q : Comparison) where
       → mid ≡ at + 1 + 3 * length (q .terms) → Stand s mid (integer 4 (q .constant) ∷ []) end → ComparisonRead s at q end
   unfolding termsAt
   comparison-end mid end g n t m (more h k none) = record {
-    some = omega (arith, n, g .some);
     few = omega (arith, n, g .few);
     terms = t ∙ ap (row (termAt s) 3 (at + 1)) (sym n);
     constant = rw (n, ← m) (sym k);

@@ -5,9 +5,9 @@ use crate::Share;
 use crate::Totals;
 use crate::pieces::share_of;
 use opening::Header;
-use rules::Stepped;
+use rules::Ahead;
+use rules::next_piece;
 use rules::start;
-use rules::step;
 use slots::variables::first_number;
 ghost use mathlib.Core.Path.{_≡_};
 ghost use mathlib.Core.List.{[]};
@@ -43,18 +43,11 @@ fn rules_share(bytes: &[u8], clauses: usize, rules: &[u8]) -> Share
     };
     let mut cursor = start(clauses);
     loop {
-        match step(rules, cursor) {
-            Stepped::Met(piece, next) => {
-                total = added(total, share_of(bytes, rules, piece));
-                cursor = next;
-            }
-            Stepped::Passed(next) => {
-                cursor = next;
-            }
-            Stepped::End => {
-                return total;
-            }
-        }
+        let Ahead::Met(piece, next) = next_piece(rules, cursor) else {
+            return total;
+        };
+        total = added(total, share_of(bytes, rules, piece));
+        cursor = next;
     }
 }
 

@@ -13,6 +13,7 @@ use Rattle.laws.specs.Again.{literalsAt}
 use Rattle.laws.specs.Ahead.{Readable, coming}
 use Rattle.rules.specs.declared.Cursor.{Cursor}
 use Rattle.rules.specs.declared.Piece as code
+use Rattle.rules.specs.declared.Ahead.{Ahead}
 use Rattle.rules.specs.declared.Stepped.{Stepped}
 
 abbrev pub atStart : ℕ → Cursor
@@ -78,22 +79,26 @@ module _ (ctx : Context) (t : List ℕ) where
   Went c (Stepped.Passed c′) = Passes c c′
   Went c Stepped.End = comingAt t c ≡ []
 
-  module _ (c : Cursor) {r : Stepped} (w : Went c r) where
-    pub meets : {p : code.Piece} {c′ : Cursor} → r ≡ Stepped.Met p c′ → Meets c p c′
-    unfolding Went
+  -- the next piece
+  unfoldable pub Came : Cursor → Ahead → Type 0
+  Came c (Ahead.Met p c′) = Meets c p c′
+  Came c Ahead.Nothing = comingAt t c ≡ []
+
+  module _ (c : Cursor) {r : Ahead} (w : Came c r) where
+    pub meets : {p : code.Piece} {c′ : Cursor} → r ≡ Ahead.Met p c′ → Meets c p c′
+    unfolding Came
     meets e = rw e at w
 
-    pub passes : {c′ : Cursor} → r ≡ Stepped.Passed c′ → Passes c c′
-    unfolding Went
-    passes e = rw e at w
-
-    pub ends : r ≡ Stepped.End → comingAt t c ≡ []
-    unfolding Went
+    pub ends : r ≡ Ahead.Nothing → comingAt t c ≡ []
+    unfolding Came
     ends e = rw e at w
 
--- a step needs not know the context, and what it says is so in each
+-- a pass needs not know the context, and what it tells is so in each
 abbrev pub Steady : List ℕ → Cursor → Type 0
 Steady t c = (ctx : Context) × Sound ctx t c
 
 abbrev pub Steps : List ℕ → Cursor → Stepped → Type 0
 Steps t c r = (ctx : Context) → Sound ctx t c → Went ctx t c r
+
+abbrev pub Comes : List ℕ → Cursor → Ahead → Type 0
+Comes t c r = (ctx : Context) → Sound ctx t c → Came ctx t c r

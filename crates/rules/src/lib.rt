@@ -3,7 +3,7 @@ ghost use mathlib.Core.Path.{_≡_};
 ghost use Prim.Native.Nat.{_<_};
 ghost use Rattle.laws.specs.Again.{There, literalsAt};
 ghost use Rattle.laws.specs.Pieces.{lone};
-ghost use Rattle.rules.specs.Cursors.{Steady, Steps, atStart, behind, within};
+ghost use Rattle.rules.specs.Cursors.{Steady, Steps, Comes, atStart, behind, within};
 use fields::plain;
 use reader::Literal;
 use reader::rereading::literal_again;
@@ -40,6 +40,12 @@ pub enum Piece {
         place: usize,
         constant: i32,
     },
+}
+
+// The next piece of the rules and where the pass stands behind it.
+pub enum Ahead {
+    Met(Piece, Cursor),
+    Nothing,
 }
 
 // A step comes to a piece, or past something that has none, or to the end.
@@ -155,7 +161,7 @@ fn into_clause(rules: &[u8], c: Cursor) -> Stepped
 }
 
 // One step of a pass: to the next piece, or past a literal or a clause's count that begins none.
-pub fn step(rules: &[u8], c: Cursor) -> Stepped
+fn step(rules: &[u8], c: Cursor) -> Stepped
     requires { ⌜ Steady (now rules) c ⌝ }
     ensures { λ r. ⌜ Steps (now (rules .entry)) c r ⌝ }
 {
@@ -166,4 +172,25 @@ pub fn step(rules: &[u8], c: Cursor) -> Stepped
         return into_clause(rules, c);
     }
     Stepped::End
+}
+
+// The next piece at or behind the cursor.
+pub fn next_piece(rules: &[u8], cursor: Cursor) -> Ahead
+    requires { ⌜ Steady (now rules) cursor ⌝ }
+    ensures { λ r. ⌜ Comes (now (rules .entry)) cursor r ⌝ }
+{
+    let mut at = cursor;
+    loop {
+        match step(rules, at) {
+            Stepped::Met(piece, behind) => {
+                return Ahead::Met(piece, behind);
+            }
+            Stepped::Passed(behind) => {
+                at = behind;
+            }
+            Stepped::End => {
+                return Ahead::Nothing;
+            }
+        }
+    }
 }

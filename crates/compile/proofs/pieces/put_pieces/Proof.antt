@@ -9,8 +9,8 @@ use Rattle.laws.specs.Boards.{boardOf}
 use Rattle.laws.specs.Reread.{contextOf}
 use Rattle.laws.specs.Pieces.{piecesFrom}
 use Rattle.laws.specs.Written.{rest-length}
-use Rattle.laws.specs.Filling.{Filling, begin, room-before, room, room-for, next, part, ended}
-use Rattle.rules.specs.Cursors.{saidPiece, Sound, comingAt, todo, Meets, Passes, meets, passes, ends}
+use Rattle.laws.specs.Filling.{Filling, begin, room-before, room, room-for, part, ended}
+use Rattle.rules.specs.Cursors.{saidPiece, Sound, comingAt, todo, Meets, meets, ends}
 use Rattle.rules.specs.Known.{starts, all-coming}
 use Rattle.compile.specs.Lists.{pieceNumbers, piecesNumbers, pieces-end}
 use Rattle.compile.proofs.Passes.{numbers-met}
@@ -34,18 +34,10 @@ module _ (p : tie.After-piece Inv-loop μ-loop) where
   s = p .before .before .before .before .before .before .before .before
 
   met : Meets (contextOf (B s)) (s .args .rules .now) (p .before .before .before .loop .cursor) (p .piece .given .0 .0) (p .piece .given .0 .1 .0)
-  met = meets _ _ _ (p .before .before .step .ensures _ (p .before .before .before .loop .inv .0)) (p .piece .given .1)
+  met = meets _ _ _ (p .before .before .next-piece .ensures _ (p .before .before .before .loop .inv .0)) (p .piece .given .1)
 
   its-room : p .before .before .before .loop .at + length (pieceNumbers (B s) (saidPiece (s .args .rules .now) (p .piece .given .0 .0))) ≤ length (p .before .before .before .loop .list)
   its-room = room-for (p .before .before .before .loop .inv .1) (pieceNumbers (B s) (saidPiece (s .args .rules .now) (p .piece .given .0 .0))) (piecesNumbers (B s) (comingAt (s .args .rules .now) (p .piece .given .0 .1 .0))) (numbers-met (B s) met)
-
--- nothing was met
-module _ (p : tie.After-next Inv-loop μ-loop) where
-  abbrev start : tie.Start Inv-loop μ-loop
-  start = p .before .before .before .before .before .before .before .before
-
-  passed : Passes (contextOf (B start)) (start .args .rules .now) (p .before .before .before .loop .cursor) (p .next .given .0 .0)
-  passed = passes _ _ _ (p .before .before .step .ensures _ (p .before .before .before .loop .inv .0)) (p .next .given .1)
 
 start-requires : tie.Need-start-requires Inv-loop μ-loop
 start-requires c κs = search needs
@@ -55,11 +47,23 @@ loop-holds c =
     let s = c .before .before .before .before in
     rw (c .start .ensures) (starts (s .pre .0) (s .pre .2), begin _ _ _ (ap (piecesNumbers (B s)) (all-coming (s .pre .0) (s .pre .2))) (s .pre .4))
 
-step-requires : tie.Need-step-requires Inv-loop μ-loop
-step-requires c κs = (_, c .loop .inv .0)
+next-piece-requires : tie.Need-next-piece-requires Inv-loop μ-loop
+next-piece-requires c κs = (_, c .loop .inv .0)
 
 enum-known-piece : tie.Need-enum-known-piece Inv-loop μ-loop
 enum-known-piece c = search needs
+
+enum-told : tie.Need-enum-told Inv-loop μ-loop
+enum-told c = search needs
+
+same-length : tie.Need-same-length Inv-loop μ-loop
+same-length c = c .before .before .before .loop .inv .1 .long
+
+returns : tie.Need-returns Inv-loop μ-loop
+returns c =
+    let s = c .before .before .before .before .before .before .before .before in
+    let here = c .before .before .before .loop in
+    ended (here .inv .1) (ap (piecesNumbers (B s)) (ends _ _ _ (c .before .before .next-piece .ensures _ (here .inv .0)) (c .enum-told .given .1)) ∙ pieces-end (B s))
 
 mul-put-piece : tie.Need-mul-put-piece Inv-loop μ-loop
 mul-put-piece c =
@@ -100,29 +104,6 @@ loop-again c =
     let p = c .before .before .before .before in
     (met p .onward .sound, part (p .before .before .before .loop .inv .1) _ _ (numbers-met (B (s p)) (met p)) _ _ (c .before .put-piece .ensures .0) (c .before .put-piece .ensures .1))
 
-enum-known-next : tie.Need-enum-known-next Inv-loop μ-loop
-enum-known-next c = search needs
-
-loop-less-2 : tie.Need-loop-less-2 Inv-loop μ-loop
-loop-less-2 c = passed (c .before) .onward .less
-
-loop-again-2 : tie.Need-loop-again-2 Inv-loop μ-loop
-loop-again-2 c =
-    let p = c .before in
-    (passed p .onward .sound, next (p .before .before .before .loop .inv .1) (ap (piecesNumbers (B (start p))) (passed p .same)))
-
-enum-told : tie.Need-enum-told Inv-loop μ-loop
-enum-told c = search needs
-
-same-length : tie.Need-same-length Inv-loop μ-loop
-same-length c = c .before .before .before .loop .inv .1 .long
-
-returns : tie.Need-returns Inv-loop μ-loop
-returns c =
-    let s = c .before .before .before .before .before .before .before .before in
-    let here = c .before .before .before .loop in
-    ended (here .inv .1) (ap (piecesNumbers (B s)) (ends _ _ _ (c .before .before .step .ensures _ (here .inv .0)) (c .enum-told .given .1)) ∙ pieces-end (B s))
-
 pub put-pieces-spec : {M : Type 1} → statement M
 put-pieces-spec =
     tie.close
@@ -131,8 +112,11 @@ put-pieces-spec =
     μ-loop
     start-requires
     loop-holds
-    step-requires
+    next-piece-requires
     enum-known-piece
+    enum-told
+    same-length
+    returns
     mul-put-piece
     sub-put-piece
     part-put-piece-start
@@ -140,10 +124,4 @@ put-pieces-spec =
     put-piece-requires
     add-at
     loop-less
-    loop-again
-    enum-known-next
-    loop-less-2
-    loop-again-2
-    enum-told
-    same-length
-    returns)
+    loop-again)

@@ -6,11 +6,10 @@ use Rattle.definitions.specs.Board.{Board}
 use Rattle.definitions.specs.Reading.{Context}
 use Rattle.laws.specs.Boards.{boardOf}
 use Rattle.laws.specs.Reread.{contextOf}
-use Rattle.rules.specs.Cursors.{Meets, todo}
+use Rattle.rules.specs.Cursors.{Came, Meets, meets, ends, todo}
 use Rattle.walk.specs.Comparisons.{toCome}
 use Rattle.opening.specs.Headers.{clauses-is}
 use Rattle.decode.specs.Given.{short}
-use Rattle.decode.specs.Next.{Came, came-met, came-none}
 use Rattle.decode.specs.Passes.{Passing, Walks, passing-start, passing-end, sound-next, passed-room, walks-start, walks-end, walks-at, walks-next, walks-less, walks-numbered, walks-stop, walks-room}
 use Rattle.decode.proofs.search.search_rules.Statement.{statement}
 use Rattle.decode.proofs.search.search_rules.Tie as tie
@@ -54,7 +53,7 @@ module _ (c : tie.After-piece Inv-loop μ-loop Inv-search μ-search) where
   passing = stepped .before .search .inv
 
   met : Meets (ctx started) (started .args .rules .now) (stepped .before .search .cursor) (c .piece .given .0 .0) (c .piece .given .0 .1 .0)
-  met = came-met (ctx started) (started .args .rules .now) (stepped .before .search .cursor) (came stepped) (c .piece .given .1)
+  met = meets (ctx started) (started .args .rules .now) (stepped .before .search .cursor) (came stepped) (c .piece .given .1)
 
 -- a tuple of it is at hand
 module _ (c : tie.After-here Inv-loop μ-loop Inv-search μ-search) where
@@ -128,7 +127,7 @@ search-again : tie.Need-search-again Inv-loop μ-loop Inv-search μ-search
 search-again c = let p = c .before .before .before .before .before .before .before .before in walks-end (c .before .before .loop .inv) (c .enum-told2 .given .1) (sound-next (passing p) _ (met p .comes) .1) (met p .onward .sound)
 
 returns : tie.Need-returns Inv-loop μ-loop Inv-search μ-search
-returns c = let n = c .before .before in let s = begun n in passing-end (n .before .search .inv) (came-none (ctx s) (s .args .rules .now) (n .before .search .cursor) (came n) (c .enum-told .given .1))
+returns c = let n = c .before .before in let s = begun n in passing-end (n .before .search .inv) (ends (ctx s) (s .args .rules .now) (n .before .search .cursor) (came n) (c .enum-told .given .1))
 
 returns-2 : tie.Need-returns-2 Inv-loop μ-loop Inv-search μ-search
 returns-2 c = let h = c .before .before .before .before .before .before in walks-stop (walks h) (h .here .given .1) _ (c .before .before .before .before .after-row .ensures) (c .before .before .before .search-row .ensures) (c .before .failing .given .1)

@@ -11,8 +11,8 @@ use Rattle.laws.specs.Fits.{good-constant}
 use Rattle.laws.specs.Reread.{Stands}
 use Rattle.laws.specs.Filling.{Filling, begin, room, next, one, ended}
 use Rattle.rules.specs.declared.Piece.{Piece}
-use Rattle.rules.specs.Cursors.{Held, atStart, todo, Meets, Passes, meets, passes, ends}
-use Rattle.image.specs.Parts.{bit, selectorBytes, ledIn}
+use Rattle.rules.specs.Cursors.{Held, atStart, todo, Meets, meets, ends}
+use Rattle.image.specs.Parts.{bit}
 use Rattle.image.specs.Selectors.{Passing}
 use Rattle.image.proofs.Selections.{the-next, onto, coming, coming-length, bytesOf, bytes-met, none-coming}
 use Rattle.image.proofs.selectors.put_led.Statement.{statement}
@@ -35,7 +35,7 @@ module _ (q : tie.After-piece Inv-loop μ-loop) where
   s = q .before .before .before .before .before .before .before
 
   met : Meets (q .before .before .before .loop .inv .0 .ctx) (s .args .rules .now) (q .before .before .before .loop .cursor) (q .piece .given .0 .0) (q .piece .given .0 .1 .0)
-  met = meets _ _ _ (q .before .before .step .ensures _ (q .before .before .before .loop .inv .0 .sound)) (q .piece .given .1)
+  met = meets _ _ _ (q .before .before .next-piece .ensures _ (q .before .before .before .loop .inv .0 .sound)) (q .piece .given .1)
 
   onward : Passing (s .args .rules .now) (s .args .values .now) (q .piece .given .0 .1 .0)
   onward = onto (q .before .before .before .loop .inv .0) (met .onward)
@@ -51,14 +51,6 @@ module _ (p : tie.After-piece2 Inv-loop μ-loop) where
   stands : Stands (length (s q .args .values .now)) (s q .args .rules .now) (p .piece2 .given .0 .1 .0) (p .piece2 .given .0 .1 .1 .0)
   stands = rw (q .before .before .before .loop .inv .0 .ints) (subst (Held (q .before .before .before .loop .inv .0 .ctx) (s q .args .rules .now)) (p .piece2 .given .1) (met q .held))
 
--- nothing was met
-module _ (q : tie.After-next Inv-loop μ-loop) where
-  abbrev start : tie.Start Inv-loop μ-loop
-  start = q .before .before .before .before .before .before .before
-
-  passed : Passes (q .before .before .before .loop .inv .0 .ctx) (start .args .rules .now) (q .before .before .before .loop .cursor) (q .next .given .0 .0)
-  passed = passes _ _ _ (q .before .before .step .ensures _ (q .before .before .before .loop .inv .0 .sound)) (q .next .given .1)
-
 start-requires : tie.Need-start-requires Inv-loop μ-loop
 start-requires c κs = search needs
 
@@ -67,11 +59,24 @@ loop-holds c =
     let s = c .before .before .before in
     rw (c .start .ensures) (s .pre .0, begin _ _ _ refl (omega (arith, s .pre .2, coming-length (a s) (s .args .rules .now) (atStart (s .args .clauses)))))
 
-step-requires : tie.Need-step-requires Inv-loop μ-loop
-step-requires c κs = (_, c .loop .inv .0 .sound)
+next-piece-requires : tie.Need-next-piece-requires Inv-loop μ-loop
+next-piece-requires c κs = (_, c .loop .inv .0 .sound)
 
 enum-known-piece : tie.Need-enum-known-piece Inv-loop μ-loop
 enum-known-piece c = search needs
+
+enum-told : tie.Need-enum-told Inv-loop μ-loop
+enum-told c = search needs
+
+same-length : tie.Need-same-length Inv-loop μ-loop
+same-length c = c .before .before .before .loop .inv .1 .long
+
+returns : tie.Need-returns Inv-loop μ-loop
+returns c =
+    let l = c .before .before .before .loop in
+    let s = c .before .before .before .before .before .before .before in
+    let e = ended (l .inv .1) (none-coming (a s) _ _ (ends _ _ _ (c .before .before .next-piece .ensures _ (l .inv .0 .sound)) (c .enum-told .given .1))) in
+    (e .0 ∙ coming-length (a s) (s .args .rules .now) (atStart (s .args .clauses)), e .1)
 
 enum-known-piece-2 : tie.Need-enum-known-piece-2 Inv-loop μ-loop
 enum-known-piece-2 c = search needs
@@ -103,8 +108,8 @@ loop-again c =
     let f = good-constant (stands p .good) in
     (onward (q p), one (q p .before .before .before .loop .inv .1) _ _ (the-next (bytes (q p) (p .piece2 .given .1)) (c .bit .ensures ∙ ap bit (rw (toZ-ofZ f) at (c .before .compares .ensures)))))
 
-enum-told : tie.Need-enum-told Inv-loop μ-loop
-enum-told c = search needs
+enum-told-2 : tie.Need-enum-told-2 Inv-loop μ-loop
+enum-told-2 c = search needs
 
 loop-less-2 : tie.Need-loop-less-2 Inv-loop μ-loop
 loop-less-2 c = met (c .before .before .before) .onward .less
@@ -112,10 +117,10 @@ loop-less-2 c = met (c .before .before .before) .onward .less
 loop-again-2 : tie.Need-loop-again-2 Inv-loop μ-loop
 loop-again-2 c =
     let q = c .before .before .before in
-    (onward q, next (q .before .before .before .loop .inv .1) (bytes q (c .enum-told .given .1)))
+    (onward q, next (q .before .before .before .loop .inv .1) (bytes q (c .enum-told2 .given .1)))
 
-enum-told-2 : tie.Need-enum-told-2 Inv-loop μ-loop
-enum-told-2 c = search needs
+enum-told-3 : tie.Need-enum-told-3 Inv-loop μ-loop
+enum-told-3 c = search needs
 
 loop-less-3 : tie.Need-loop-less-3 Inv-loop μ-loop
 loop-less-3 c = met (c .before .before .before) .onward .less
@@ -123,32 +128,7 @@ loop-less-3 c = met (c .before .before .before) .onward .less
 loop-again-3 : tie.Need-loop-again-3 Inv-loop μ-loop
 loop-again-3 c =
     let q = c .before .before .before in
-    (onward q, next (q .before .before .before .loop .inv .1) (bytes q (c .enum-told2 .given .1)))
-
-enum-known-next : tie.Need-enum-known-next Inv-loop μ-loop
-enum-known-next c = search needs
-
-loop-less-4 : tie.Need-loop-less-4 Inv-loop μ-loop
-loop-less-4 c = passed (c .before) .onward .less
-
-loop-again-4 : tie.Need-loop-again-4 Inv-loop μ-loop
-loop-again-4 c =
-    let l = c .before .before .before .before .loop in
-    let w = passed (c .before) in
-    (onto (l .inv .0) (w .onward), next (l .inv .1) (ap (λ ps. selectorBytes (a (start (c .before))) (ledIn ps)) (w .same)))
-
-enum-told-3 : tie.Need-enum-told-3 Inv-loop μ-loop
-enum-told-3 c = search needs
-
-same-length : tie.Need-same-length Inv-loop μ-loop
-same-length c = c .before .before .before .loop .inv .1 .long
-
-returns : tie.Need-returns Inv-loop μ-loop
-returns c =
-    let l = c .before .before .before .loop in
-    let s = c .before .before .before .before .before .before .before in
-    let e = ended (l .inv .1) (none-coming (a s) _ _ (ends _ _ _ (c .before .before .step .ensures _ (l .inv .0 .sound)) (c .enum-told3 .given .1))) in
-    (e .0 ∙ coming-length (a s) (s .args .rules .now) (atStart (s .args .clauses)), e .1)
+    (onward q, next (q .before .before .before .loop .inv .1) (bytes q (c .enum-told3 .given .1)))
 
 pub put-led-spec : {M : Type 1} → statement M
 put-led-spec =
@@ -158,8 +138,11 @@ put-led-spec =
     μ-loop
     start-requires
     loop-holds
-    step-requires
+    next-piece-requires
     enum-known-piece
+    enum-told
+    same-length
+    returns
     enum-known-piece-2
     compares-requires
     bit-requires
@@ -167,15 +150,9 @@ put-led-spec =
     add-at
     loop-less
     loop-again
-    enum-told
+    enum-told-2
     loop-less-2
     loop-again-2
-    enum-told-2
-    loop-less-3
-    loop-again-3
-    enum-known-next
-    loop-less-4
-    loop-again-4
     enum-told-3
-    same-length
-    returns)
+    loop-less-3
+    loop-again-3)

@@ -1,10 +1,10 @@
 -- `judge::clauses::first_failing` meets its contract: the search among the clauses that are coming answers what the whole search does.
-use mathlib.Core.Path.{_≡_, sym, _∙_}
+use mathlib.Core.Path.{sym, _∙_}
 use native.Mathlib.Omega.{arith}
 use borrow.Author.Needs.{needs}
-use Rattle.rules.specs.Cursors.{todo, Meets, Passes, meets, passes, ends}
+use Rattle.rules.specs.Cursors.{todo, Meets, meets, ends}
 use Rattle.judge.proofs.Bounded.{denied}
-use Rattle.judge.proofs.Passing.{Seeking, seek-start, piece-suits, number-most, seek-fails, seek-on, seek-passed, seek-none}
+use Rattle.judge.proofs.Passing.{Seeking, seek-start, piece-suits, number-most, seek-fails, seek-on, seek-none}
 use Rattle.judge.proofs.clauses.first_failing.Statement.{statement}
 use Rattle.judge.proofs.clauses.first_failing.Tie as tie
 
@@ -23,15 +23,7 @@ module _ (p : tie.After-piece Inv-loop μ-loop) where
   seeking = p .before .before .before .loop .inv
 
   met : Meets (seeking .suiting .ctx) (s .args .rules .now) (p .before .before .before .loop .cursor) (p .piece .given .0 .0) (p .piece .given .0 .1 .0)
-  met = meets _ _ _ (p .before .before .step .ensures _ (seeking .suiting .such)) (p .piece .given .1)
-
--- nothing was met
-module _ (p : tie.After-next Inv-loop μ-loop) where
-  abbrev begun : tie.Start Inv-loop μ-loop
-  begun = p .before .before .before .before .before .before .before
-
-  passed : Passes (p .before .before .before .loop .inv .suiting .ctx) (begun .args .rules .now) (p .before .before .before .loop .cursor) (p .next .given .0 .0)
-  passed = passes _ _ _ (p .before .before .step .ensures _ (p .before .before .before .loop .inv .suiting .such)) (p .next .given .1)
+  met = meets _ _ _ (p .before .before .next-piece .ensures _ (seeking .suiting .such)) (p .piece .given .1)
 
 start-requires : tie.Need-start-requires Inv-loop μ-loop
 start-requires c κs = search needs
@@ -39,17 +31,25 @@ start-requires c κs = search needs
 loop-holds : tie.Need-loop-holds Inv-loop μ-loop
 loop-holds c = rw (c .start .ensures) (seek-start _ _ _ _ (c .before .before .before .pre))
 
-step-requires : tie.Need-step-requires Inv-loop μ-loop
-step-requires c κs = (_, c .loop .inv .suiting .such)
+next-piece-requires : tie.Need-next-piece-requires Inv-loop μ-loop
+next-piece-requires c κs = (_, c .loop .inv .suiting .such)
 
 enum-known-piece : tie.Need-enum-known-piece Inv-loop μ-loop
 enum-known-piece c = search needs
 
+enum-told : tie.Need-enum-told Inv-loop μ-loop
+enum-told c = search needs
+
+returns : tie.Need-returns Inv-loop μ-loop
+returns c =
+    let l = c .before .before .before .loop in
+    seek-none (l .inv) (ends _ _ _ (c .before .before .next-piece .ensures _ (l .inv .suiting .such)) (c .enum-told .given .1))
+
 piece-holds-requires : tie.Need-piece-holds-requires Inv-loop μ-loop
 piece-holds-requires c κs = let p = c .before in piece-suits (seeking p) (met p)
 
-returns : tie.Need-returns Inv-loop μ-loop
-returns c = let p = c .before .before .before in seek-fails (seeking p) (met p) (sym (denied (c .if1 .taken)) ∙ c .before .piece-holds .ensures)
+returns-2 : tie.Need-returns-2 Inv-loop μ-loop
+returns-2 c = let p = c .before .before .before in seek-fails (seeking p) (met p) (sym (denied (c .if1 .taken)) ∙ c .before .piece-holds .ensures)
 
 clauses-in-requires : tie.Need-clauses-in-requires Inv-loop μ-loop
 clauses-in-requires c κs = search needs
@@ -65,23 +65,6 @@ loop-again c =
     let p = c .before .before .before .before in
     rw (c .clauses-in .ensures) (seek-on (seeking p) (met p) (sym (denied (c .before .if1 .left)) ∙ c .before .before .piece-holds .ensures))
 
-enum-known-next : tie.Need-enum-known-next Inv-loop μ-loop
-enum-known-next c = search needs
-
-loop-less-2 : tie.Need-loop-less-2 Inv-loop μ-loop
-loop-less-2 c = passed (c .before) .onward .less
-
-loop-again-2 : tie.Need-loop-again-2 Inv-loop μ-loop
-loop-again-2 c = seek-passed (c .before .before .before .before .loop .inv) (passed (c .before))
-
-enum-told : tie.Need-enum-told Inv-loop μ-loop
-enum-told c = search needs
-
-returns-2 : tie.Need-returns-2 Inv-loop μ-loop
-returns-2 c =
-    let l = c .before .before .before .loop in
-    seek-none (l .inv) (ends _ _ _ (c .before .before .step .ensures _ (l .inv .suiting .such)) (c .enum-told .given .1))
-
 pub first-failing-spec : {M : Type 1} → statement M
 first-failing-spec =
     tie.close
@@ -90,16 +73,13 @@ first-failing-spec =
     μ-loop
     start-requires
     loop-holds
-    step-requires
+    next-piece-requires
     enum-known-piece
-    piece-holds-requires
+    enum-told
     returns
+    piece-holds-requires
+    returns-2
     clauses-in-requires
     add-number
     loop-less
-    loop-again
-    enum-known-next
-    loop-less-2
-    loop-again-2
-    enum-told
-    returns-2)
+    loop-again)

@@ -1,5 +1,5 @@
 -- `judge::clauses::piece_holds` meets its contract.
-use mathlib.Core.Path.{_≡_, subst}
+use mathlib.Core.Path.{subst}
 use lib.ListN.{length}
 use mir.Facts.{toZ-ofZ}
 use borrow.Author.Needs.{needs}
@@ -7,7 +7,6 @@ use Rattle.definitions.specs.Meaning.{assigned, compares}
 use Rattle.laws.specs.Fits.{good-constant}
 use Rattle.laws.specs.Reread.{Stands}
 use Rattle.rules.specs.Cursors.{Held}
-use Rattle.judge.specs.Suited.{Suiting}
 use Rattle.judge.proofs.clauses.piece_holds.Statement.{statement}
 use Rattle.judge.proofs.clauses.piece_holds.Tie as tie
 

@@ -5,7 +5,7 @@ use Rattle.definitions.specs.Board.{boundsOf}
 use Rattle.laws.specs.Boards.{boardOf, opens-recorded}
 use Rattle.laws.specs.Reread.{contextOf}
 use Rattle.laws.specs.Pieces.{piecesFrom}
-use Rattle.rules.specs.Cursors.{saidPiece, Sound, comingAt, todo, Meets, Passes, meets, passes, ends}
+use Rattle.rules.specs.Cursors.{saidPiece, Sound, comingAt, todo, Meets, meets, ends}
 use Rattle.rules.specs.Known.{starts, all-coming}
 use Rattle.measure.specs.Shares.{Adding}
 use Rattle.measure.proofs.Shares.{none-added, still-adding, adding-more, next-fits, plus-fits}
@@ -25,18 +25,10 @@ module _ (p : tie.After-piece Inv-loop μ-loop) where
   s = p .before .before .before .before .before .before .before
 
   met : Meets (contextOf (boardOf (s .args .bytes .now))) (s .args .rules .now) (p .before .before .before .loop .cursor) (p .piece .given .0 .0) (p .piece .given .0 .1 .0)
-  met = meets _ _ _ (p .before .before .step .ensures _ (p .before .before .before .loop .inv .0)) (p .piece .given .1)
+  met = meets _ _ _ (p .before .before .next-piece .ensures _ (p .before .before .before .loop .inv .0)) (p .piece .given .1)
 
   adding : Adding (boundsOf (boardOf (s .args .bytes .now))) (piecesFrom 0 (boardOf (s .args .bytes .now) .clauses)) (saidPiece (s .args .rules .now) (p .piece .given .0 .0) ∷ comingAt (s .args .rules .now) (p .piece .given .0 .1 .0)) (p .before .before .before .loop .total)
   adding = still-adding _ _ (met .comes) (p .before .before .before .loop .inv .1)
-
--- nothing was met
-module _ (p : tie.After-next Inv-loop μ-loop) where
-  abbrev start : tie.Start Inv-loop μ-loop
-  start = p .before .before .before .before .before .before .before
-
-  passed : Passes (contextOf (boardOf (start .args .bytes .now))) (start .args .rules .now) (p .before .before .before .loop .cursor) (p .next .given .0 .0)
-  passed = passes _ _ _ (p .before .before .step .ensures _ (p .before .before .before .loop .inv .0)) (p .next .given .1)
 
 start-requires : tie.Need-start-requires Inv-loop μ-loop
 start-requires c κs = search needs
@@ -44,11 +36,19 @@ start-requires c κs = search needs
 loop-holds : tie.Need-loop-holds Inv-loop μ-loop
 loop-holds c = let p = c .before .before .before .pre in rw (c .start .ensures) (starts (p .0) (p .1), none-added _ _ (all-coming (p .0) (p .1)))
 
-step-requires : tie.Need-step-requires Inv-loop μ-loop
-step-requires c κs = (_, c .loop .inv .0)
+next-piece-requires : tie.Need-next-piece-requires Inv-loop μ-loop
+next-piece-requires c κs = (_, c .loop .inv .0)
 
 enum-known-piece : tie.Need-enum-known-piece Inv-loop μ-loop
 enum-known-piece c = search needs
+
+enum-told : tie.Need-enum-told Inv-loop μ-loop
+enum-told c = search needs
+
+returns : tie.Need-returns Inv-loop μ-loop
+returns c =
+    let l = c .before .before .before .loop in
+    still-adding _ _ (ends _ _ _ (c .before .before .next-piece .ensures _ (l .inv .0)) (c .enum-told .given .1)) (l .inv .1)
 
 share-of-requires : tie.Need-share-of-requires Inv-loop μ-loop
 share-of-requires c κs =
@@ -69,25 +69,6 @@ loop-again c =
     let p = c .before .before .before in
     (met p .onward .sound, rw (c .added .ensures) (adding-more _ _ _ _ _ _ (adding p) (c .before .share-of .ensures)))
 
-enum-known-next : tie.Need-enum-known-next Inv-loop μ-loop
-enum-known-next c = search needs
-
-loop-less-2 : tie.Need-loop-less-2 Inv-loop μ-loop
-loop-less-2 c = passed (c .before) .onward .less
-
-loop-again-2 : tie.Need-loop-again-2 Inv-loop μ-loop
-loop-again-2 c =
-    let w = passed (c .before) in
-    (w .onward .sound, still-adding _ _ (w .same) (c .before .before .before .before .loop .inv .1))
-
-enum-told : tie.Need-enum-told Inv-loop μ-loop
-enum-told c = search needs
-
-returns : tie.Need-returns Inv-loop μ-loop
-returns c =
-    let l = c .before .before .before .loop in
-    still-adding _ _ (ends _ _ _ (c .before .before .step .ensures _ (l .inv .0)) (c .enum-told .given .1)) (l .inv .1)
-
 pub rules-share-spec : {M : Type 1} → statement M
 rules-share-spec =
     tie.close
@@ -96,14 +77,11 @@ rules-share-spec =
     μ-loop
     start-requires
     loop-holds
-    step-requires
+    next-piece-requires
     enum-known-piece
+    enum-told
+    returns
     share-of-requires
     added-requires
     loop-less
-    loop-again
-    enum-known-next
-    loop-less-2
-    loop-again-2
-    enum-told
-    returns)
+    loop-again)

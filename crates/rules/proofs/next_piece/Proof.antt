@@ -1,10 +1,10 @@
--- `decode::search::next_piece` meets its contract.
+-- `rules::next_piece` meets its contract.
 use borrow.Author.Needs.{needs}
 use Rattle.definitions.specs.Reading.{Context}
 use Rattle.rules.specs.Cursors.{Sound, todo}
-use Rattle.decode.specs.Next.{Onto, onto-start, onto-met, onto-passed, onto-end}
-use Rattle.decode.proofs.search.next_piece.Statement.{statement}
-use Rattle.decode.proofs.search.next_piece.Tie as tie
+use Rattle.rules.proofs.Onto.{Onto, onto-start, onto-met, onto-passed, onto-end}
+use Rattle.rules.proofs.next_piece.Statement.{statement}
+use Rattle.rules.proofs.next_piece.Tie as tie
 
 abbrev Inv-loop : tie.InvT-loop
 Inv-loop rules at₀ at = (ctx : Context) → Sound ctx rules at₀ → Onto ctx rules at₀ at
