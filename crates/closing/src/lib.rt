@@ -16,7 +16,7 @@ pub fn closing(bytes: &[u8], variable: usize, replies: &[u8]) -> Hour
     ensures { λ r. ⌜ Allowed (now (bytes .entry)) variable (now (replies .entry)) r ⌝ }
 {
     match measure(bytes) {
-        Measured::Board(header, _) => match checked(header.ints, variable, replies) {
+        Measured::Accepted(header, _) => match checked(header.ints, variable, replies) {
             Verdict::Accepted => searched(bounds_of(bytes, variable), replies),
             Verdict::Refused(r) => Hour::Refused(r),
         },

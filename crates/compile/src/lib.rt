@@ -47,7 +47,7 @@ pub fn compile(bytes: &[u8], list: &mut [i32]) -> Sizing
     ensures { λ r. ⌜ Allowed (now (bytes .entry)) (now (list .entry)) r (now (list .exit)) ⌝ }
 {
     match measure(bytes) {
-        Measured::Board(header, totals) => {
+        Measured::Accepted(header, totals) => {
             if list.len() < totals.k {
                 Sizing::Unsized(Refusal::ListTooShort { wanted: totals.k })
             } else {

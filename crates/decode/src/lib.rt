@@ -84,7 +84,7 @@ pub fn decode(bytes: &[u8], model: &[u8], values: &mut [i32], booleans: &mut [u8
     ensures { λ r. ⌜ Allowed (now (bytes .entry)) (now (model .entry)) (now (values .entry)) (now (booleans .entry)) r (now (values .exit)) (now (booleans .exit)) ⌝ }
 {
     match measure(bytes) {
-        Measured::Board(header, totals) => {
+        Measured::Accepted(header, totals) => {
             read_back(bytes, model, header, totals.n, values, booleans)
         }
         Measured::Refused(r) => Verdict::Refused(r),

@@ -12,9 +12,9 @@ use walk::At;
 use walk::Comparison;
 use walk::Slot;
 use walk::Walk;
-use walk::tuples::first;
+use walk::tuples::first_tuple;
 use walk::tuples::least;
-use walk::tuples::literal_at;
+use walk::tuples::tuple_literal;
 ghost use mathlib.Core.Path.{_≡_};
 ghost use Prim.Native.Nat.{_+_, _<_};
 ghost use lib.ListN.{length};
@@ -173,7 +173,7 @@ pub fn walked(held: bool, tails: Comparison) -> At
     if held {
         return At::End;
     }
-    first(tails)
+    first_tuple(tails)
 }
 
 // Whether some literal of the present tuple holds.
@@ -183,7 +183,7 @@ pub fn tuple_holds(model: &[u8], tails: Comparison, tuple: Walk) -> bool
 {
     let mut i: usize = 0;
     while i < tails.n {
-        if holds(model, literal_at(tails, tuple, i)) {
+        if holds(model, tuple_literal(tails, tuple, i)) {
             return true;
         }
         i += 1;

@@ -10,7 +10,7 @@ use walk::rows::down;
 use walk::rows::row_length;
 use walk::rows::spot_at;
 use walk::rows::up;
-use walk::tuples::literal_at;
+use walk::tuples::tuple_literal;
 ghost use mathlib.Core.Path.{_≡_};
 ghost use mathlib.Core.List.{_∷_, [], map};
 ghost use Prim.Native.Nat.{_+_, _-_, _≤_, _<_};
@@ -62,7 +62,7 @@ fn front_holds(model: &[u8], tails: Comparison, tuple: Walk) -> bool
     if tails.n < 3 {
         return false;
     }
-    holds(model, literal_at(tails, tuple, 0))
+    holds(model, tuple_literal(tails, tuple, 0))
 }
 
 // The clauses of the present tuple's row. The literal of the first of three terms stays along it: where it holds, so do all.

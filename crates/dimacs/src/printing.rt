@@ -11,7 +11,7 @@ use answers::number_of;
 use compile::compile;
 use definitions::Refusal;
 use definitions::Sizing;
-use text::lines::put_line;
+use text::lines::put_text_line;
 use text::numbers::put_entries;
 
 // The head and the clauses.
@@ -19,7 +19,7 @@ fn put_cnf(n: u64, m: u64, clauses: &[i32], out: &mut [u8]) -> usize
     requires { ⌜ 64 + 22 * length (now clauses) ≤ length (now out) ⌝ }
     ensures { λ r. ⌜ Put (cnf n m (now (clauses .entry))) (now (out .entry)) r (now (out .exit)) ⌝ }
 {
-    let at = put_line(b"p cnf ", n, m, out);
+    let at = put_text_line(b"p cnf ", n, m, out);
     at + put_entries(clauses, &mut out[at..])
 }
 
@@ -27,7 +27,7 @@ fn put_refusal(r: Refusal, out: &mut [u8]) -> usize
     requires { ⌜ 64 ≤ length (now out) ⌝ }
     ensures { λ n. ⌜ Put (refusalLine r) (now (out .entry)) n (now (out .exit)) ⌝ }
 {
-    put_line(b"refused ", number_of(r), detail_of(r), out)
+    put_text_line(b"refused ", number_of(r), detail_of(r), out)
 }
 
 // The clauses stand in the first numbers of the list.

@@ -17,7 +17,7 @@ pub enum Signed {
 }
 
 // The number in `width` bytes that are there.
-pub fn plain(bytes: &[u8], at: usize, width: usize) -> u32
+pub fn unchecked(bytes: &[u8], at: usize, width: usize) -> u32
     requires { ⌜ (width ≤ 4) × (at + width ≤ length (now bytes)) ⌝ }
     ensures { λ r. ⌜ r ≡ big (now (bytes .entry)) at width ⌝ }
 {
@@ -42,7 +42,7 @@ pub fn unsigned_at(bytes: &[u8], at: usize, width: usize) -> Unsigned
         return Unsigned::Missing;
     }
     Unsigned::Value {
-        value: plain(bytes, at, width),
+        value: unchecked(bytes, at, width),
         next: at + width,
     }
 }
@@ -73,11 +73,11 @@ fn twos_complement(value: u32, width: usize) -> i32
 }
 
 // The number in `width` bytes that are there, as two's complement.
-pub fn plain_signed(bytes: &[u8], at: usize, width: usize) -> i32
+pub fn unchecked_signed(bytes: &[u8], at: usize, width: usize) -> i32
     requires { ⌜ (width ≤ 4) × (at + width ≤ length (now bytes)) ⌝ }
     ensures { λ r. ⌜ r ≡ twos width (big (now (bytes .entry)) at width) ⌝ }
 {
-    twos_complement(plain(bytes, at, width), width)
+    twos_complement(unchecked(bytes, at, width), width)
 }
 
 pub fn signed_at(bytes: &[u8], at: usize, width: usize) -> Signed

@@ -70,7 +70,7 @@ pub fn image(bytes: &[u8], values: &[i32], booleans: &[u8], model: &mut [u8]) ->
     ensures { λ r. ⌜ Allowed (now (bytes .entry)) (now (values .entry)) (now (booleans .entry)) (now (model .entry)) r (now (model .exit)) ⌝ }
 {
     match measure(bytes) {
-        Measured::Board(header, totals) => {
+        Measured::Accepted(header, totals) => {
             let verdict = checked(bytes, header, totals, values, booleans, model.len());
             if !is_accepted(verdict) {
                 return verdict;

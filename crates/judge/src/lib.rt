@@ -16,7 +16,7 @@ pub fn judge(bytes: &[u8], values: &[i32], booleans: &[u8]) -> Verdict
     ensures { λ r. ⌜ Allowed (now (bytes .entry)) (now (values .entry)) (now (booleans .entry)) r ⌝ }
 {
     match measure(bytes) {
-        Measured::Board(header, _) => match lengths(header, values, booleans) {
+        Measured::Accepted(header, _) => match lengths(header, values, booleans) {
             Verdict::Accepted => solved(bytes, header, values, booleans),
             Verdict::Refused(r) => Verdict::Refused(r),
         },

@@ -65,46 +65,46 @@ piecesFrom j (C ∷ Cs) =
     (compared (not (lone C)) j (comparisons C) ++ piecesFrom (j + used (not (lone C)) (length (comparisons C))) Cs)
 
 -- what is left of the rules within a clause: literals L, of which the comparisons have selectors from j or none, then clauses
-unfoldable pub left : Bool → ℕ → Clause → List Clause → List Piece
-left led j L Cs = compared led j (comparisons L) ++ piecesFrom (j + used led (length (comparisons L))) Cs
+unfoldable pub remaining : Bool → ℕ → Clause → List Clause → List Piece
+remaining led j L Cs = compared led j (comparisons L) ++ piecesFrom (j + used led (length (comparisons L))) Cs
 
 abbrev pub clausesIn : (ℕ → Bounds) → List Piece → List SatClause
 clausesIn of ps = flatten (map (pieceClauses of) ps)
 
 -- ---- a step within a clause, to the next clause, and the end
-pub left-bool : (led : Bool) (j b : ℕ) (L : Clause) (Cs : List Clause) → left led j (isTrue b ∷ L) Cs ≡ left led j L Cs
-unfolding left comparisons
-left-bool led j b L Cs = refl
+pub remaining-bool : (led : Bool) (j b : ℕ) (L : Clause) (Cs : List Clause) → remaining led j (isTrue b ∷ L) Cs ≡ remaining led j L Cs
+unfolding remaining comparisons
+remaining-bool led j b L Cs = refl
 
-pub left-negated : (led : Bool) (j b : ℕ) (L : Clause) (Cs : List Clause) → left led j (isFalse b ∷ L) Cs ≡ left led j L Cs
-unfolding left comparisons
-left-negated led j b L Cs = refl
+pub remaining-negated : (led : Bool) (j b : ℕ) (L : Clause) (Cs : List Clause) → remaining led j (isFalse b ∷ L) Cs ≡ remaining led j L Cs
+unfolding remaining comparisons
+remaining-negated led j b L Cs = refl
 
-pub left-selected : (j : ℕ) (q : Comparison) (L : Clause) (Cs : List Clause)
-    → left true j (atMost q ∷ L) Cs ≡ under (minus (selector j) ∷ []) q ∷ left true (suc j) L Cs
-unfolding left comparisons compared
-left-selected j q L Cs =
+pub remaining-selected : (j : ℕ) (q : Comparison) (L : Clause) (Cs : List Clause)
+    → remaining true j (atMost q ∷ L) Cs ≡ under (minus (selector j) ∷ []) q ∷ remaining true (suc j) L Cs
+unfolding remaining comparisons compared
+remaining-selected j q L Cs =
     let e : j + suc (length (comparisons L)) ≡ suc j + length (comparisons L) = omega arith in
     ap (λ n. under (minus (selector j) ∷ []) q ∷ (compared true (suc j) (comparisons L) ++ piecesFrom n Cs)) e
 
-pub left-lone : (j : ℕ) (q : Comparison) (L : Clause) (Cs : List Clause) → left false j (atMost q ∷ L) Cs ≡ under [] q ∷ left false j L Cs
-unfolding left comparisons compared
-left-lone j q L Cs = refl
+pub remaining-lone : (j : ℕ) (q : Comparison) (L : Clause) (Cs : List Clause) → remaining false j (atMost q ∷ L) Cs ≡ under [] q ∷ remaining false j L Cs
+unfolding remaining comparisons compared
+remaining-lone j q L Cs = refl
 
-pub left-clause : (led : Bool) (j : ℕ) (C : Clause) (Cs : List Clause)
-    → left led j [] (C ∷ Cs) ≡ opening (lone C) j C ++ left (not (lone C)) j C Cs
-unfolding left comparisons compared piecesFrom
-left-clause true j C Cs = ap (λ n. piecesFrom n (C ∷ Cs)) (add-zero j)
-left-clause false j C Cs = ap (λ n. piecesFrom n (C ∷ Cs)) (add-zero j)
+pub remaining-clause : (led : Bool) (j : ℕ) (C : Clause) (Cs : List Clause)
+    → remaining led j [] (C ∷ Cs) ≡ opening (lone C) j C ++ remaining (not (lone C)) j C Cs
+unfolding remaining comparisons compared piecesFrom
+remaining-clause true j C Cs = ap (λ n. piecesFrom n (C ∷ Cs)) (add-zero j)
+remaining-clause false j C Cs = ap (λ n. piecesFrom n (C ∷ Cs)) (add-zero j)
 
-pub left-none : (led : Bool) (j : ℕ) → left led j [] [] ≡ []
-unfolding left comparisons compared piecesFrom
-left-none led j = refl
+pub remaining-none : (led : Bool) (j : ℕ) → remaining led j [] [] ≡ []
+unfolding remaining comparisons compared piecesFrom
+remaining-none led j = refl
 
-pub left-start : (led : Bool) (Cs : List Clause) → left led 0 [] Cs ≡ piecesFrom 0 Cs
-unfolding left comparisons compared
-left-start true Cs = refl
-left-start false Cs = refl
+pub remaining-start : (led : Bool) (Cs : List Clause) → remaining led 0 [] Cs ≡ piecesFrom 0 Cs
+unfolding remaining comparisons compared
+remaining-start true Cs = refl
+remaining-start false Cs = refl
 
 -- ---- the record's clauses: each has a line, or is a lone comparison
 unfoldable pub clausesRecorded : List Piece → List Clause

@@ -18,9 +18,9 @@ pub one-outcome : (s : List ℕ) (r r′ : Measured) → Allowed s r → Allowed
 one-outcome s r r′ a a′ = told saidMeasured back is r r′ (a ∙ sym a′)
   where
     back : Result (Header × Totals) → Measured
-    back (done (header, totals)) = Measured.Board header totals
+    back (done (header, totals)) = Measured.Accepted header totals
     back (refused n d) = Measured.Refused (unsaid (n, d))
 
     is : (r : Measured) → back (saidMeasured r) ≡ r
-    is (Measured.Board header totals) = refl
+    is (Measured.Accepted header totals) = refl
     is (Measured.Refused r) = ap Measured.Refused (unsaid-said r)

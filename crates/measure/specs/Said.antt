@@ -29,5 +29,5 @@ abbrev pub measuredOf : Board → Header × Totals
 measuredOf B = (headerOf B, totalsOf B)
 
 abbrev pub saidMeasured : Measured → Result (Header × Totals)
-saidMeasured (Measured.Board header totals) = done (header, totals)
+saidMeasured (Measured.Accepted header totals) = done (header, totals)
 saidMeasured (Measured.Refused r) = refusal r

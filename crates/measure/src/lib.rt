@@ -40,7 +40,7 @@ pub struct Totals {
 }
 
 pub enum Measured {
-    Board(Header, Totals),
+    Accepted(Header, Totals),
     Refused(Refusal),
 }
 
@@ -52,10 +52,10 @@ pub fn measure(bytes: &[u8]) -> Measured
     ensures { λ r. ⌜ Allowed (now (bytes .entry)) r ⌝ }
 {
     match open(bytes) {
-        Opening::Board(header) => {
+        Opening::Opened(header) => {
             let totals = totals_of(bytes, header);
             if totals.k <= LONGEST {
-                Measured::Board(header, totals)
+                Measured::Accepted(header, totals)
             } else {
                 Measured::Refused(Refusal::ListTooLong)
             }

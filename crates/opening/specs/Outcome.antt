@@ -16,9 +16,9 @@ pub one-outcome : (s : List ℕ) (r r′ : Opening) → Allowed s r → Allowed 
 one-outcome s r r′ a a′ = told saidOpening back is r r′ (a ∙ sym a′)
   where
     back : Result Header → Opening
-    back (done header) = Opening.Board header
+    back (done header) = Opening.Opened header
     back (refused n d) = Opening.Refused (unsaid (n, d))
 
     is : (r : Opening) → back (saidOpening r) ≡ r
-    is (Opening.Board header) = refl
+    is (Opening.Opened header) = refl
     is (Opening.Refused r) = ap Opening.Refused (unsaid-said r)

@@ -40,5 +40,5 @@ abbrev pub contextIn : Header → Context
 contextIn h = record { version = h .version; ints = h .ints; bools = h .bools }
 
 abbrev pub saidOpening : Opening → Result Header
-saidOpening (Opening.Board header) = done header
+saidOpening (Opening.Opened header) = done header
 saidOpening (Opening.Refused r) = refusal r

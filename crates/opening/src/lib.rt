@@ -48,7 +48,7 @@ pub enum HeaderRead {
 
 // The same in 01's words.
 pub enum Opening {
-    Board(Header),
+    Opened(Header),
     Refused(Refusal),
 }
 
@@ -77,7 +77,7 @@ pub fn open(bytes: &[u8]) -> Opening
     let HeaderRead::Got(header) = read else {
         return Opening::Refused(refusal_of(of_header(read)));
     };
-    Opening::Board(header)
+    Opening::Opened(header)
 }
 
 // What the readers of clauses have to know of the record.

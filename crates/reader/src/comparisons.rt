@@ -47,7 +47,7 @@ fn is_repeated(rules: &[u8], first: usize, n: usize, variable: u32) -> bool
     let mut left = n;
     while 0 < left {
         left -= 1;
-        if fields::plain(rules, first + 3 * left + 1, 2) == variable {
+        if fields::unchecked(rules, first + 3 * left + 1, 2) == variable {
             return true;
         }
     }

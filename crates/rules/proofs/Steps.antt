@@ -10,7 +10,7 @@ use lib.IntN.{ℤ}
 use Rattle.definitions.specs.Board.{Clause}
 use Rattle.definitions.specs.Reading.{Context, big}
 use Rattle.laws.specs.Reread.{comparisonAt}
-use Rattle.laws.specs.Pieces.{lone, opening, left, left-bool, left-negated, left-selected, left-lone}
+use Rattle.laws.specs.Pieces.{lone, opening, remaining, remaining-bool, remaining-negated, remaining-selected, remaining-lone}
 use Rattle.laws.specs.Again.{There, literal-read, first-literal, literalsAt, clausesAt}
 use Rattle.laws.specs.Ahead.{Readable, coming, Past, past-literal, Into, into-clause, coming-none}
 use Rattle.reader.specs.declared.Literal.{Literal}
@@ -36,7 +36,7 @@ module _ (ctx : Context) (t : List ℕ) (c : Cursor) (s : Sound ctx t c) where
       onward j k = record { sound = record { readable = rw (a .next) (past .on); few = omega (arith, s .few); short = omega (arith, s .short) }; less = omega arith }
 
       these : {l : Literal} → r .literal ≡ l → coming t (c .led) (c .selector) (c .literals) (c .clauses) (c .place)
-          ≡ left (c .led) (c .selector) (literalOf t l ∷ literalsAt t (c .literals - 1) (r .next) .value) (clausesAt t (c .clauses) (literalsAt t (c .literals - 1) (r .next) .next) .value)
+          ≡ remaining (c .led) (c .selector) (literalOf t l ∷ literalsAt t (c .literals - 1) (r .next) .value) (clausesAt t (c .clauses) (literalsAt t (c .literals - 1) (r .next) .next) .value)
       these e = rw (← e, a .literal, a .next) (past .these (c .led) (c .selector))
 
       pub known : {l : Literal} → r .literal ≡ l → KnownLiteral t (ctx .ints) (ctx .bools) l
@@ -44,17 +44,17 @@ module _ (ctx : Context) (t : List ℕ) (c : Cursor) (s : Sound ctx t c) where
 
       pub goes-bool : {b : ℕ} → r .literal ≡ Literal.Boolean b → Went ctx t c (Stepped.Passed (behind c (r .next) (c .selector)))
       unfolding Went comingAt coming
-      goes-bool {b} e = record { same = these e ∙ left-bool (c .led) (c .selector) b _ _; onward = onward (c .selector) (omega arith) }
+      goes-bool {b} e = record { same = these e ∙ remaining-bool (c .led) (c .selector) b _ _; onward = onward (c .selector) (omega arith) }
 
       pub goes-negated : {b : ℕ} → r .literal ≡ Literal.Negated b → Went ctx t c (Stepped.Passed (behind c (r .next) (c .selector)))
       unfolding Went comingAt coming
-      goes-negated {b} e = record { same = these e ∙ left-negated (c .led) (c .selector) b _ _; onward = onward (c .selector) (omega arith) }
+      goes-negated {b} e = record { same = these e ∙ remaining-negated (c .led) (c .selector) b _ _; onward = onward (c .selector) (omega arith) }
 
       module _ {place : ℕ} {k : ℤ} (e : r .literal ≡ Literal.Comparison place k) where
         pub goes-led : c .led ≡ true → Went ctx t c (Stepped.Met (code.Piece.Led (c .selector) place k) (behind c (r .next) (c .selector + 1)))
         unfolding Went comingAt coming
         goes-led d = record {
-          comes = rw (add-one, d) (rw d at (these e) ∙ left-selected (c .selector) (comparisonAt t place k) _ _);
+          comes = rw (add-one, d) (rw d at (these e) ∙ remaining-selected (c .selector) (comparisonAt t place k) _ _);
           held = known e;
           onward = onward (c .selector + 1) (omega arith);
           few = omega (arith, s .few);
@@ -63,7 +63,7 @@ module _ (ctx : Context) (t : List ℕ) (c : Cursor) (s : Sound ctx t c) where
         pub goes-lone : c .led ≡ false → Went ctx t c (Stepped.Met (code.Piece.Lone place k) (behind c (r .next) (c .selector)))
         unfolding Went comingAt coming
         goes-lone d = record {
-          comes = rw d (rw d at (these e) ∙ left-lone (c .selector) (comparisonAt t place k) _ _);
+          comes = rw d (rw d at (these e) ∙ remaining-lone (c .selector) (comparisonAt t place k) _ _);
           held = known e;
           onward = onward (c .selector) (omega arith);
           few = omega arith;

@@ -4,7 +4,7 @@ ghost use Prim.Native.Nat.{_<_};
 ghost use Rattle.laws.specs.Again.{There, literalsAt};
 ghost use Rattle.laws.specs.Pieces.{lone};
 ghost use Rattle.rules.specs.Cursors.{Steady, Steps, Comes, atStart, behind, within};
-use fields::plain;
+use fields::unchecked;
 use reader::Literal;
 use reader::rereading::literal_again;
 
@@ -123,7 +123,7 @@ fn is_lone(rules: &[u8], n: usize, at: usize) -> bool
     if n != 1 {
         return false;
     }
-    plain(rules, at, 1) == COMPARISON
+    unchecked(rules, at, 1) == COMPARISON
 }
 
 // The cursor before the first literal of the next clause.
@@ -145,7 +145,7 @@ fn into_clause(rules: &[u8], c: Cursor) -> Stepped
     requires { ⌜ Steady (now rules) c × (c .literals ≡ 0) × (0 < c .clauses) ⌝ }
     ensures { λ r. ⌜ Steps (now (rules .entry)) c r ⌝ }
 {
-    let n = plain(rules, c.place, 1) as usize;
+    let n = unchecked(rules, c.place, 1) as usize;
     let next = c.place + 1;
     if is_lone(rules, n, next) {
         return Stepped::Passed(inside(c, next, n, false));

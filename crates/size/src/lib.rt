@@ -9,7 +9,7 @@ pub fn size(bytes: &[u8]) -> Sizing
     ensures { λ r. ⌜ Allowed (now (bytes .entry)) r ⌝ }
 {
     match measure(bytes) {
-        Measured::Board(_, totals) => Sizing::Sizes {
+        Measured::Accepted(_, totals) => Sizing::Sizes {
             n: totals.n,
             m: totals.m,
             k: totals.k,

@@ -3,8 +3,8 @@ use crate::Term;
 use crate::Terms;
 use crate::variables::bounds_of;
 use crate::variables::first_in;
-use fields::plain;
-use fields::plain_signed;
+use fields::unchecked;
+use fields::unchecked_signed;
 use walk::Comparison;
 use walk::Slot;
 ghost use mathlib.Core.Path.{_≡_};
@@ -23,8 +23,8 @@ fn term_at(rules: &[u8], at: usize) -> Term
     ensures { λ r. ⌜ termRead r ≡ termAt (now (rules .entry)) at ⌝ }
 {
     Term {
-        coefficient: plain_signed(rules, at, 1),
-        variable: plain(rules, at + 1, 2) as usize,
+        coefficient: unchecked_signed(rules, at, 1),
+        variable: unchecked(rules, at + 1, 2) as usize,
     }
 }
 
@@ -33,7 +33,7 @@ pub fn terms_at(rules: &[u8], place: usize) -> Terms
     requires { ⌜ TermsStand (now rules) place ⌝ }
     ensures { λ r. ⌜ TermsOf (termsAt (now (rules .entry)) place) r ⌝ }
 {
-    let n = plain(rules, place, 1) as usize;
+    let n = unchecked(rules, place, 1) as usize;
     let mut terms = [Term {
         coefficient: 0,
         variable: 0,

@@ -1,6 +1,6 @@
 // An integer variable of an accepted record: its bounds, how many order variables it has, and the number of the first.
 use crate::Bounds;
-use fields::plain_signed;
+use fields::unchecked_signed;
 ghost use mathlib.Core.Path.{_≡_};
 ghost use Prim.Native.Nat.{_≤_, _<_};
 ghost use lib.ListN.{length};
@@ -18,8 +18,8 @@ pub fn bounds_of(bytes: &[u8], x: usize) -> Bounds
 {
     let at = TABLE + 4 * x;
     Bounds {
-        lower: plain_signed(bytes, at, 2),
-        upper: plain_signed(bytes, at + 2, 2),
+        lower: unchecked_signed(bytes, at, 2),
+        upper: unchecked_signed(bytes, at + 2, 2),
     }
 }
 

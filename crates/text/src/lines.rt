@@ -18,7 +18,7 @@ pub fn put_word(word: &[u8], out: &mut [u8]) -> usize
 }
 
 // A line of a word and two numbers.
-pub fn put_line(word: &[u8], a: u64, b: u64, out: &mut [u8]) -> usize
+pub fn put_text_line(word: &[u8], a: u64, b: u64, out: &mut [u8]) -> usize
     requires { ⌜ length (line (now word) a b) ≤ length (now out) ⌝ }
     ensures { λ r. ⌜ Put (line (now (word .entry)) a b) (now (out .entry)) r (now (out .exit)) ⌝ }
 {

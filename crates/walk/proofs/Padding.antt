@@ -17,7 +17,7 @@ use Rattle.walk.specs.declared.Place.{Place}
 use Rattle.walk.specs.declared.Walk.{Walk}
 use Rattle.walk.specs.declared.At.the-variants.{Tuple}
 use Rattle.walk.specs.Slots.{FairSlot, slotBounds, slotLiteral}
-use Rattle.walk.specs.Walks.{places, blank, seen, Fine, Over}
+use Rattle.walk.specs.Walks.{placesOf, blank, seen, Fine, Over}
 use Rattle.walk.specs.Comparisons.{slotsOf, rangesOf, FairComparison, paddedRanges, placed, Walking, literalsAt, present}
 use Rattle.walk.proofs.Slots.{slot-ordered}
 
@@ -74,11 +74,11 @@ module _ (c : Comparison) (f : FairComparison c) (w : Walk) (o : Walking c (Tupl
   s = getD (c .slots) i no-slot
 
   abbrev pub p : Place
-  p = getD (places w) (i + 3 - c .n) no-place
+  p = getD (placesOf w) (i + 3 - c .n) no-place
 
   pub place-fine : Fine p
   unfolding Walking Over
-  place-fine = all-at Fine no-place (places w) (o .0) (i + 3 - c .n) (omega (arith, f .few))
+  place-fine = all-at Fine no-place (placesOf w) (o .0) (i + 3 - c .n) (omega (arith, f .few))
 
   pub place-range : blank p ≡ placed (slotBounds s)
   unfolding Walking Over
@@ -86,7 +86,7 @@ module _ (c : Comparison) (f : FairComparison c) (w : Walk) (o : Walking c (Tupl
       let j = i + 3 - c .n in
       let below : i + 3 - c .n < 3 = omega (arith, f .few) in
       let i-is : i + 3 - c .n + c .n - 3 ≡ i = omega (arith, f .few) in
-      sym (map-read blank no-place (blank no-place) (places w) j below)
+      sym (map-read blank no-place (blank no-place) (placesOf w) j below)
       ∙ ap (λ l. getD l j (blank no-place)) (o .1 ∙ map-map blank placed (paddedRanges c))
       ∙ map-read placed no-term (blank no-place) (paddedRanges c) j (omega (arith, padded-length c f))
       ∙ ap placed (range-read c f j (omega (arith, f .few)) below ∙ ap (λ k. slotBounds (getD (c .slots) k no-slot)) i-is)
@@ -105,7 +105,7 @@ module _ (c : Comparison) (f : FairComparison c) (w : Walk) (o : Walking c (Tupl
 
   bound-read : getD (seen w) (i + 3 - c .n) (pos 0) ≡ p .lo +ℤ pos (p .k)
   unfolding seen zipWith
-  bound-read = map-read (λ q. q .lo +ℤ pos (q .k)) no-place (pos 0) (places w) (i + 3 - c .n) (omega (arith, f .few))
+  bound-read = map-read (λ q. q .lo +ℤ pos (q .k)) no-place (pos 0) (placesOf w) (i + 3 - c .n) (omega (arith, f .few))
 
   seen-length : length (seen w) ≡ 3
   unfolding seen zipWith

@@ -19,7 +19,7 @@ use Rattle.walk.specs.declared.Walk.{Walk}
 use Rattle.walk.specs.declared.At.{At}
 use Rattle.walk.specs.declared.At.the-variants.{Tuple, End}
 use Rattle.walk.specs.Slots.{FairSlot, slotBounds, orderNumber, slotLiteral}
-use Rattle.walk.specs.Walks.{places, moved, blank, seen, left, Fine, Over}
+use Rattle.walk.specs.Walks.{placesOf, moved, blank, seen, tuplesLeft, Fine, Over}
 use Rattle.walk.specs.Comparisons.{FairComparison, Walking, paddedRanges, placed, literalsAt, present, toCome, present-length, walking-fine}
 use Rattle.walk.specs.Rows.{along, run, rowLength, rowOf, rowClauses, After, slotAt, offsetAt, Holds, Steady, raised, lowered, rowFrom, frontOf}
 use Rattle.walk.proofs.Moves.{move-second}
@@ -38,8 +38,8 @@ along-none w =
 more-room : (bw bk ck i : ℕ) → i < min (bw - bk) ck → 0 < min (bw - (bk + i)) (ck - i)
 more-room bw bk ck i h = omega (arith, h)
 
-module _ (w : Walk) (f : All Fine (places w)) where
-  pub along-fine : (i : ℕ) → i ≤ min (w .b .w - w .b .k) (w .c .k) → All Fine (places (along w i))
+module _ (w : Walk) (f : All Fine (placesOf w)) where
+  pub along-fine : (i : ℕ) → i ≤ min (w .b .w - w .b .k) (w .c .k) → All Fine (placesOf (along w i))
   along-fine i h = (
     f .0,
     (
@@ -48,40 +48,40 @@ module _ (w : Walk) (f : All Fine (places w)) where
     ),
   )
 
-  along-more : (i : ℕ) → i < min (w .b .w - w .b .k) (w .c .k) → left (Tuple (along w i)) ≡ seen (along w i) ∷ left (Tuple (along w (suc i)))
+  along-more : (i : ℕ) → i < min (w .b .w - w .b .k) (w .c .k) → tuplesLeft (Tuple (along w i)) ≡ seen (along w i) ∷ tuplesLeft (Tuple (along w (suc i)))
   along-more i h =
       let e : w .b .k + i + 1 ≡ w .b .k + suc i = omega arith in
       let g : w .c .k - i - 1 ≡ w .c .k - suc i = omega arith in
       move-second (along w i) (along-fine i (omega arith)) (more-room (w .b .w) (w .b .k) (w .c .k) i h) .1
-      ∙ ap₂ (λ j k. seen (along w i) ∷ left (Tuple (record { a = w .a; b = moved (w .b) j; c = moved (w .c) k }))) e g
+      ∙ ap₂ (λ j k. seen (along w i) ∷ tuplesLeft (Tuple (record { a = w .a; b = moved (w .b) j; c = moved (w .c) k }))) e g
 
   -- r comes after the last
-  run-left : (i n : ℕ) (r : At) → i + n ≡ min (w .b .w - w .b .k) (w .c .k) → left (Tuple (along w (i + n))) ≡ seen (along w (i + n)) ∷ left r
-      → left (Tuple (along w i)) ≡ map seen (run w i (suc n)) ++ left r
+  run-left : (i n : ℕ) (r : At) → i + n ≡ min (w .b .w - w .b .k) (w .c .k) → tuplesLeft (Tuple (along w (i + n))) ≡ seen (along w (i + n)) ∷ tuplesLeft r
+      → tuplesLeft (Tuple (along w i)) ≡ map seen (run w i (suc n)) ++ tuplesLeft r
   unfolding run
   run-left i zero r e l = let z : i + 0 ≡ i = omega arith in rw z at l
   run-left i (suc n) r e l =
       let z : i + suc n ≡ suc i + n = omega arith in
       along-more i (omega arith) ∙ ap (λ t. seen (along w i) ∷ t) (run-left (suc i) n r (omega arith) (rw z at l))
 
-  pub row-left : (r : At) → left (Tuple (along w (min (w .b .w - w .b .k) (w .c .k)))) ≡ seen (along w (min (w .b .w - w .b .k) (w .c .k))) ∷ left r → left (Tuple w) ≡ map seen (rowOf w) ++ left r
+  pub row-left : (r : At) → tuplesLeft (Tuple (along w (min (w .b .w - w .b .k) (w .c .k)))) ≡ seen (along w (min (w .b .w - w .b .k) (w .c .k))) ∷ tuplesLeft r → tuplesLeft (Tuple w) ≡ map seen (rowOf w) ++ tuplesLeft r
   row-left r l =
       let m = min (w .b .w - w .b .k) (w .c .k) in
       let z : 0 + m ≡ m = omega arith in
-      ap (λ v. left (Tuple v)) (sym (along-none w)) ∙ run-left 0 m r z (rw (← z) at l)
+      ap (λ v. tuplesLeft (Tuple v)) (sym (along-none w)) ∙ run-left 0 m r z (rw (← z) at l)
 
 -- what comes after the row's last tuple comes after the row
 pub behind : (c : Comparison) (w : Walk) (o : Walking c (Tuple w)) (i : ℕ) → i ≡ min (w .b .w - w .b .k) (w .c .k) → (r : At)
-    → Over (places (along w i)) r × (left (Tuple (along w i)) ≡ seen (along w i) ∷ left r) → After c w r
+    → Over (placesOf (along w i)) r × (tuplesLeft (Tuple (along w i)) ≡ seen (along w i) ∷ tuplesLeft r) → After c w r
 unfolding Walking Over toCome present rowClauses
 behind c w o i e r n = (
   onward r (n .0),
-  ap (map (literalsAt c)) (row-left w (o .0) r (subst (λ j. left (Tuple (along w j)) ≡ seen (along w j) ∷ left r) e (n .1)))
-      ∙ map-append (literalsAt c) (map seen (rowOf w)) (left r)
-      ∙ ap (λ l. l ++ map (literalsAt c) (left r)) (map-map (literalsAt c) seen (rowOf w)),
+  ap (map (literalsAt c)) (row-left w (o .0) r (subst (λ j. tuplesLeft (Tuple (along w j)) ≡ seen (along w j) ∷ tuplesLeft r) e (n .1)))
+      ∙ map-append (literalsAt c) (map seen (rowOf w)) (tuplesLeft r)
+      ∙ ap (λ l. l ++ map (literalsAt c) (tuplesLeft r)) (map-map (literalsAt c) seen (rowOf w)),
 )
   where
-    onward : (r : At) → Over (places (along w i)) r → Walking c r
+    onward : (r : At) → Over (placesOf (along w i)) r → Walking c r
     onward (Tuple v) k = (k .0, k .1 ∙ o .1)
     onward End k = tt
 
@@ -106,10 +106,10 @@ module _ (c : Comparison) (f : FairComparison c) (two : 2 ≤ c .n) where
     in-c = omega (arith, two)
 
     pub offset-b : offsetAt c w (c .n - 2) ≡ w .b .k
-    offset-b = ap (λ j. getD (places w) j no-place .k) in-b
+    offset-b = ap (λ j. getD (placesOf w) j no-place .k) in-b
 
     pub offset-c : offsetAt c w (c .n - 1) ≡ w .c .k
-    offset-c = ap (λ j. getD (places w) j no-place .k) in-c
+    offset-c = ap (λ j. getD (placesOf w) j no-place .k) in-c
 
     at-term : (i : ℕ) → i < c .n → getD (present c w) i (pos 0) ≡ slotLiteral (slotAt c i) (bound (slotAt c i) (offsetAt c w i))
     at-term i h = literal-read c f w o i h ∙ ap (λ z. slotLiteral (slotAt c i) (z +ℤ pos (offsetAt c w i))) (low-is c f w o i h)
@@ -143,7 +143,7 @@ module _ (c : Comparison) (f : FairComparison c) (two : 2 ≤ c .n) where
     | yes k ↦
         let q : 0 + 3 - c .n ≡ 0 = omega (arith, f .few) in
         let at : (v : Walk) → Walking c (Tuple v) → getD (present c v) 0 (pos 0) ≡ slotLiteral (slotAt c 0) (v .a .lo +ℤ pos (v .a .k)) =
-        λ v p. literal-read c f v p 0 (omega (arith, two)) ∙ ap (λ j. slotLiteral (slotAt c 0) (getD (places v) j no-place .lo +ℤ pos (getD (places v) j no-place .k))) q in
+        λ v p. literal-read c f v p 0 (omega (arith, two)) ∙ ap (λ j. slotLiteral (slotAt c 0) (getD (placesOf v) j no-place .lo +ℤ pos (getD (placesOf v) j no-place .k))) q in
         ap (frontOf (c .n - 2)) (at (along w i) (walking-along w o i h) ∙ sym (at w o))
     | no k ↦ let q : c .n - 2 ≡ 0 = omega arith in rw q refl
   ]

@@ -20,7 +20,7 @@ use Rattle.walk.specs.declared.Place.{Place}
 use Rattle.walk.specs.declared.At.{At}
 use Rattle.walk.specs.declared.At.the-variants.{End}
 use Rattle.walk.specs.Slots.{FairSlot, valueBounds, slotBounds, slotLiteral}
-use Rattle.walk.specs.Walks.{boundsAt, above, left, Fine, Over}
+use Rattle.walk.specs.Walks.{boundsAt, above, tuplesLeft, Fine, Over}
 use Rattle.walk.specs.Comparisons.{slotsOf, rangesOf, leastOf, overLeast, literalsOf, FairComparison, paddedRanges, placed, Walking, literalsAt, toCome}
 use Rattle.walk.proofs.Slots.{slot-near, slot-ordered}
 use Rattle.walk.proofs.Padding.{padded-length}
@@ -55,7 +55,7 @@ module _ (c : Comparison) (f : FairComparison c) where
 
   -- ---- below the least there is nothing
   pub start-end : overLeast c <ℤ pos 0 → Walking c End × (toCome c End ≡ literalsOf c)
-  unfolding Walking Over toCome left literalsOf
+  unfolding Walking Over toCome tuplesLeft literalsOf
   start-end h =
       let e = over-law (overLeast c) refl in
       let b : s <ℤ sumZ (lows (rangesOf c)) = omega (whole, e, add-law (sumZ (lows (rangesOf c))) (overLeast c)) in
@@ -112,7 +112,7 @@ module _ (c : Comparison) (f : FairComparison c) where
   unfolding literalsAt
   unpadded bs = let m = 3 - c .n in ap (zipWith slotLiteral (slotsOf c)) (drop-at (replicate m (pos 0)) bs m (length-replicate m (pos 0)))
 
-  pub start-at : (t : ℕ) (r : At) → pos t ≡ overLeast c → left r ≡ above (map placed R) t → toCome c r ≡ literalsOf c
+  pub start-at : (t : ℕ) (r : At) → pos t ≡ overLeast c → tuplesLeft r ≡ above (map placed R) t → toCome c r ≡ literalsOf c
   unfolding toCome literalsOf
   start-at t r e l =
       let pad : List ℤ → List ℤ = λ bs. replicate (3 - c .n) (pos 0) ++ bs in

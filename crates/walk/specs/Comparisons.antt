@@ -21,7 +21,7 @@ use Rattle.walk.specs.declared.Walk.{Walk}
 use Rattle.walk.specs.declared.At.{At}
 use Rattle.walk.specs.declared.At.the-variants.{Tuple, End}
 use Rattle.walk.specs.Slots.{FairSlot, valueBounds, slotBounds, slotLiteral, slotOf, value-bounds, slot-literal}
-use Rattle.walk.specs.Walks.{places, seen, left, Fine, Over}
+use Rattle.walk.specs.Walks.{placesOf, seen, tuplesLeft, Fine, Over}
 
 abbrev pub slotsOf : Comparison → List Slot
 slotsOf c = take (c .n) (c .slots)
@@ -70,15 +70,15 @@ unfoldable pub present : Comparison → Walk → List ℤ
 present c w = literalsAt c (seen w)
 
 unfoldable pub toCome : Comparison → At → List (List ℤ)
-toCome c cur = map (literalsAt c) (left cur)
+toCome c cur = map (literalsAt c) (tuplesLeft cur)
 
 -- ---- what a step shows
 pub none-left : (c : Comparison) → toCome c End ≡ []
-unfolding toCome left
+unfolding toCome tuplesLeft
 none-left c = refl
 
 module _ (c : Comparison) (w : Walk) where
-  pub walking-fine : Walking c (Tuple w) → All Fine (places w)
+  pub walking-fine : Walking c (Tuple w) → All Fine (placesOf w)
   unfolding Walking Over
   walking-fine o = o .0
 

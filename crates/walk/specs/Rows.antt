@@ -12,7 +12,7 @@ use Rattle.walk.specs.declared.Walk.{Walk}
 use Rattle.walk.specs.declared.At.{At}
 use Rattle.walk.specs.declared.At.the-variants.{Tuple}
 use Rattle.walk.specs.Slots.{slotBounds, slotLiteral}
-use Rattle.walk.specs.Walks.{places, moved}
+use Rattle.walk.specs.Walks.{placesOf, moved}
 use Rattle.walk.specs.Comparisons.{Walking, present, toCome}
 
 -- ---- the tuples of a row
@@ -52,7 +52,7 @@ abbrev pub slotAt : Comparison → ℕ → Slot
 slotAt c i = getD (c .slots) i (record { coefficient = pos 0; lower = pos 0; upper = pos 0; first = 0 })
 
 abbrev pub offsetAt : Comparison → Walk → ℕ → ℕ
-offsetAt c w i = getD (places w) (i + 3 - c .n) (record { lo = pos 0; k = 0; w = 0 }) .k
+offsetAt c w i = getD (placesOf w) (i + 3 - c .n) (record { lo = pos 0; k = 0; w = 0 }) .k
 
 -- what a spot says of a slot at the offset k
 pub record Holds (s : Slot) (k : ℕ) (p : Spot) : Type 0 where

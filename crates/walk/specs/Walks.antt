@@ -11,8 +11,8 @@ use Rattle.walk.specs.declared.Walk.{Walk}
 use Rattle.walk.specs.declared.At.{At}
 use Rattle.walk.specs.declared.At.the-variants.{Tuple, End}
 
-abbrev pub places : Walk → List Place
-places w = w .a ∷ w .b ∷ w .c ∷ []
+abbrev pub placesOf : Walk → List Place
+placesOf w = w .a ∷ w .b ∷ w .c ∷ []
 
 -- a place at another offset
 abbrev pub moved : Place → ℕ → Place
@@ -35,11 +35,11 @@ above ps t = map (boundsAt ps) (offsets (map (λ p. p .w) ps) t)
 
 -- the present tuple, and it with those after it
 unfoldable pub seen : Walk → List ℤ
-seen w = boundsAt (places w) (map (λ p. p .k) (places w))
+seen w = boundsAt (placesOf w) (map (λ p. p .k) (placesOf w))
 
-unfoldable pub left : At → List (List ℤ)
-left (Tuple w) = seen w ∷ map (boundsAt (places w)) (later (map (λ p. p .w) (places w)) (map (λ p. p .k) (places w)))
-left End = []
+unfoldable pub tuplesLeft : At → List (List ℤ)
+tuplesLeft (Tuple w) = seen w ∷ map (boundsAt (placesOf w)) (later (map (λ p. p .w) (placesOf w)) (map (λ p. p .k) (placesOf w)))
+tuplesLeft End = []
 
 pub record Fine (p : Place) : Type 0 where
   pub near : natAbs (p .lo) ≤ 262145
@@ -48,5 +48,5 @@ pub record Fine (p : Place) : Type 0 where
 
 -- a walk over these places, whatever their offsets
 unfoldable pub Over : List Place → At → Type 0
-Over ps (Tuple w) = All Fine (places w) × (map blank (places w) ≡ map blank ps)
+Over ps (Tuple w) = All Fine (placesOf w) × (map blank (placesOf w) ≡ map blank ps)
 Over ps End = Unit {0}

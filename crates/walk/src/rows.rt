@@ -4,21 +4,21 @@ use crate::At;
 use crate::Comparison;
 use crate::Spot;
 use crate::Walk;
-use crate::tuples::literal_at;
 use crate::tuples::next;
 use crate::tuples::room;
+use crate::tuples::tuple_literal;
 ghost use mathlib.Core.Path.{_≡_};
 ghost use mathlib.Core.List.{_++_};
 ghost use Prim.Native.Nat.{_+_, _-_, _≤_, _<_};
 ghost use lib.IntN.{natAbs};
 ghost use Rattle.definitions.specs.Tools.{All};
 ghost use Rattle.walk.specs.Comparisons.{FairComparison, Walking, toCome};
-ghost use Rattle.walk.specs.Walks.{places, Fine};
+ghost use Rattle.walk.specs.Walks.{placesOf, Fine};
 ghost use Rattle.walk.specs.Rows.{rowLength, rowClauses, Rest, slotAt, offsetAt, Holds, Steady, raised, lowered};
 
 // How many tuples the row has from the present one on.
 pub fn row_length(w: Walk) -> u32
-    requires { ⌜ All Fine (places w) ⌝ }
+    requires { ⌜ All Fine (placesOf w) ⌝ }
     ensures { λ r. ⌜ r ≡ rowLength w ⌝ }
 {
     let b = w.b;
@@ -75,7 +75,7 @@ pub fn spot_at(c: Comparison, w: Walk, i: usize) -> Spot
     Spot {
         d: d,
         r: until(d, p.k),
-        literal: literal_at(c, w, i),
+        literal: tuple_literal(c, w, i),
     }
 }
 

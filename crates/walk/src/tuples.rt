@@ -13,7 +13,7 @@ ghost use lib.ListN.{getD};
 ghost use Rattle.definitions.specs.Tools.{All};
 ghost use Rattle.laws.specs.Tuples.{no-term};
 ghost use Rattle.walk.specs.Comparisons.{FairComparison, leastOf, overLeast, literalsOf, paddedRanges, placed, Walking, present, toCome};
-ghost use Rattle.walk.specs.Walks.{places, refill, above, seen, left, Fine, Over};
+ghost use Rattle.walk.specs.Walks.{placesOf, refill, above, seen, tuplesLeft, Fine, Over};
 
 // a - b, and 0 where b is larger.
 fn less(a: u32, b: u32) -> u32
@@ -46,7 +46,7 @@ fn refilled(a: Place, b: Place, c: Place, t: u32) -> At
 // The first tuple whose offsets have the sum t.
 fn lowest(a: Place, b: Place, c: Place, t: u32) -> At
     requires { ⌜ All Fine (a ∷ b ∷ c ∷ []) ⌝ }
-    ensures { λ r. ⌜ Over (a ∷ b ∷ c ∷ []) r × (left r ≡ above (a ∷ b ∷ c ∷ []) t) ⌝ }
+    ensures { λ r. ⌜ Over (a ∷ b ∷ c ∷ []) r × (tuplesLeft r ≡ above (a ∷ b ∷ c ∷ []) t) ⌝ }
 {
     let after = b.w + c.w;
     if a.w + after < t {
@@ -60,8 +60,8 @@ fn lowest(a: Place, b: Place, c: Place, t: u32) -> At
 
 // The tuple after the present one.
 pub fn next(w: Walk) -> At
-    requires { ⌜ All Fine (places w) ⌝ }
-    ensures { λ r. ⌜ Over (places w) r × (left (At.Tuple w) ≡ seen w ∷ left r) ⌝ }
+    requires { ⌜ All Fine (placesOf w) ⌝ }
+    ensures { λ r. ⌜ Over (placesOf w) r × (tuplesLeft (At.Tuple w) ≡ seen w ∷ tuplesLeft r) ⌝ }
 {
     let mut a = w.a;
     let mut b = w.b;
@@ -121,7 +121,7 @@ pub fn over_least(c: Comparison) -> i32
 }
 
 // The first tuple.
-pub fn first(c: Comparison) -> At
+pub fn first_tuple(c: Comparison) -> At
     requires { ⌜ FairComparison c ⌝ }
     ensures { λ r. ⌜ Walking c r × (toCome c r ≡ literalsOf c) ⌝ }
 {
@@ -140,7 +140,7 @@ fn bound(p: Place) -> i32
 }
 
 // The literal of term i at the present tuple.
-pub fn literal_at(c: Comparison, w: Walk, i: usize) -> i32
+pub fn tuple_literal(c: Comparison, w: Walk, i: usize) -> i32
     requires { ⌜ FairComparison c × Walking c (At.Tuple w) × (i < c .n) ⌝ }
     ensures { λ r. ⌜ r ≡ getD (present c w) i (pos 0) ⌝ }
 {

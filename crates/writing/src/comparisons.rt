@@ -15,9 +15,9 @@ use walk::Walk;
 use walk::rows::after_row;
 use walk::rows::row_length;
 use walk::rows::spot_at;
-use walk::tuples::first;
+use walk::tuples::first_tuple;
 use walk::tuples::least;
-use walk::tuples::literal_at;
+use walk::tuples::tuple_literal;
 
 pub fn put_lead(lead: i32, list: &mut [i32]) -> usize
     requires { ⌜ length (leadOf lead) ≤ length (now list) ⌝ }
@@ -37,7 +37,7 @@ fn put_literals(c: Comparison, w: Walk, list: &mut [i32]) -> usize
 {
     let mut i: usize = 0;
     while i < c.n {
-        list[i] = literal_at(c, w, i);
+        list[i] = tuple_literal(c, w, i);
         i += 1;
     }
     list[i] = 0;
@@ -60,7 +60,7 @@ fn front_at(c: Comparison, w: Walk) -> i32
     if c.n < 3 {
         return 0;
     }
-    literal_at(c, w, 0)
+    tuple_literal(c, w, 0)
 }
 
 // A clause for each tuple of the present one's row.
@@ -85,7 +85,7 @@ fn put_tuples(c: Comparison, lead: i32, list: &mut [i32]) -> usize
     ensures { λ r. ⌜ (r ≡ length (led lead (literalsOf c))) × (now (list .exit) ≡ written (led lead (literalsOf c)) (now (list .entry))) ⌝ }
 {
     let mut at: usize = 0;
-    let mut tuple = first(c);
+    let mut tuple = first_tuple(c);
     loop {
         let At::Tuple(w) = tuple else {
             break;

@@ -44,8 +44,8 @@ module _ (c : tie.After-holds Inv-loop μ-loop) where
 
   tested : trueNumber (s .args .model .now) (getD (literals s) i (pos 0)) ≡ c .holds .result
   tested =
-      let f : SFits w32 (c .before .literal-at .result) = record { sfits = c .before .literal-at .ok } in
-      sym ((simp toZ-ofZ at (c .holds .ensures)) ∙ ap (trueNumber (s .args .model .now)) (c .before .literal-at .ensures))
+      let f : SFits w32 (c .before .tuple-literal .result) = record { sfits = c .before .tuple-literal .ok } in
+      sym ((simp toZ-ofZ at (c .holds .ensures)) ∙ ap (trueNumber (s .args .model .now)) (c .before .tuple-literal .ensures))
 
   hit : c .holds .result ≡ true → true ≡ trueTail (s .args .model .now) (literals s)
   hit e = sym (any-hit (trueNumber (s .args .model .now)) (pos 0) (literals s) i there (tested ∙ e)) ∙ c .before .before .before .before .loop .inv .1
@@ -53,15 +53,15 @@ module _ (c : tie.After-holds Inv-loop μ-loop) where
 loop-holds : tie.Need-loop-holds Inv-loop μ-loop
 loop-holds c = (omega arith, refl)
 
-literal-at-requires : tie.Need-literal-at-requires Inv-loop μ-loop
-literal-at-requires c κs = let s = c .before .before .before .before in (s .pre .0, s .pre .1, c .if1 .taken)
+tuple-literal-requires : tie.Need-tuple-literal-requires Inv-loop μ-loop
+tuple-literal-requires c κs = let s = c .before .before .before .before in (s .pre .0, s .pre .1, c .if1 .taken)
 
 holds-requires : tie.Need-holds-requires Inv-loop μ-loop
 holds-requires c κs =
     let s = c .before .before .before .before .before in
-    let f : SFits w32 (c .literal-at .result) = record { sfits = c .literal-at .ok } in
+    let f : SFits w32 (c .tuple-literal .result) = record { sfits = c .tuple-literal .ok } in
     let a = all-at (InList (length (s .args .model .now))) (pos 0) (literals s) (s .pre .2) (c .before .before .before .loop .i) (omega (arith, how-many s, c .before .if1 .taken)) in
-    simp toZ-ofZ (rw (c .literal-at .ensures) (a .0, a .1, s .pre .3))
+    simp toZ-ofZ (rw (c .tuple-literal .ensures) (a .0, a .1, s .pre .3))
 
 returns : tie.Need-returns Inv-loop μ-loop
 returns c = hit (c .before) (c .if2 .taken)
@@ -90,7 +90,7 @@ tuple-holds-spec =
     Inv-loop
     μ-loop
     loop-holds
-    literal-at-requires
+    tuple-literal-requires
     holds-requires
     returns
     add-i

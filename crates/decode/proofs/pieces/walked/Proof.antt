@@ -9,12 +9,12 @@ returns : tie.Need-returns
 unfolding Walking Over
 returns c = rw (c .if1 .taken) (tt, none-left _)
 
-first-requires : tie.Need-first-requires
-first-requires c κs = search needs
+first-tuple-requires : tie.Need-first-tuple-requires
+first-tuple-requires c κs = search needs
 
 returns-2 : tie.Need-returns-2
 unfolding Walking Over
-returns-2 c = rw (c .before .if1 .left) (c .first .ensures)
+returns-2 c = rw (c .before .if1 .left) (c .first-tuple .ensures)
 
 pub walked-spec : {M : Type 1} → statement M
-walked-spec = tie.close (tie.spec returns first-requires returns-2)
+walked-spec = tie.close (tie.spec returns first-tuple-requires returns-2)

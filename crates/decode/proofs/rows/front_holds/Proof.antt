@@ -18,22 +18,22 @@ returns c =
     let a = c .before .before .before .args in
     rw (front-none (a .tails .n - 2) (getD (present (a .tails) (a .tuple)) 0 (pos 0)) (omega (arith, c .if1 .taken)))
 
-literal-at-requires : tie.Need-literal-at-requires
-literal-at-requires c κs = search needs
+tuple-literal-requires : tie.Need-tuple-literal-requires
+tuple-literal-requires c κs = search needs
 
 holds-requires : tie.Need-holds-requires
 holds-requires c κs =
     let s = c .before .before .before .before in
     let a = s .args in
-    let f : SFits w32 (c .literal-at .result) = record { sfits = c .literal-at .ok } in
+    let f : SFits w32 (c .tuple-literal .result) = record { sfits = c .tuple-literal .ok } in
     let p = rw (front-some (a .tails .n - 2) (getD (present (a .tails) (a .tuple)) 0 (pos 0)) (omega (arith, c .before .if1 .left))) at (s .pre .2) in
-    simp toZ-ofZ (rw (c .literal-at .ensures) (p .0 .0, p .0 .1, s .pre .3))
+    simp toZ-ofZ (rw (c .tuple-literal .ensures) (p .0 .0, p .0 .1, s .pre .3))
 
 returns-2 : tie.Need-returns-2
 returns-2 c =
     let a = c .before .before .before .before .before .args in
-    let f : SFits w32 (c .before .literal-at .result) = record { sfits = c .before .literal-at .ok } in
-    rw (front-some (a .tails .n - 2) (getD (present (a .tails) (a .tuple)) 0 (pos 0)) (omega (arith, c .before .before .if1 .left)), or-false) (rw (c .before .literal-at .ensures) at (simp toZ-ofZ at (c .holds .ensures)))
+    let f : SFits w32 (c .before .tuple-literal .result) = record { sfits = c .before .tuple-literal .ok } in
+    rw (front-some (a .tails .n - 2) (getD (present (a .tails) (a .tuple)) 0 (pos 0)) (omega (arith, c .before .before .if1 .left)), or-false) (rw (c .before .tuple-literal .ensures) at (simp toZ-ofZ at (c .holds .ensures)))
 
 pub front-holds-spec : {M : Type 1} → statement M
-front-holds-spec = tie.close (tie.spec returns literal-at-requires holds-requires returns-2)
+front-holds-spec = tie.close (tie.spec returns tuple-literal-requires holds-requires returns-2)

@@ -13,17 +13,17 @@ use Rattle.dimacs.proofs.printing.put_cnf.Statement.{statement}
 use Rattle.dimacs.proofs.printing.put_cnf.Tie as tie
 
 -- the head is written
-head-put : (c : tie.After-put-line) → let a = c .before .before .before .before .args in
-    Filling (cnf (a .n) (a .m) (a .clauses .now)) (entries (a .clauses .now)) (a .out .now) (c .put-line .last .1 .1 .1 .0) (c .put-line .result)
+head-put : (c : tie.After-put-text-line) → let a = c .before .before .before .before .args in
+    Filling (cnf (a .n) (a .m) (a .clauses .now)) (entries (a .clauses .now)) (a .out .now) (c .put-text-line .last .1 .1 .1 .0) (c .put-text-line .result)
 head-put c =
     let s = c .before .before .before .before in
-    begun (line (ascii "p cnf ") (s .args .n) (s .args .m)) _ _ _ _ (omega (arith, s .pre, cnf-length (s .args .n) (s .args .m) (s .args .clauses .now))) (c .put-line .ensures .0) (c .put-line .ensures .1)
+    begun (line (ascii "p cnf ") (s .args .n) (s .args .m)) _ _ _ _ (omega (arith, s .pre, cnf-length (s .args .n) (s .args .m) (s .args .clauses .now))) (c .put-text-line .ensures .0) (c .put-text-line .ensures .1)
 
-slice-aggregate-put-line : tie.Need-slice-aggregate-put-line
-slice-aggregate-put-line c = search needs
+slice-aggregate-put-text-line : tie.Need-slice-aggregate-put-text-line
+slice-aggregate-put-text-line c = search needs
 
-put-line-requires : tie.Need-put-line-requires
-put-line-requires c κs =
+put-text-line-requires : tie.Need-put-text-line-requires
+put-text-line-requires c κs =
     let s = c .before .before .before in
     omega (arith, s .pre, line-length (ascii "p cnf ") (s .args .n) (s .args .m))
 
@@ -39,13 +39,13 @@ part-put-entries-end c = search needs
 put-entries-requires : tie.Need-put-entries-requires
 put-entries-requires c κs =
     let h = c .before .before .before in
-    omega (arith, room (head-put h), rest-length (h .put-line .last .1 .1 .1 .0) (h .put-line .result))
+    omega (arith, room (head-put h), rest-length (h .put-text-line .last .1 .1 .1 .0) (h .put-text-line .result))
 
 add-result : tie.Need-add-result
 add-result c =
     let h = c .before .before .before .before .before .before in
     let e = c .before .before .put-entries in
-    let k : h .put-line .result + e .result ≤ length (h .before .before .before .before .args .out .now) = omega (arith, room-before (head-put h), e .ensures .0) in
+    let k : h .put-text-line .result + e .result ≤ length (h .before .before .before .before .args .out .now) = omega (arith, room-before (head-put h), e .ensures .0) in
     search needs
 
 same-length : tie.Need-same-length
@@ -63,8 +63,8 @@ pub put-cnf-spec : {M : Type 1} → statement M
 put-cnf-spec =
     tie.close
     (tie.spec
-    slice-aggregate-put-line
-    put-line-requires
+    slice-aggregate-put-text-line
+    put-text-line-requires
     sub-put-entries
     part-put-entries-start
     part-put-entries-end

@@ -24,28 +24,28 @@ loop-holds c = (omega arith, refl)
 sub-left : tie.Need-sub-left Inv-loop μ-loop
 sub-left c = search needs
 
-mul-plain : tie.Need-mul-plain Inv-loop μ-loop
-mul-plain c = search needs
+mul-unchecked : tie.Need-mul-unchecked Inv-loop μ-loop
+mul-unchecked c = search needs
 
-add-plain : tie.Need-add-plain Inv-loop μ-loop
-add-plain c = search needs
+add-unchecked : tie.Need-add-unchecked Inv-loop μ-loop
+add-unchecked c = search needs
 
-add-plain-2 : tie.Need-add-plain-2 Inv-loop μ-loop
-add-plain-2 c = search needs
+add-unchecked-2 : tie.Need-add-unchecked-2 Inv-loop μ-loop
+add-unchecked-2 c = search needs
 
-plain-requires : tie.Need-plain-requires Inv-loop μ-loop
-plain-requires c κs = search needs
+unchecked-requires : tie.Need-unchecked-requires Inv-loop μ-loop
+unchecked-requires c κs = search needs
 
 returns : tie.Need-returns Inv-loop μ-loop
 returns c =
-    sym (c .before .before .before .loop .inv .1 ∙ rw (seen-turn _ _ _ _ (c .before .before .loop-test .taken), eq-eqb _ _ (sym (c .if1 .taken) ∙ c .before .plain .ensures)))
+    sym (c .before .before .before .loop .inv .1 ∙ rw (seen-turn _ _ _ _ (c .before .before .loop-test .taken), eq-eqb _ _ (sym (c .if1 .taken) ∙ c .before .unchecked .ensures)))
 
 loop-less : tie.Need-loop-less Inv-loop μ-loop
 loop-less c = search needs
 
 loop-again : tie.Need-loop-again Inv-loop μ-loop
 loop-again c =
-    (omega arith, c .before .before .before .loop .inv .1 ∙ rw (seen-turn _ _ _ _ (c .before .before .loop-test .taken), ne-eqb _ _ (λ e. c .if1 .left (c .before .plain .ensures ∙ sym e))))
+    (omega arith, c .before .before .before .loop .inv .1 ∙ rw (seen-turn _ _ _ _ (c .before .before .loop-test .taken), ne-eqb _ _ (λ e. c .if1 .left (c .before .unchecked .ensures ∙ sym e))))
 
 returns-2 : tie.Need-returns-2 Inv-loop μ-loop
 returns-2 c =
@@ -59,10 +59,10 @@ is-repeated-spec =
     μ-loop
     loop-holds
     sub-left
-    mul-plain
-    add-plain
-    add-plain-2
-    plain-requires
+    mul-unchecked
+    add-unchecked
+    add-unchecked-2
+    unchecked-requires
     returns
     loop-less
     loop-again

@@ -21,47 +21,47 @@ module _ (s : tie.Start) {k : ℕ} (e : big (s .args .rules .now) (s .args .at) 
 
 -- a Boolean, its negation, a comparison
 boolean : (c : tie.Then1) → let s = c .before .before .before .args in big (s .rules .now) (s .at) 1 ≡ 0
-boolean c = sym (c .before .plain .ensures) ∙ c .if1 .taken
+boolean c = sym (c .before .unchecked .ensures) ∙ c .if1 .taken
 
 negated : (c : tie.Then2) → let s = c .before .before .before .before .args in big (s .rules .now) (s .at) 1 ≡ 1
-negated c = sym (c .before .before .plain .ensures) ∙ c .if2 .taken
+negated c = sym (c .before .before .unchecked .ensures) ∙ c .if2 .taken
 
 module _ (c : tie.Else2) where
   abbrev s : tie.Start
   s = c .before .before .before .before
 
   compared : big (s .args .rules .now) (s .args .at) 1 ≡ 2
-  compared = omega (arith, c .before .before .plain .ensures, c .if2 .left, c .before .if1 .left, s .pre .known)
+  compared = omega (arith, c .before .before .unchecked .ensures, c .if2 .left, c .before .if1 .left, s .pre .known)
 
   room : s .args .at + 6 + 3 * big (s .args .rules .now) (s .args .at + 1) 1 ≤ length (s .args .rules .now)
   room = end-inside s compared
 
-plain-requires : tie.Need-plain-requires
-plain-requires c κs = (omega arith, c .before .pre .kind)
+unchecked-requires : tie.Need-unchecked-requires
+unchecked-requires c κs = (omega arith, c .before .pre .kind)
 
-add-plain : tie.Need-add-plain
-add-plain c = let h = end-inside (c .before .before .before) (boolean c) in search needs
+add-unchecked : tie.Need-add-unchecked
+add-unchecked c = let h = end-inside (c .before .before .before) (boolean c) in search needs
 
-plain-requires-2 : tie.Need-plain-requires-2
-plain-requires-2 c κs = (omega arith, omega (arith, end-inside (c .before .before .before) (boolean c)))
+unchecked-requires-2 : tie.Need-unchecked-requires-2
+unchecked-requires-2 c κs = (omega arith, omega (arith, end-inside (c .before .before .before) (boolean c)))
 
 add-t10 : tie.Need-add-t10
 add-t10 c = let h = end-inside (c .before .before .before .before) (boolean (c .before)) in search needs
 
 returns : tie.Need-returns
-returns c = let e = said (c .before .before .before .before) (boolean (c .before)) in record { literal = ap isTrue (c .plain2 .ensures) ∙ sym (ap (λ g. g .value) e); next = sym (ap (λ g. g .next) e); terms = tt }
+returns c = let e = said (c .before .before .before .before) (boolean (c .before)) in record { literal = ap isTrue (c .unchecked2 .ensures) ∙ sym (ap (λ g. g .value) e); next = sym (ap (λ g. g .next) e); terms = tt }
 
-add-plain-2 : tie.Need-add-plain-2
-add-plain-2 c = let h = end-inside (c .before .before .before .before) (negated c) in search needs
+add-unchecked-2 : tie.Need-add-unchecked-2
+add-unchecked-2 c = let h = end-inside (c .before .before .before .before) (negated c) in search needs
 
-plain-requires-3 : tie.Need-plain-requires-3
-plain-requires-3 c κs = (omega arith, omega (arith, end-inside (c .before .before .before .before) (negated c)))
+unchecked-requires-3 : tie.Need-unchecked-requires-3
+unchecked-requires-3 c κs = (omega arith, omega (arith, end-inside (c .before .before .before .before) (negated c)))
 
 add-t14 : tie.Need-add-t14
 add-t14 c = let h = end-inside (c .before .before .before .before .before) (negated (c .before)) in search needs
 
 returns-2 : tie.Need-returns-2
-returns-2 c = let e = said (c .before .before .before .before .before) (negated (c .before)) in record { literal = ap isFalse (c .plain3 .ensures) ∙ sym (ap (λ g. g .value) e); next = sym (ap (λ g. g .next) e); terms = tt }
+returns-2 c = let e = said (c .before .before .before .before .before) (negated (c .before)) in record { literal = ap isFalse (c .unchecked3 .ensures) ∙ sym (ap (λ g. g .value) e); next = sym (ap (λ g. g .next) e); terms = tt }
 
 add-place : tie.Need-add-place
 add-place c = let h = room c in search needs
@@ -69,8 +69,8 @@ add-place c = let h = room c in search needs
 add-end : tie.Need-add-end
 add-end c = let h = room c in search needs
 
-plain-requires-4 : tie.Need-plain-requires-4
-plain-requires-4 c κs = (omega arith, omega (arith, room c))
+unchecked-requires-4 : tie.Need-unchecked-requires-4
+unchecked-requires-4 c κs = (omega arith, omega (arith, room c))
 
 cast-end : tie.Need-cast-end
 cast-end c = search needs
@@ -79,21 +79,21 @@ mul-end : tie.Need-mul-end
 mul-end c = search needs
 
 add-end-2 : tie.Need-add-end-2
-add-end-2 c = omega (arith, c .plain4 .ensures, room (c .before))
+add-end-2 c = omega (arith, c .unchecked4 .ensures, room (c .before))
 
-plain-signed-requires : tie.Need-plain-signed-requires
-plain-signed-requires c κs = (omega arith, omega (arith, c .plain4 .ensures, room (c .before)))
+unchecked-signed-requires : tie.Need-unchecked-signed-requires
+unchecked-signed-requires c κs = (omega arith, omega (arith, c .unchecked4 .ensures, room (c .before)))
 
 add-t15 : tie.Need-add-t15
-add-t15 c = omega (arith, c .before .plain4 .ensures, room (c .before .before))
+add-t15 c = omega (arith, c .before .unchecked4 .ensures, room (c .before .before))
 
 returns-3 : tie.Need-returns-3
 returns-3 c =
     let e = c .before .before in
-    let n = c .before .plain4 .ensures in
+    let n = c .before .unchecked4 .ensures in
     let h = said (s e) (compared e) in
     record {
-      literal = rw (toZ-ofZ (record { sfits = c .plain-signed .ok }), c .plain-signed .ensures, n) (sym (ap (λ g. g .value) h));
+      literal = rw (toZ-ofZ (record { sfits = c .unchecked-signed .ok }), c .unchecked-signed .ensures, n) (sym (ap (λ g. g .value) h));
       next = omega (arith, n, ap (λ g. g .next) h);
       terms = record { few = s e .pre .few (compared e); room = omega (arith, room e) };
     }
@@ -102,21 +102,21 @@ pub literal-again-spec : {M : Type 1} → statement M
 literal-again-spec =
     tie.close
     (tie.spec
-    plain-requires
-    add-plain
-    plain-requires-2
+    unchecked-requires
+    add-unchecked
+    unchecked-requires-2
     add-t10
     returns
-    add-plain-2
-    plain-requires-3
+    add-unchecked-2
+    unchecked-requires-3
     add-t14
     returns-2
     add-place
     add-end
-    plain-requires-4
+    unchecked-requires-4
     cast-end
     mul-end
     add-end-2
-    plain-signed-requires
+    unchecked-signed-requires
     add-t15
     returns-3)

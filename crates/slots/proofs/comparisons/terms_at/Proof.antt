@@ -27,8 +27,8 @@ Inv-loop rules place n terms₀ i₀ terms i =
 abbrev μ-loop : tie.MeasureT-loop
 μ-loop rules place n terms₀ i₀ terms i = n - i
 
-plain-requires : tie.Need-plain-requires Inv-loop μ-loop
-plain-requires c κs = search needs
+unchecked-requires : tie.Need-unchecked-requires Inv-loop μ-loop
+unchecked-requires c κs = search needs
 
 cast-n : tie.Need-cast-n Inv-loop μ-loop
 cast-n c = search needs
@@ -66,8 +66,8 @@ loop-again c =
 
 returns : tie.Need-returns Inv-loop μ-loop
 returns c =
-    let e : c .before .loop .i ≡ c .before .before .plain .result = omega arith in
-    let n = c .before .before .plain .ensures ∙ sym (terms-count (c .before .before .before .before .args .rules .now) (c .before .before .before .before .args .place)) in
+    let e : c .before .loop .i ≡ c .before .before .unchecked .result = omega arith in
+    let n = c .before .before .unchecked .ensures ∙ sym (terms-count (c .before .before .before .before .args .rules .now) (c .before .before .before .before .args .place)) in
     record { counted = n; terms = rw (← e) (filled-all _ _ _ (c .before .loop .inv .2) (e ∙ n)) }
 
 pub terms-at-spec : {M : Type 1} → statement M
@@ -76,7 +76,7 @@ terms-at-spec =
     (tie.spec
     Inv-loop
     μ-loop
-    plain-requires
+    unchecked-requires
     cast-n
     loop-holds
     add-term-at

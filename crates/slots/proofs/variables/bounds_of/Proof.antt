@@ -15,25 +15,25 @@ add-at : tie.Need-add-at
 add-at c =
     omega (arith, bounds-room _ (c .before .pre .0) _ (c .before .pre .1))
 
-plain-signed-requires : tie.Need-plain-signed-requires
-plain-signed-requires c κs =
+unchecked-signed-requires : tie.Need-unchecked-signed-requires
+unchecked-signed-requires c κs =
     omega (arith, bounds-room _ (c .before .pre .0) _ (c .before .pre .1))
 
-add-plain-signed : tie.Need-add-plain-signed
-add-plain-signed c =
+add-unchecked-signed : tie.Need-add-unchecked-signed
+add-unchecked-signed c =
     omega (arith, bounds-room _ (c .before .before .pre .0) _ (c .before .before .pre .1))
 
-plain-signed-requires-2 : tie.Need-plain-signed-requires-2
-plain-signed-requires-2 c κs =
+unchecked-signed-requires-2 : tie.Need-unchecked-signed-requires-2
+unchecked-signed-requires-2 c κs =
     omega (arith, bounds-room _ (c .before .before .pre .0) _ (c .before .before .pre .1))
 
 returns : tie.Need-returns
 returns c =
-    let lower : SFits w32 (c .before .plain-signed .result) = record { sfits = c .before .plain-signed .ok } in
-    let upper : SFits w32 (c .plain-signed2 .result) = record { sfits = c .plain-signed2 .ok } in
-    simp toZ-ofZ (bounds-there _ (c .before .before .before .pre .0) _ (c .before .before .before .pre .1) _ _ (c .before .plain-signed .ensures) (c .plain-signed2 .ensures))
+    let lower : SFits w32 (c .before .unchecked-signed .result) = record { sfits = c .before .unchecked-signed .ok } in
+    let upper : SFits w32 (c .unchecked-signed2 .result) = record { sfits = c .unchecked-signed2 .ok } in
+    simp toZ-ofZ (bounds-there _ (c .before .before .before .pre .0) _ (c .before .before .before .pre .1) _ _ (c .before .unchecked-signed .ensures) (c .unchecked-signed2 .ensures))
 
 pub bounds-of-spec : {M : Type 1} → statement M
 bounds-of-spec =
     tie.close
-    (tie.spec mul-at add-at plain-signed-requires add-plain-signed plain-signed-requires-2 returns)
+    (tie.spec mul-at add-at unchecked-signed-requires add-unchecked-signed unchecked-signed-requires-2 returns)

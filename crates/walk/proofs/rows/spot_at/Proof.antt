@@ -46,8 +46,8 @@ until-requires c κs =
     let p = place-fine (a .c) (s .pre .0) (a .w) (s .pre .1) (a .i) (s .pre .2) in
     (omega (arith, e, g .some), omega (arith, p .inside, p .narrow), omega (arith, e, g .few))
 
-literal-at-requires : tie.Need-literal-at-requires
-literal-at-requires c κs = search needs
+tuple-literal-requires : tie.Need-tuple-literal-requires
+tuple-literal-requires c κs = search needs
 
 returns : tie.Need-returns
 returns c =
@@ -55,11 +55,11 @@ returns c =
     let a = s .args in let g = slot-fair (a .c) (s .pre .0) (a .i) (s .pre .2) in
     let f : SFits w32 (slotAt (a .c) (a .i) .coefficient) = abs-fits (omega (arith, g .few)) in
     let e = simp toZ-ofZ at (c .before .before .magnitude .ensures) in
-    let l : SFits w32 (c .literal-at .result) = record { sfits = c .literal-at .ok } in
+    let l : SFits w32 (c .tuple-literal .result) = record { sfits = c .tuple-literal .ok } in
     record {
       size = e;
       rest = c .before .until .ensures;
-      literal = toZ-ofZ l ∙ c .literal-at .ensures ∙ literal-read (a .c) (s .pre .0) (a .w) (s .pre .1) (a .i) (s .pre .2) ∙ ap (λ z. slotLiteral (slotAt (a .c) (a .i)) (z +ℤ pos (offsetAt (a .c) (a .w) (a .i)))) (low-is (a .c) (s .pre .0) (a .w) (s .pre .1) (a .i) (s .pre .2));
+      literal = toZ-ofZ l ∙ c .tuple-literal .ensures ∙ literal-read (a .c) (s .pre .0) (a .w) (s .pre .1) (a .i) (s .pre .2) ∙ ap (λ z. slotLiteral (slotAt (a .c) (a .i)) (z +ℤ pos (offsetAt (a .c) (a .w) (a .i)))) (low-is (a .c) (s .pre .0) (a .w) (s .pre .1) (a .i) (s .pre .2));
     }
 
 pub spot-at-spec : {M : Type 1} → statement M
@@ -74,5 +74,5 @@ spot-at-spec =
     array-copy-out-p
     magnitude-requires
     until-requires
-    literal-at-requires
+    tuple-literal-requires
     returns)

@@ -13,11 +13,11 @@ returns c =
     let n = c .before .before .args .c .n in
     front-none (n - 2) _ (omega (arith, c .if1 .taken)) ∙ sym (front-none (n - 2) _ (omega (arith, c .if1 .taken)))
 
-literal-at-requires : tie.Need-literal-at-requires
-literal-at-requires c κs = search needs
+tuple-literal-requires : tie.Need-tuple-literal-requires
+tuple-literal-requires c κs = search needs
 
 returns-2 : tie.Need-returns-2
-returns-2 c = ap (frontOf (c .before .before .before .args .c .n - 2)) (toZ-ofZ (record { sfits = c .literal-at .ok }) ∙ c .literal-at .ensures)
+returns-2 c = ap (frontOf (c .before .before .before .args .c .n - 2)) (toZ-ofZ (record { sfits = c .tuple-literal .ok }) ∙ c .tuple-literal .ensures)
 
 pub front-at-spec : {M : Type 1} → statement M
-front-at-spec = tie.close (tie.spec returns literal-at-requires returns-2)
+front-at-spec = tie.close (tie.spec returns tuple-literal-requires returns-2)

@@ -24,8 +24,8 @@ abbrev μ-loop : tie.MeasureT-loop
 loop-holds : tie.Need-loop-holds Inv-loop μ-loop
 loop-holds c = (omega arith, refl, written-none _)
 
-literal-at-requires : tie.Need-literal-at-requires Inv-loop μ-loop
-literal-at-requires c κs =
+tuple-literal-requires : tie.Need-tuple-literal-requires Inv-loop μ-loop
+tuple-literal-requires c κs =
     let p = c .before .before .before .pre in
     (p .0, p .1, c .if1 .taken)
 
@@ -53,11 +53,11 @@ loop-again c =
     let o = a .list .now in
     let i = l .loop .i in
     let ls = present (a .c) (a .w) in
-    let f : SFits w32 (c .literal-at .result) = record { sfits = c .literal-at .ok } in
+    let f : SFits w32 (c .tuple-literal .result) = record { sfits = c .tuple-literal .ok } in
     let n = present-length (a .c) (a .w) (p .0) in (
       omega arith,
       simp length-set (l .loop .inv .1),
-      ap (set (l .loop .list) i) (toZ-ofZ f ∙ c .literal-at .ensures)
+      ap (set (l .loop .list) i) (toZ-ofZ f ∙ c .tuple-literal .ensures)
           ∙ ap (λ z. set z i (getD ls i (pos 0))) (l .loop .inv .2)
           ∙ written-take (pos 0) ls o i (omega (arith, n)) (omega (arith, p .2, clause-length ls, n)),
     )
@@ -96,4 +96,4 @@ returns c =
 pub put-literals-spec : {M : Type 1} → statement M
 put-literals-spec =
     tie.close
-    (tie.spec Inv-loop μ-loop loop-holds literal-at-requires mul-t7 slice-set-from-list add-i loop-less loop-again mul-list slice-set-of-list add-result same-length returns)
+    (tie.spec Inv-loop μ-loop loop-holds tuple-literal-requires mul-t7 slice-set-from-list add-i loop-less loop-again mul-list slice-set-of-list add-result same-length returns)

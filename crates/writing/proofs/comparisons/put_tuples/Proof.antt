@@ -24,12 +24,12 @@ Inv-loop c lead list₀ at₀ tuple₀ list at tuple =
 abbrev μ-loop : tie.MeasureT-loop
 μ-loop c lead list₀ at₀ tuple₀ list at tuple = length (toCome c tuple)
 
-first-requires : tie.Need-first-requires Inv-loop μ-loop
-first-requires c κs = c .pre .0
+first-tuple-requires : tie.Need-first-tuple-requires Inv-loop μ-loop
+first-tuple-requires c κs = c .pre .0
 
 loop-holds : tie.Need-loop-holds Inv-loop μ-loop
 loop-holds c =
-    (begin _ _ _ (ap (led (toZ w32 (ofZ w32 (c .before .args .lead)))) (c .first .ensures .1)) (rw (toZ-ofZ (c .before .fits .lead)) (c .before .pre .1)), c .first .ensures .0)
+    (begin _ _ _ (ap (led (toZ w32 (ofZ w32 (c .before .args .lead)))) (c .first-tuple .ensures .1)) (rw (toZ-ofZ (c .before .fits .lead)) (c .before .pre .1)), c .first-tuple .ensures .0)
 
 enum-known-tuple : tie.Need-enum-known-tuple Inv-loop μ-loop
 enum-known-tuple c = search needs
@@ -113,7 +113,7 @@ put-tuples-spec =
     (tie.spec
     Inv-loop
     μ-loop
-    first-requires
+    first-tuple-requires
     loop-holds
     enum-known-tuple
     enum-told

@@ -5,8 +5,8 @@ use mathlib.Core.Path.{_≡_, sym}
 use native.Mathlib.Omega.{arith}
 use Rattle.definitions.specs.Reading.{big}
 use Rattle.fields.proofs.Laws.{big-none, big-more, big-room}
-use Rattle.fields.proofs.plain.Statement.{statement}
-use Rattle.fields.proofs.plain.Tie as tie
+use Rattle.fields.proofs.unchecked.Statement.{statement}
+use Rattle.fields.proofs.unchecked.Tie as tie
 
 abbrev Inv-loop : tie.InvT-loop
 Inv-loop bytes at width value₀ i₀ value i = (i ≤ width) × (value ≡ big bytes at i)
@@ -49,8 +49,8 @@ returns : tie.Need-returns Inv-loop μ-loop
 returns c =
     let e : c .before .loop .i ≡ c .before .before .args .width = omega arith in rw (← e) (c .before .loop .inv .1)
 
-pub plain-spec : {M : Type 1} → statement M
-plain-spec =
+pub unchecked-spec : {M : Type 1} → statement M
+unchecked-spec =
     tie.close
     (tie.spec
     Inv-loop

@@ -1,4 +1,4 @@
--- `walk::tuples::first` meets its contract.
+-- `walk::tuples::first_tuple` meets its contract.
 use mathlib.Core.Path.{_≡_, sym, ap, _∙_, subst}
 use mathlib.Core.List.{List, [], _∷_, map}
 use lib.IntN.{pos, natAbs}
@@ -13,8 +13,8 @@ use Rattle.walk.specs.declared.Place.{Place}
 use Rattle.walk.specs.Walks.{above, Fine, Over}
 use Rattle.walk.specs.Comparisons.{paddedRanges, placed, Walking}
 use Rattle.walk.proofs.Starts.{start-end, places-fine, three-places, start-at}
-use Rattle.walk.proofs.tuples.first.Statement.{statement}
-use Rattle.walk.proofs.tuples.first.Tie as tie
+use Rattle.walk.proofs.tuples.first_tuple.Statement.{statement}
+use Rattle.walk.proofs.tuples.first_tuple.Tie as tie
 
 over-least-requires : tie.Need-over-least-requires
 over-least-requires c κs = search needs
@@ -70,8 +70,8 @@ returns-2 c =
       start-at (start d .args .c) (start d .pre) t r (e ∙ sum d .over-least .ensures) (c .lowest .ensures .1 ∙ ap (λ ps. above ps t) (sym (three d))),
     )
 
-pub first-spec : {M : Type 1} → statement M
-first-spec =
+pub first-tuple-spec : {M : Type 1} → statement M
+first-tuple-spec =
     tie.close
     (tie.spec
     over-least-requires

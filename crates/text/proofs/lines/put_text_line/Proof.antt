@@ -1,4 +1,4 @@
--- `text::lines::put_line` meets its contract.
+-- `text::lines::put_text_line` meets its contract.
 use borrow.Author.Needs.{needs}
 use mathlib.Core.Path.{refl}
 use mathlib.Core.List.{_++_}
@@ -8,8 +8,8 @@ use lib.ListN.{length, length-append}
 use Rattle.laws.specs.Written.{back, rest-length}
 use Rattle.laws.specs.Filling.{Filling, begun, room-before, room, part, last}
 use Rattle.text.specs.Lines.{withEnd, line}
-use Rattle.text.proofs.lines.put_line.Statement.{statement}
-use Rattle.text.proofs.lines.put_line.Tie as tie
+use Rattle.text.proofs.lines.put_text_line.Statement.{statement}
+use Rattle.text.proofs.lines.put_text_line.Tie as tie
 
 -- the word is written
 word-put : (c : tie.After-put-word) → let a = c .before .before .before .before .args in
@@ -83,8 +83,8 @@ returns c =
     let r = last (first-put (c .before .before .before .before .before .before)) _ _ (n .ensures .0) (n .ensures .1) in
     (r .0, r .1)
 
-pub put-line-spec : {M : Type 1} → statement M
-put-line-spec =
+pub put-text-line-spec : {M : Type 1} → statement M
+put-text-line-spec =
     tie.close
     (tie.spec
     put-word-requires

@@ -1,4 +1,4 @@
--- `walk::tuples::literal_at` meets its contract.
+-- `walk::tuples::tuple_literal` meets its contract.
 use mathlib.Core.Path.{sym, ap, _∙_}
 use lib.ListN.{getD}
 use mir.Syntax.{w32}
@@ -7,8 +7,8 @@ use mir.Facts.{toZ-ofZ}
 use borrow.Author.Needs.{needs}
 use Rattle.walk.specs.Slots.{slotLiteral}
 use Rattle.walk.proofs.Padding.{no-slot, slot-fair, place-fine, bound-inside, literal-read}
-use Rattle.walk.proofs.tuples.literal_at.Statement.{statement}
-use Rattle.walk.proofs.tuples.literal_at.Tie as tie
+use Rattle.walk.proofs.tuples.tuple_literal.Statement.{statement}
+use Rattle.walk.proofs.tuples.tuple_literal.Tie as tie
 
 add-p : tie.Need-add-p
 add-p c = search needs
@@ -51,8 +51,8 @@ returns c =
     ∙ ap (slotLiteral (getD (a .c .slots) (a .i) no-slot)) (c .before .bound .ensures)
     ∙ sym (literal-read (a .c) (p .0) (a .w) (p .1) (a .i) (p .2))
 
-pub literal-at-spec : {M : Type 1} → statement M
-literal-at-spec =
+pub tuple-literal-spec : {M : Type 1} → statement M
+tuple-literal-spec =
     tie.close
     (tie.spec
     add-p
