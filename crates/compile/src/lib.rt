@@ -14,7 +14,6 @@ use definitions::Sizing;
 use measure::Measured;
 use measure::measure;
 use opening::Header;
-use opening::context_of;
 use slots::FIRSTS;
 use slots::variables::first_in;
 use slots::variables::put_firsts;
@@ -27,7 +26,6 @@ fn put_list(bytes: &[u8], header: Header, list: &mut [i32]) -> usize
     requires { ⌜ Opened (now bytes) header × (length (clauseList (boardOf (now bytes))) ≤ length (now list)) ⌝ }
     ensures { λ r. ⌜ (r ≡ length (clauseList (boardOf (now (bytes .entry))))) × (now (list .exit) ≡ written (clauseList (boardOf (now (bytes .entry)))) (now (list .entry))) ⌝ }
 {
-    let known = context_of(header);
     let tail = header.rules;
     let mut firsts = [0u32; FIRSTS];
     put_firsts(bytes, header.bools, header.ints, &mut firsts);
@@ -36,7 +34,6 @@ fn put_list(bytes: &[u8], header: Header, list: &mut [i32]) -> usize
     at
         + put_pieces(
             bytes,
-            known,
             &firsts,
             &bytes[tail..],
             header.clauses,

@@ -7,7 +7,6 @@ pub mod Values
 pub mod Lines
 pub mod Tails
 pub mod Sums
-pub mod Next
 pub mod Passes
 pub mod Decoded
 pub mod Outcome

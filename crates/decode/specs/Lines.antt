@@ -1,25 +1,26 @@
 -- A line's literals, read one after another: the number of each, and whether it holds. Assumes nothing.
-use mathlib.Core.Path.{_≡_, refl, sym, ap, _∙_}
+use mathlib.Core.Path.{_≡_, refl}
 use mathlib.Core.Bool.{Bool, true, false, not}
 use mathlib.Core.List.{List, _∷_}
-use Prim.Native.Nat.{ℕ, suc, _+_, _-_, _≤_, _<_}
+use Prim.Native.Nat.{ℕ, _+_, _-_, _≤_, _<_}
 use native.Mathlib.Numerals.{add-one}
 use native.Mathlib.Omega.{arith}
 use lib.ListN.{length}
 use Rattle.definitions.specs.Tools.{All}
 use Rattle.definitions.specs.Board.{Board, Clause}
-use Rattle.definitions.specs.Result.{done, refused}
+use Rattle.definitions.specs.Result.{done}
 use Rattle.definitions.specs.Reading.{times, readLiteral}
 use Rattle.definitions.specs.Encoding.{SatLiteral, plus, minus, bool, selector, first, number, N}
 use Rattle.definitions.specs.Meaning.{on, satisfies, inModel}
-use Rattle.laws.specs.Readings.{Parts, times-parts, never}
 use Rattle.laws.specs.Reread.{contextOf}
-use Rattle.laws.specs.Ahead.{literalsAt}
+use Rattle.laws.specs.Again.{There, literal-read, literalsAt, FirstLiteral, first-literal}
 use Rattle.laws.specs.Pieces.{lineFrom}
 use Rattle.laws.specs.Layout.{number-range}
 use Rattle.laws.specs.Mentions.{atomOf, Mentions}
 use Rattle.reader.specs.declared.Literal.{Literal}
+use Rattle.reader.specs.declared.Reread.{Reread}
 use Rattle.reader.specs.Said.{literalOf}
+use Rattle.reader.specs.Literals.{Rereads}
 use Rattle.decode.specs.Truth.{selectorNumber, trueClause}
 
 -- the number of a literal's SAT variable; the next selector has the number `next`
@@ -70,48 +71,40 @@ number-before a j (Literal.Comparison p c) = omega arith
 
 -- of a line of which nothing held before, n literals are left, at a place, and the selectors from j on
 pub record Reading (B : Board) (model t : List ℕ) (all : Bool) (j n place : ℕ) : Type 0 where
-  pub readable : times n (readLiteral (contextOf B)) t place ≡ done (literalsAt (contextOf B) t n place)
-  pub same : trueClause B model (lineFrom j (literalsAt (contextOf B) t n place .value)) ≡ all
-  pub mentioned : All (Mentions B) (lineFrom j (literalsAt (contextOf B) t n place .value))
+  pub readable : times n (readLiteral (contextOf B)) t place ≡ done (literalsAt t n place)
+  pub same : trueClause B model (lineFrom j (literalsAt t n place .value)) ≡ all
+  pub mentioned : All (Mentions B) (lineFrom j (literalsAt t n place .value))
 
 module _ {B : Board} {model t : List ℕ} {all : Bool} {j n place : ℕ} (h : Reading B model t all j n place) where
   pub none-left : n ≤ 0 → false ≡ all
-  unfolding literalsAt lineFrom
+  unfolding lineFrom
   none-left k = let o : n ≡ 0 = omega arith in rw o at (h .same)
 
   module _ (k : 0 < n) where
-    parts : Parts (n - 1) (readLiteral (contextOf B)) t place (literalsAt (contextOf B) t n place)
-    parts = let o : n ≡ suc (n - 1) = omega arith in times-parts (readLiteral (contextOf B)) t place {k = n} {n = n - 1} o (h .readable)
+    first-left : FirstLiteral (contextOf B) t n place
+    first-left = first-literal (contextOf B) t n place k (h .readable)
 
-    pub one-left : {why d : ℕ} → readLiteral (contextOf B) t place ≡ refused why d → ⊥
-    one-left r = never (sym r ∙ parts .read)
+    pub one-left : There t place
+    one-left = literal-read t place (contextOf B) _ (first-left .read) .there
 
-    -- the literal l was read
-    module _ (l : Literal) {next : ℕ} (r : readLiteral (contextOf B) t place ≡ done (record { value = literalOf t l; next = next })) where
-      first-is : parts .first ≡ record { value = literalOf t l; next = next }
-      first-is = cc (parts .read)
+    -- it was read again
+    module _ {r : Reread} (a : Rereads t place r) where
+      line-is : lineFrom j (literalsAt t n place .value) ≡ inLine j (r .literal) ∷ lineFrom (selectorAfter (r .literal) j) (literalsAt t (n - 1) (r .next) .value)
+      line-is = rw (first-left .joined, a .next, ← a .literal) (line-first t j (r .literal) _)
 
-      others : times (n - 1) (readLiteral (contextOf B)) t next ≡ done (parts .others)
-      others = rw first-is at (parts .rest)
-
-      line-is : lineFrom j (literalsAt (contextOf B) t n place .value) ≡ inLine j l ∷ lineFrom (selectorAfter l j) (literalsAt (contextOf B) t (n - 1) next .value)
-      unfolding literalsAt
-      line-is =
-          ap (λ z. lineFrom j (z .value)) (parts .joined) ∙ rw (first-is, others) (line-first t j l (parts .others .value))
-
-      pub literal-numbered : length model ≡ N B → (1 ≤ numberIn (selectorNumber B j) l) × (numberIn (selectorNumber B j) l ≤ length model) × (numberIn j l ≤ length model)
+      pub literal-numbered : length model ≡ N B
+          → (1 ≤ numberIn (selectorNumber B j) (r .literal)) × (numberIn (selectorNumber B j) (r .literal) ≤ length model) × (numberIn j (r .literal) ≤ length model)
       literal-numbered e =
-          let r = number-range B (atomOf (inLine j l)) ((rw line-is at (h .mentioned)) .0) in
-          let n = its-number B j l in
-          (omega (arith, n, r .0), omega (arith, n, r .1, e), omega (arith, n, r .1, e, number-before (first B (length (B .bounds))) j l))
+          let m = number-range B (atomOf (inLine j (r .literal))) ((rw line-is at (h .mentioned)) .0) in
+          let n = its-number B j (r .literal) in
+          (omega (arith, n, m .0), omega (arith, n, m .1, e), omega (arith, n, m .1, e, number-before (first B (length (B .bounds))) j (r .literal)))
 
-      pub literal-true : signed model (selectorNumber B j) l ≡ true → true ≡ all
-      literal-true q = rw (line-is, its-truth B model j l, q) at (h .same)
+      pub literal-true : signed model (selectorNumber B j) (r .literal) ≡ true → true ≡ all
+      literal-true q = rw (line-is, its-truth B model j (r .literal), q) at (h .same)
 
-      pub literal-false : signed model (selectorNumber B j) l ≡ false → Reading B model t all (selectorAfter l j) (n - 1) next
-      unfolding literalsAt
+      pub literal-false : signed model (selectorNumber B j) (r .literal) ≡ false → Reading B model t all (selectorAfter (r .literal) j) (n - 1) (r .next)
       literal-false q = record {
-        readable = rw others;
-        same = rw (line-is, its-truth B model j l, q) at (h .same);
+        readable = rw (a .next) (first-left .rest);
+        same = rw (line-is, its-truth B model j (r .literal), q) at (h .same);
         mentioned = (rw line-is at (h .mentioned)) .1;
       }

@@ -5,7 +5,7 @@ use mathlib.Core.List.{List, [], _∷_, _++_, map, flatten, map-append, append-a
 use Prim.Native.Nat.{ℕ, _+_, _^_, _≤_, _<_}
 use native.Mathlib.Nat.{add-zero}
 use native.Mathlib.Omega.{arith}
-use lib.ListN.{length, length-map, length-append, drop}
+use lib.ListN.{length, length-map, length-append}
 use lib.IntN.{ℤ}
 use Rattle.definitions.specs.Tools.{All}
 use Rattle.definitions.specs.Board.{Board, boundsOf}
@@ -14,32 +14,27 @@ use Rattle.definitions.specs.Encoding.{SatClause, N, axioms, rules, clauses}
 use Rattle.laws.specs.Lists.{append-all}
 use Rattle.laws.specs.Sizes.{M-is}
 use Rattle.laws.specs.Fits.{M-fits}
-use Rattle.laws.specs.Boards.{boardOf, opens-board}
-use Rattle.laws.specs.Reread.{Recorded, contextOf, tableEnd}
-use Rattle.laws.specs.Ahead.{literalsAt, clausesAt, coming}
-use Rattle.laws.specs.Pieces.{Piece, pieceClauses, piecesFrom, clausesIn, remaining-start, rules-pieces}
+use Rattle.laws.specs.Boards.{boardOf, opens-admitted}
+use Rattle.laws.specs.Reread.{Recorded, contextOf}
+use Rattle.laws.specs.Pieces.{Piece, pieceClauses, clausesIn, rules-pieces}
 use Rattle.laws.specs.Mentions as Mentions
-use Rattle.opening.specs.declared.Header.{Header}
 use Rattle.rules.specs.declared.Cursor.{Cursor}
 use Rattle.rules.specs.Cursors.{atStart, comingAt, Sound}
+use Rattle.rules.specs.Known.{Known, starts, all-coming}
 use Rattle.walk.specs.declared.Comparison.{Comparison}
 use Rattle.walk.specs.declared.Walk.{Walk}
 use Rattle.walk.specs.declared.At.{At}
 use Rattle.walk.specs.Comparisons.{Walking, toCome, literalsOf, none-left}
 use Rattle.walk.specs.Rows.{rowClauses, After, row-some}
-use Rattle.opening.specs.Headers.{Opened, clauses-is, admitted}
 use Rattle.decode.specs.declared.Checked.{Checked}
 use Rattle.decode.specs.Truth.{trueTail, trueClause, tests}
 use Rattle.decode.specs.Goes.{Sought, sought-all, Goes, goes-start, goes-end, goes-part, goes-fails}
 use Rattle.decode.specs.Sums.{Shown}
 use Rattle.decode.specs.Tails.{clauseTest, leadOf, passedBy, walkedBy, passed-most, Tails, tails-tests, tails-numbered}
 
--- the pieces at the cursor, the tests of their clauses, and the tests of all the rules' clauses
-abbrev pub ahead : Board → List ℕ → Cursor → List Piece
-ahead B t c = comingAt (contextOf B) t c
-
+-- the tests of the clauses of the pieces at the cursor, and of all the rules' clauses
 abbrev testsAt : Board → List ℕ → List ℕ → Cursor → List Bool
-testsAt B model t c = tests B model (clausesIn (boundsOf B) (ahead B t c))
+testsAt B model t c = tests B model (clausesIn (boundsOf B) (comingAt t c))
 
 abbrev pub ruleTests : Board → List ℕ → List Bool
 ruleTests B model = tests B model (flatten (rules B))
@@ -48,7 +43,7 @@ module _ (B : Board) (model t : List ℕ) where
   -- the clauses before number n hold, and the pieces at the cursor are left
   pub record Passing (i n : ℕ) (c : Cursor) : Type 0 where
     pub goes : Goes i (ruleTests B model) n (testsAt B model t c)
-    pub sound : All (Mentions.Sound B) (ahead B t c)
+    pub sound : All (Mentions.Sound B) (comingAt t c)
     pub readable : Sound (contextOf B) t c
 
   -- in a piece that is not shown to hold, and whose lead does not, the tuples at `at` are left, and then the pieces at the cursor
@@ -58,13 +53,13 @@ module _ (B : Board) (model t : List ℕ) where
     pub numbered : All (All (Mentions.InList (length model))) (toCome q at)
 
 module _ {B : Board} {model t : List ℕ} {i n : ℕ} {c : Cursor} (h : Passing B model t i n c) where
-  pub passing-end : ahead B t c ≡ [] → done tt ≡ each 13 i (ruleTests B model)
+  pub passing-end : comingAt t c ≡ [] → done tt ≡ each 13 i (ruleTests B model)
   unfolding flatten
   passing-end e = goes-end (h .goes) (rw e) .0
 
   -- a piece comes next
-  module _ {p : Piece} (c′ : Cursor) (e : ahead B t c ≡ p ∷ ahead B t c′) where
-    pub sound-next : Mentions.Sound B p × All (Mentions.Sound B) (ahead B t c′)
+  module _ {p : Piece} (c′ : Cursor) (e : comingAt t c ≡ p ∷ comingAt t c′) where
+    pub sound-next : Mentions.Sound B p × All (Mentions.Sound B) (comingAt t c′)
     sound-next = let s = rw e at (h .sound) in (s .0, s .1)
 
     -- its clauses, and then those of the pieces behind it
@@ -73,7 +68,7 @@ module _ {B : Board} {model t : List ℕ} {i n : ℕ} {c : Cursor} (h : Passing 
 
     begins-with : testsAt B model t c ≡ tests B model own ++ testsAt B model t c′
     unfolding flatten
-    begins-with = ap (λ ps. tests B model (clausesIn (boundsOf B) ps)) e ∙ map-append (trueClause B model) own (clausesIn (boundsOf B) (ahead B t c′))
+    begins-with = ap (λ ps. tests B model (clausesIn (boundsOf B) ps)) e ∙ map-append (trueClause B model) own (clausesIn (boundsOf B) (comingAt t c′))
 
     module _ (r : Bool) (q : Comparison) (f : Shown B model p r) (d : Tails B p q) where
       how-many : length own ≡ length (literalsOf q)
@@ -98,7 +93,7 @@ module _ {B : Board} {model t : List ℕ} {i n : ℕ} {c : Cursor} (h : Passing 
         }
 
 module _ {B : Board} {model t : List ℕ} {i n : ℕ} {q : Comparison} {at : At} {c : Cursor} (h : Walks B model t i n q at c) where
-  pub walks-end : at ≡ At.End → All (Mentions.Sound B) (ahead B t c) → Sound (contextOf B) t c → Passing B model t i n c
+  pub walks-end : at ≡ At.End → All (Mentions.Sound B) (comingAt t c) → Sound (contextOf B) t c → Passing B model t i n c
   walks-end e a s = record { goes = rw (e, none-left q) at (h .goes); sound = a; readable = s }
 
   module _ {w : Walk} (e : at ≡ At.Tuple w) where
@@ -142,32 +137,13 @@ module _ {B : Board} {model t : List ℕ} {i n : ℕ} {q : Comparison} {at : At}
         walks-stop f = goes-fails (h .goes) _ _ split a s f
 
 -- where the pass begins
-module _ {s : List ℕ} {h : Header} (o : Opened s h) (model : List ℕ) where
-  abbrev tail : List ℕ
-  tail = drop (tableEnd (boardOf s)) s
-
-  abbrev begin : Cursor
-  begin = atStart (h .clauses)
-
-  begins : comingAt (contextOf (boardOf s)) tail begin ≡ piecesFrom 0 (boardOf s .clauses)
-  unfolding comingAt coming literalsAt clausesAt
-  begins = rw (clauses-is o, opens-board s (o .opens) .clauses) (remaining-start true (boardOf s .clauses))
-
-  begin-sound : Sound (contextOf (boardOf s)) tail begin
-  unfolding literalsAt clausesAt
-  begin-sound = record {
-    readable = record { literals = refl; clauses = rw (clauses-is o, opens-board s (o .opens) .clauses) };
-    few = omega (arith, clauses-is o, admitted o .rules);
-    short = omega arith;
-  }
-
-  pub passing-start : (i : ℕ) → Passing (boardOf s) model tail i i begin
-  unfolding rules
-  passing-start i = record {
-    goes = rw (begins, rules-pieces (boundsOf (boardOf s)) 0 (boardOf s .clauses)) (goes-start i _);
-    sound = rw begins (Mentions.pieces-sound (boardOf s) (admitted o));
-    readable = begin-sound;
-  }
+pub passing-start : {s t : List ℕ} (k : Known s t) {n : ℕ} → n ≡ length (boardOf s .clauses) → (model : List ℕ) (i : ℕ) → Passing (boardOf s) model t i i (atStart n)
+unfolding rules
+passing-start {s} k e model i = record {
+  goes = rw (all-coming k e, rules-pieces (boundsOf (boardOf s)) 0 (boardOf s .clauses)) (goes-start i _);
+  sound = rw (all-coming k e) (Mentions.pieces-sound (boardOf s) (opens-admitted s (k .opens)));
+  readable = starts k e;
+}
 
 -- ---- the axioms, and then the rules
 module _ (B : Board) (model : List ℕ) where

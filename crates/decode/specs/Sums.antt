@@ -9,7 +9,7 @@ use lib.ListN.{length, getD, drop, replicate, List·getD-append}
 use lib.IntN.{ℤ, pos, natAbs}
 use lib.Signed.{leZ}
 use Rattle.definitions.specs.Tools.{All, all, if_then_else_}
-use Rattle.definitions.specs.Board.{Board, Comparison, boundsOf, variables}
+use Rattle.definitions.specs.Board.{Board, Comparison, Clause, boundsOf, variables}
 use Rattle.definitions.specs.Result.{done, each}
 use Rattle.definitions.specs.Encoding.{Atom, SatClause, least, tuplesOf, sharp, clausesUnder, axiomsOf, axioms}
 use Rattle.definitions.specs.Meaning.{Assignment, assigned, compares, satisfies, inModel, valueOf, valuesOf}
@@ -19,8 +19,9 @@ use Rattle.laws.specs.Some.{any-right, any-append, some-true, lines}
 use Rattle.laws.specs.Search.{seek-all}
 use Rattle.laws.specs.Written.{written, written-length}
 use Rattle.laws.specs.Admitted.{Admitted, GoodTerm, GoodComparison}
+use Rattle.laws.specs.Reread.{termsAt, Stands}
 use Rattle.laws.specs.Terms.{good-bounds}
-use Rattle.laws.specs.Pieces.{Piece, line, under, pieceClauses}
+use Rattle.laws.specs.Pieces.{Piece, line, under, pieceClauses, lineFrom}
 use Rattle.demands.specs.Truth.{Holds, Satisfied, Tells}
 use Rattle.demands.specs.Rule.{KnownTerm, proposition-1}
 use Rattle.demands.specs.Order.{proposition-2}
@@ -65,7 +66,7 @@ module _ (B : Board) (model : List ℕ) where
   -- where the lead holds
   pub lead-held : (p : Piece) → trueClause B model (leadOf p) ≡ true → Held (pieceClauses (boundsOf B) p)
   unfolding pieceClauses
-  lead-held (line c) e = (e, tt)
+  lead-held (line j C) e = (e, tt)
   lead-held (under lead q) e =
       rw (led lead q) (all-map (λ c. trueClause B model c ≡ true) (λ c. lead ++ c) (clausesUnder [] (boundsOf B) q)
       (all-every-held (clausesUnder [] (boundsOf B) q)))
@@ -121,23 +122,26 @@ module _ (B : Board) (model : List ℕ) where
   pub shown-lead : (p : Piece) → trueClause B model (leadOf p) ≡ true → Shown p true
   shown-lead p e = record { held = λ h. lead-held p e; left = λ h. absurd (apart h) }
 
-  pub shown-line : (c : SatClause) → trueClause B model c ≡ false → Shown (line c) false
-  shown-line c e = record { held = λ h. absurd (apart (sym h)); left = λ h. e }
+  pub shown-line : (j : ℕ) (C : Clause) → trueClause B model (lineFrom j C) ≡ false → Shown (line j C) false
+  shown-line j C e = record { held = λ h. absurd (apart (sym h)); left = λ h. e }
 
   pub shown-sum : Told → (values : List ℤ) → ValuesIn values → (lead : SatClause) (q : Comparison) → GoodComparison (length (B .bounds)) q → trueClause B model lead ≡ false
       → (r : Bool) → r ≡ compares (assigned values []) q → Shown (under lead q) r
   unfolding assigned pieceClauses
   shown-sum t values i lead q g f r e = record { held = λ h. comparison-held t (assigned values []) (i .same) q g (sym e ∙ h) lead; left = λ h. f }
 
--- what is good among some variables is good among more
-pub good-among : {m n : ℕ} (q : Comparison) → m ≤ n → GoodComparison m q → GoodComparison n q
-good-among {m} {n} q l g = record {
-  some = g .some;
-  few = g .few;
-  terms = all-impl (GoodTerm m) (GoodTerm n) (λ t k. record { least = k .least; most = k .most; some = k .some; known = omega (arith, k .known) }) (q .terms) (g .terms);
-  differ = g .differ;
-  least = g .least;
-  most = g .most;
+-- what stands among some variables stands among more
+pub stands-among : {m n : ℕ} {t : List ℕ} {place : ℕ} {k : ℤ} → m ≤ n → Stands m t place k → Stands n t place k
+stands-among {m} {n} {t} {place} l h = record {
+  terms = h .terms;
+  good = record {
+    some = h .good .some;
+    few = h .good .few;
+    terms = all-impl (GoodTerm m) (GoodTerm n) (λ u g. record { least = g .least; most = g .most; some = g .some; known = omega (arith, g .known) }) (termsAt t place) (h .good .terms);
+    differ = h .good .differ;
+    least = h .good .least;
+    most = h .good .most;
+  };
 }
 
 pub near-none : (n : ℕ) → Near (replicate n (pos 0))

@@ -15,7 +15,7 @@ use Rattle.definitions.specs.Meaning.{on, satisfies, inModel}
 use Rattle.laws.specs.Whole.{whole, le-test, gt-test}
 use Rattle.laws.specs.Some.{any-append}
 use Rattle.laws.specs.Lists.{all-impl, all-map, map-all, append-all, map-same}
-use Rattle.laws.specs.Pieces.{Piece, line, under, pieceClauses}
+use Rattle.laws.specs.Pieces.{Piece, line, under, pieceClauses, lineFrom}
 use Rattle.laws.specs.Layout.{number-range}
 use Rattle.laws.specs.Mentions.{atomOf, Mentions, InList, Sound, piece-mentions, literal-size}
 use Rattle.walk.specs.declared.Comparison.{Comparison}
@@ -43,7 +43,7 @@ clauseTest model lead zs = lead || trueTail model zs
 
 -- what leads each clause of a piece: a line is a lead with nothing behind it
 abbrev pub leadOf : Piece → SatClause
-leadOf (line c) = c
+leadOf (line j C) = lineFrom j C
 leadOf (under lead q) = lead
 
 -- of a piece's clauses, which may be known to hold: how many need no look, and those that are left to walk
@@ -66,9 +66,9 @@ pub record Tails (B : Board) (p : Piece) (c : Comparison) : Type 0 where
   pub literals : literalsOf c ≡ map (map (literalNumber B)) tails
 
 module _ (B : Board) where
-  pub line-tails : (l : SatClause) (c : Comparison) → Single c → Tails B (line l) c
+  pub line-tails : (j : ℕ) (C : board.Clause) (c : Comparison) → Single c → Tails B (line j C) c
   unfolding pieceClauses
-  line-tails l c s = record { fair = s .fair; reached = s .reached; tails = [] ∷ []; clauses = ap (λ z. z ∷ []) (sym (append-nil l)); literals = s .one }
+  line-tails j C c s = record { fair = s .fair; reached = s .reached; tails = [] ∷ []; clauses = ap (λ z. z ∷ []) (sym (append-nil (lineFrom j C))); literals = s .one }
 
   module _ (lead : SatClause) (q : board.Comparison) (c : Comparison) where
     pub below-tails : q .constant <ℤ least (boundsOf B) (q .terms) → Single c → Tails B (under lead q) c

@@ -9,8 +9,6 @@ use lent::first_bad_byte;
 use measure::Measured;
 use measure::measure;
 use opening::Header;
-use rules::Cursor;
-use rules::Piece;
 ghost use mathlib.Core.Path.{_≡_};
 ghost use Rattle.definitions.specs.Encoding.{N};
 ghost use Rattle.definitions.specs.Answers.{saidVerdict};
@@ -25,12 +23,6 @@ ghost use Rattle.decode.specs.Outcome.{Allowed, Leaves};
 pub enum Checked {
     Fails(usize),
     Hold(usize),
-}
-
-// The next piece of the rules and where the pass stands behind it.
-pub enum Ahead {
-    Met(Piece, Cursor),
-    Nothing,
 }
 
 pub mod axioms; // axioms.rt: the search over the axioms

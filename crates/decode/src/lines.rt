@@ -1,10 +1,8 @@
 // The clause of a record clause's Boolean literals and selectors.
 use lent::is_on;
 use opening::Header;
-use opening::context_of;
 use reader::Literal;
-use reader::LiteralRead;
-use reader::clauses::literal_at;
+use reader::rereading::literal_again;
 use slots::variables::first_in;
 ghost use mathlib.Core.Path.{_≡_};
 ghost use Prim.Native.Nat.{_+_, _≤_, _<_};
@@ -12,7 +10,7 @@ ghost use lib.ListN.{length};
 ghost use Rattle.definitions.specs.Tools.{All};
 ghost use Rattle.definitions.specs.Result.{done};
 ghost use Rattle.definitions.specs.Reading.{times, readLiteral};
-ghost use Rattle.laws.specs.Ahead.{literalsAt};
+ghost use Rattle.laws.specs.Again.{literalsAt};
 ghost use Rattle.laws.specs.Boards.{boardOf};
 ghost use Rattle.laws.specs.Reread.{contextOf};
 ghost use Rattle.laws.specs.Pieces.{lineFrom};
@@ -63,24 +61,21 @@ pub fn line_holds(
     at: usize,
     selector: usize,
 ) -> bool
-    requires { ⌜ Given (now bytes) (now model) header × FirstsOf (boardOf (now bytes)) (now firsts) × (times n (readLiteral (contextOf (boardOf (now bytes)))) (now rules) at ≡ done (literalsAt (contextOf (boardOf (now bytes))) (now rules) n at)) × All (Mentions (boardOf (now bytes))) (lineFrom selector (literalsAt (contextOf (boardOf (now bytes))) (now rules) n at .value)) ⌝ }
-    ensures { λ r. ⌜ r ≡ trueClause (boardOf (now (bytes .entry))) (now (model .entry)) (lineFrom selector (literalsAt (contextOf (boardOf (now (bytes .entry)))) (now (rules .entry)) n at .value)) ⌝ }
+    requires { ⌜ Given (now bytes) (now model) header × FirstsOf (boardOf (now bytes)) (now firsts) × (times n (readLiteral (contextOf (boardOf (now bytes)))) (now rules) at ≡ done (literalsAt (now rules) n at)) × All (Mentions (boardOf (now bytes))) (lineFrom selector (literalsAt (now rules) n at .value)) ⌝ }
+    ensures { λ r. ⌜ r ≡ trueClause (boardOf (now (bytes .entry))) (now (model .entry)) (lineFrom selector (literalsAt (now (rules .entry)) n at .value)) ⌝ }
 {
-    let known = context_of(header);
     let selectors = first_in(firsts, header.ints) as usize;
     let mut j = selector;
     let mut place = at;
     let mut left = n;
     while 0 < left {
-        // never refused: the record was accepted
-        let LiteralRead::Got(literal, next) = literal_at(rules, known, place) else {
-            return false;
-        };
+        let read = literal_again(rules, place);
+        let literal = read.literal;
         if literal_holds(model, literal, selectors, j) {
             return true;
         }
         j = selector_after(literal, j);
-        place = next;
+        place = read.next;
         left -= 1;
     }
     false

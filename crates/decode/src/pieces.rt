@@ -19,9 +19,9 @@ ghost use lib.IntN.{pos};
 ghost use lib.Signed.{_≤ℤ_};
 ghost use Rattle.definitions.specs.Tools.{All};
 ghost use Rattle.laws.specs.Boards.{Opens, boardOf};
-ghost use Rattle.laws.specs.Reread.{comparisonAt, contextOf};
+ghost use Rattle.laws.specs.Reread.{comparisonAt, contextOf, Stands};
 ghost use Rattle.laws.specs.Mentions.{Sound};
-ghost use Rattle.rules.specs.Cursors.{saidPiece, Held, Stands};
+ghost use Rattle.rules.specs.Cursors.{saidPiece, Held};
 ghost use Rattle.walk.specs.Comparisons.{FairComparison, Walking, overLeast, toCome};
 ghost use Rattle.slots.specs.Variables.{FirstsOf};
 ghost use Rattle.decode.specs.Given.{Given};
@@ -38,8 +38,8 @@ fn lead_holds(
     header: Header,
     piece: Piece,
 ) -> bool
-    requires { ⌜ Given (now bytes) (now model) header × FirstsOf (boardOf (now bytes)) (now firsts) × Held (contextOf (boardOf (now bytes))) (now rules) piece × Sound (boardOf (now bytes)) (saidPiece (contextOf (boardOf (now bytes))) (now rules) piece) ⌝ }
-    ensures { λ r. ⌜ r ≡ trueClause (boardOf (now (bytes .entry))) (now (model .entry)) (leadOf (saidPiece (contextOf (boardOf (now (bytes .entry)))) (now (rules .entry)) piece)) ⌝ }
+    requires { ⌜ Given (now bytes) (now model) header × FirstsOf (boardOf (now bytes)) (now firsts) × Held (contextOf (boardOf (now bytes))) (now rules) piece × Sound (boardOf (now bytes)) (saidPiece (now rules) piece) ⌝ }
+    ensures { λ r. ⌜ r ≡ trueClause (boardOf (now (bytes .entry))) (now (model .entry)) (leadOf (saidPiece (now (rules .entry)) piece)) ⌝ }
 {
     match piece {
         Piece::Line {
@@ -82,8 +82,8 @@ pub fn piece_holds(
     header: Header,
     piece: Piece,
 ) -> bool
-    requires { ⌜ Given (now bytes) (now model) header × FirstsOf (boardOf (now bytes)) (now firsts) × Told (boardOf (now bytes)) (now model) × ValuesIn (boardOf (now bytes)) (now model) (now values) × Held (contextOf (boardOf (now bytes))) (now rules) piece × Sound (boardOf (now bytes)) (saidPiece (contextOf (boardOf (now bytes))) (now rules) piece) ⌝ }
-    ensures { λ r. ⌜ Shown (boardOf (now (bytes .entry))) (now (model .entry)) (saidPiece (contextOf (boardOf (now (bytes .entry)))) (now (rules .entry)) piece) r ⌝ }
+    requires { ⌜ Given (now bytes) (now model) header × FirstsOf (boardOf (now bytes)) (now firsts) × Told (boardOf (now bytes)) (now model) × ValuesIn (boardOf (now bytes)) (now model) (now values) × Held (contextOf (boardOf (now bytes))) (now rules) piece × Sound (boardOf (now bytes)) (saidPiece (now rules) piece) ⌝ }
+    ensures { λ r. ⌜ Shown (boardOf (now (bytes .entry))) (now (model .entry)) (saidPiece (now (rules .entry)) piece) r ⌝ }
 {
     if lead_holds(bytes, firsts, rules, model, header, piece) {
         return true;
@@ -121,7 +121,7 @@ fn single() -> Comparison
 
 // The comparison at a place, or a single clause where its constant is below the least sum.
 fn tails_at(bytes: &[u8], firsts: &[u32], rules: &[u8], place: usize, constant: i32) -> Comparison
-    requires { ⌜ Opens (now bytes) × FirstsOf (boardOf (now bytes)) (now firsts) × Stands (contextOf (boardOf (now bytes))) (now rules) place constant ⌝ }
+    requires { ⌜ Opens (now bytes) × FirstsOf (boardOf (now bytes)) (now firsts) × Stands (length (boardOf (now bytes) .bounds)) (now rules) place constant ⌝ }
     ensures { λ r. ⌜ TailsOf (boardOf (now (bytes .entry))) (comparisonAt (now (rules .entry)) place constant) r ⌝ }
 {
     let c = ready(bytes, firsts, rules, place, constant);
@@ -134,7 +134,7 @@ fn tails_at(bytes: &[u8], firsts: &[u32], rules: &[u8], place: usize, constant: 
 // What is walked for the clauses of a piece: each tuple gives what stands behind the lead.
 pub fn tails_of(bytes: &[u8], firsts: &[u32], rules: &[u8], piece: Piece) -> Comparison
     requires { ⌜ Opens (now bytes) × FirstsOf (boardOf (now bytes)) (now firsts) × Held (contextOf (boardOf (now bytes))) (now rules) piece ⌝ }
-    ensures { λ r. ⌜ Tails (boardOf (now (bytes .entry))) (saidPiece (contextOf (boardOf (now (bytes .entry)))) (now (rules .entry)) piece) r ⌝ }
+    ensures { λ r. ⌜ Tails (boardOf (now (bytes .entry))) (saidPiece (now (rules .entry)) piece) r ⌝ }
 {
     match piece {
         Piece::Line {

@@ -1,5 +1,4 @@
 // The search over the rules: it stops at the first clause none of whose literals holds.
-use crate::Ahead;
 use crate::Checked;
 use crate::axioms::search_axioms;
 use crate::pieces::passed;
@@ -10,56 +9,29 @@ use crate::rows::search_row;
 use crate::values::write_values;
 use lent::Found;
 use opening::Header;
-use opening::context_of;
-use reader::Context;
-use rules::Cursor;
-use rules::Stepped;
+use rules::Ahead;
+use rules::next_piece;
 use rules::start;
-use rules::step;
 use slots::FIRSTS;
 use slots::variables::put_firsts;
 use walk::At;
 use walk::rows::after_row;
 ghost use mathlib.Core.Path.{_≡_};
 ghost use Prim.Native.Nat.{_+_, _<_};
-ghost use lib.ListN.{length, drop};
+ghost use lib.ListN.{length};
 ghost use Rattle.definitions.specs.Result.{each};
 ghost use Rattle.definitions.specs.Encoding.{clauses};
 ghost use Rattle.laws.specs.Boards.{boardOf};
-ghost use Rattle.laws.specs.Reread.{tableEnd};
-ghost use Rattle.reader.specs.Said.{contextOf};
 ghost use Rattle.lent.specs.Said.{saidFound};
-ghost use Rattle.rules.specs.Cursors.{Sound};
+ghost use Rattle.rules.specs.Known.{Known};
 ghost use Rattle.slots.specs.Variables.{FirstsOf};
 ghost use Rattle.decode.specs.Given.{Given};
 ghost use Rattle.decode.specs.Truth.{tests};
 ghost use Rattle.decode.specs.Sums.{Told, ValuesIn};
-ghost use Rattle.decode.specs.Next.{Came};
 ghost use Rattle.decode.specs.Passes.{ruleTests};
 
 // The most integer variables that a record has.
 const VALUES: usize = 1024;
-
-// The next piece at or behind the cursor.
-fn next_piece(rules: &[u8], known: Context, cursor: Cursor) -> Ahead
-    requires { ⌜ Sound (contextOf known) (now rules) cursor ⌝ }
-    ensures { λ r. ⌜ Came (contextOf known) (now (rules .entry)) cursor r ⌝ }
-{
-    let mut at = cursor;
-    loop {
-        match step(rules, known, at) {
-            Stepped::Met(piece, behind) => {
-                return Ahead::Met(piece, behind);
-            }
-            Stepped::Passed(behind) => {
-                at = behind;
-            }
-            Stepped::End => {
-                return Ahead::Nothing;
-            }
-        }
-    }
-}
 
 // The clauses of the rules, which are counted from `from` on: piece by piece, and in a piece that is not known to hold its tuples,
 // row by row. The axioms hold, and `values` are what they tell.
@@ -72,14 +44,13 @@ fn search_rules(
     header: Header,
     from: usize,
 ) -> Found
-    requires { ⌜ Given (now bytes) (now model) header × FirstsOf (boardOf (now bytes)) (now firsts) × Told (boardOf (now bytes)) (now model) × ValuesIn (boardOf (now bytes)) (now model) (now values) × (now rules ≡ drop (tableEnd (boardOf (now bytes))) (now bytes)) × (from + length (ruleTests (boardOf (now bytes)) (now model)) < 9223372036854775808) ⌝ }
+    requires { ⌜ Given (now bytes) (now model) header × FirstsOf (boardOf (now bytes)) (now firsts) × Told (boardOf (now bytes)) (now model) × ValuesIn (boardOf (now bytes)) (now model) (now values) × Known (now bytes) (now rules) × (from + length (ruleTests (boardOf (now bytes)) (now model)) < 9223372036854775808) ⌝ }
     ensures { λ r. ⌜ saidFound 13 r ≡ each 13 from (ruleTests (boardOf (now (bytes .entry))) (now (model .entry))) ⌝ }
 {
-    let known = context_of(header);
     let mut number = from;
     let mut cursor = start(header.clauses);
     let found = 'search: loop {
-        let Ahead::Met(piece, behind) = next_piece(rules, known, cursor) else {
+        let Ahead::Met(piece, behind) = next_piece(rules, cursor) else {
             break 'search Found::Nothing;
         };
         let held = piece_holds(bytes, firsts, values, rules, model, header, piece);

@@ -1,7 +1,7 @@
 -- The plain model in the parts that are written one after another. Assumes nothing.
 use mathlib.Core.Path.{_≡_, refl, sym, ap, ap₂, _∙_}
 use mathlib.Core.Bool.{Bool, true, not}
-use mathlib.Core.List.{List, [], _∷_, _++_, map, flatten, append-assoc, map-append, map-map}
+use mathlib.Core.List.{List, [], _∷_, _++_, map, flatten, map-append, map-map}
 use Prim.Native.Nat.{ℕ, suc, _+_, _-_, _<_}
 use native.Mathlib.Omega.{arith}
 use lib.ListN.{length, getD, length-map}
@@ -15,7 +15,7 @@ use Rattle.definitions.specs.Meaning.{Assignment, on, compares, selection, trut
 use Rattle.laws.specs.Lists.{all-every, counted-at, length-countUp, map-same, map-flatten, map-at}
 use Rattle.laws.specs.Ranges.{range-shift}
 use Rattle.laws.specs.Layout.{orders-count}
-use Rattle.laws.specs.Pieces.{Piece, line, under, compared, used, lone, opening, piecesFrom}
+use Rattle.laws.specs.Pieces.{Piece, line, under, compared, lone, opening, piecesFrom}
 
 abbrev pub bit : Bool → ℕ
 bit b = if b then 1 else 0
@@ -92,39 +92,26 @@ module _ (B : Board) (a : Assignment) where
 -- ---- the comparisons that have a selector, as the pieces of the rules have them
 unfoldable pub ledIn : List Piece → List Comparison
 ledIn [] = []
-ledIn (line c ∷ ps) = ledIn ps
+ledIn (line j C ∷ ps) = ledIn ps
 ledIn (under [] q ∷ ps) = ledIn ps
 ledIn (under (l ∷ lead) q ∷ ps) = q ∷ ledIn ps
 
-led-append : (ps qs : List Piece) → ledIn (ps ++ qs) ≡ ledIn ps ++ ledIn qs
-unfolding ledIn
-led-append [] qs = refl
-led-append (line c ∷ ps) qs = led-append ps qs
-led-append (under [] q ∷ ps) qs = led-append ps qs
-led-append (under (l ∷ lead) q ∷ ps) qs = ap (λ z. q ∷ z) (led-append ps qs)
-
-led-compared : (j : ℕ) (qs : List Comparison) → ledIn (compared true j qs) ≡ qs
+led-compared : (j : ℕ) (qs : List Comparison) (ps : List Piece) → ledIn (compared true j qs ++ ps) ≡ qs ++ ledIn ps
 unfolding ledIn compared
-led-compared j [] = refl
-led-compared j (q ∷ qs) = ap (λ z. q ∷ z) (led-compared (suc j) qs)
+led-compared j [] ps = refl
+led-compared j (q ∷ qs) ps = ap (λ z. q ∷ z) (led-compared (suc j) qs ps)
 
-led-clause : (j : ℕ) (C : Clause) → ledIn (opening (lone C) j C ++ compared (not (lone C)) j (comparisons C)) ≡ selected C
+led-clause : (j : ℕ) (C : Clause) (ps : List Piece) → ledIn (opening (lone C) j C ++ (compared (not (lone C)) j (comparisons C) ++ ps)) ≡ selected C ++ ledIn ps
 unfolding ledIn compared lone comparisons selected
-led-clause j [] = refl
-led-clause j (isTrue b ∷ []) = refl
-led-clause j (isFalse b ∷ []) = refl
-led-clause j (atMost q ∷ []) = refl
-led-clause j (isTrue b ∷ l ∷ C) = led-compared j (comparisons (l ∷ C))
-led-clause j (isFalse b ∷ l ∷ C) = led-compared j (comparisons (l ∷ C))
-led-clause j (atMost q ∷ l ∷ C) = ap (λ z. q ∷ z) (led-compared (suc j) (comparisons (l ∷ C)))
+led-clause j [] ps = refl
+led-clause j (isTrue b ∷ []) ps = refl
+led-clause j (isFalse b ∷ []) ps = refl
+led-clause j (atMost q ∷ []) ps = refl
+led-clause j (isTrue b ∷ l ∷ C) ps = led-compared j (comparisons (l ∷ C)) ps
+led-clause j (isFalse b ∷ l ∷ C) ps = led-compared j (comparisons (l ∷ C)) ps
+led-clause j (atMost q ∷ l ∷ C) ps = ap (λ z. q ∷ z) (led-compared (suc j) (comparisons (l ∷ C)) ps)
 
 pub led-selected : (j : ℕ) (Cs : List Clause) → ledIn (piecesFrom j Cs) ≡ flatten (map selected Cs)
 unfolding ledIn piecesFrom flatten
 led-selected j [] = refl
-led-selected j (C ∷ Cs) =
-    let first = opening (lone C) j C in
-    let those = compared (not (lone C)) j (comparisons C) in
-    let next = j + used (not (lone C)) (length (comparisons C)) in
-    ap ledIn (sym (append-assoc first those (piecesFrom next Cs)))
-    ∙ led-append (first ++ those) (piecesFrom next Cs)
-    ∙ ap₂ _++_ (led-clause j C) (led-selected next Cs)
+led-selected j (C ∷ Cs) = led-clause j C _ ∙ ap (λ z. selected C ++ z) (led-selected _ Cs)

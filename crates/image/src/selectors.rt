@@ -9,58 +9,50 @@ ghost use Rattle.judge.specs.Suited.{Near};
 ghost use Rattle.laws.specs.Boards.{boardOf};
 ghost use Rattle.laws.specs.Written.{written};
 ghost use Rattle.opening.specs.Headers.{Opened};
-ghost use Rattle.reader.specs.Said.{contextOf};
-ghost use Rattle.rules.specs.Cursors.{Sound, atStart};
+ghost use Rattle.rules.specs.Cursors.{atStart};
 ghost use Rattle.image.specs.Parts.{selectorBytes};
-ghost use Rattle.image.specs.Selectors.{ledAt};
+ghost use Rattle.image.specs.Selectors.{ledAt, Passing};
 use crate::parts::bit;
 use judge::literals::compares;
 use opening::Header;
-use opening::context_of;
-use reader::Context;
+use rules::Ahead;
 use rules::Piece;
-use rules::Stepped;
+use rules::next_piece;
 use rules::start;
-use rules::step;
 
 // Of the pieces of the rules, a comparison under its selector has a byte.
-fn put_led(rules: &[u8], known: Context, clauses: usize, values: &[i32], model: &mut [u8]) -> usize
-    requires { ⌜ Sound (contextOf known) (now rules) (atStart clauses) × (length (now values) ≡ known .ints) × Near (now values) × (length (ledAt (contextOf known) (now rules) (atStart clauses)) ≤ length (now model)) ⌝ }
-    ensures { λ r. ⌜ (r ≡ length (ledAt (contextOf known) (now (rules .entry)) (atStart clauses))) × (now (model .exit) ≡ written (selectorBytes (assigned (now (values .entry)) []) (ledAt (contextOf known) (now (rules .entry)) (atStart clauses))) (now (model .entry))) ⌝ }
+fn put_led(rules: &[u8], clauses: usize, values: &[i32], model: &mut [u8]) -> usize
+    requires { ⌜ Passing (now rules) (now values) (atStart clauses) × Near (now values) × (length (ledAt (now rules) (atStart clauses)) ≤ length (now model)) ⌝ }
+    ensures { λ r. ⌜ (r ≡ length (ledAt (now (rules .entry)) (atStart clauses))) × (now (model .exit) ≡ written (selectorBytes (assigned (now (values .entry)) []) (ledAt (now (rules .entry)) (atStart clauses))) (now (model .entry))) ⌝ }
 {
     let mut at: usize = 0;
     let mut cursor = start(clauses);
     loop {
-        match step(rules, known, cursor) {
-            Stepped::Met(piece, next) => match piece {
-                Piece::Led {
-                    selector: _,
-                    place,
-                    constant,
-                } => {
-                    model[at] = bit(compares(rules, values, place, constant));
-                    at += 1;
-                    cursor = next;
-                }
-                Piece::Line {
-                    place: _,
-                    literals: _,
-                    selector: _,
-                } => {
-                    cursor = next;
-                }
-                Piece::Lone {
-                    place: _,
-                    constant: _,
-                } => {
-                    cursor = next;
-                }
-            },
-            Stepped::Passed(next) => {
+        let Ahead::Met(piece, next) = next_piece(rules, cursor) else {
+            return at;
+        };
+        match piece {
+            Piece::Led {
+                selector: _,
+                place,
+                constant,
+            } => {
+                model[at] = bit(compares(rules, values, place, constant));
+                at += 1;
                 cursor = next;
             }
-            Stepped::End => {
-                return at;
+            Piece::Line {
+                place: _,
+                literals: _,
+                selector: _,
+            } => {
+                cursor = next;
+            }
+            Piece::Lone {
+                place: _,
+                constant: _,
+            } => {
+                cursor = next;
             }
         }
     }
@@ -71,7 +63,6 @@ pub fn put_selectors(bytes: &[u8], header: Header, values: &[i32], model: &mut [
     requires { ⌜ Opened (now bytes) header × (length (now values) ≡ length (boardOf (now bytes) .bounds)) × Near (now values) × (length (selections (boardOf (now bytes))) ≤ length (now model)) ⌝ }
     ensures { λ r. ⌜ (r ≡ length (selections (boardOf (now (bytes .entry))))) × (now (model .exit) ≡ written (selectorBytes (assigned (now (values .entry)) []) (selections (boardOf (now (bytes .entry))))) (now (model .entry))) ⌝ }
 {
-    let known = context_of(header);
     let tail = header.rules;
-    put_led(&bytes[tail..], known, header.clauses, values, model)
+    put_led(&bytes[tail..], header.clauses, values, model)
 }

@@ -1,5 +1,5 @@
 -- Refusals 12, 14 and 13 put together: values that passed 14 are small, and the rules are the record's tail. Assumes nothing.
-use mathlib.Core.Path.{_≡_, sym, ap, _∙_}
+use mathlib.Core.Path.{_≡_}
 use mathlib.Core.List.{List, [], map}
 use Prim.Native.Nat.{ℕ, _≤_, _<_}
 use native.Mathlib.Omega.{arith}
@@ -9,7 +9,6 @@ use lib.IntN.{ℤ, pos, natAbs}
 use Rattle.definitions.specs.Tools.{any}
 use Rattle.definitions.specs.Board.{Board, boundsOf, variables}
 use Rattle.definitions.specs.Result.{Result, done, _>>_, each}
-use Rattle.definitions.specs.Reading.{Context, times, readClause}
 use Rattle.definitions.specs.Meaning.{assigned, inBounds, holds}
 use Rattle.definitions.specs.Operations.{bits}
 use Rattle.laws.specs.Whole.{whole, abs-le}
@@ -17,13 +16,16 @@ use Rattle.laws.specs.Lists.{at-all, countUp-all}
 use Rattle.laws.specs.Decide.{itself, every, is-within}
 use Rattle.laws.specs.Search.{seek-all}
 use Rattle.laws.specs.Terms.{good-bounds}
-use Rattle.laws.specs.Ahead.{gotten, clausesAt}
-use Rattle.laws.specs.Boards.{boardOf, opens-board}
+use Rattle.laws.specs.Again.{clausesAt}
+use Rattle.laws.specs.Boards.{boardOf}
 use Rattle.laws.specs.Reread.{contextOf}
 use Rattle.laws.specs.Written.{rest}
 use Rattle.opening.specs.declared.Header.{Header}
-use Rattle.opening.specs.Headers.{clauses-is, admitted, tail-is}
-use Rattle.judge.specs.Suited.{Near, Suited}
+use Rattle.opening.specs.Headers.{clauses-is, admitted}
+use Rattle.rules.specs.Cursors.{Sound, atStart}
+use Rattle.rules.specs.Known.{starts, clauses-known}
+use Rattle.measure.proofs.Numbers.{known}
+use Rattle.judge.specs.Suited.{Near, Suiting}
 use Rattle.judge.specs.Checks.{Long, solving}
 
 pub solving-is : (B : Board) (values : List ℤ) (booleans : List ℕ) {p q r : Result (Unit {0})} → bits booleans ≡ p
@@ -55,22 +57,8 @@ module _ (s : List ℕ) (header : Header) (values : List ℤ) (booleans : List �
       small x k (countUp-all (λ x. T (test x)) 0 (length (B .bounds)) a x (omega arith) (omega arith)))
 
   -- ---- the rules
-  abbrev ctx : Context
-  ctx = contextOf B
+  pub suiting : Near values → Suiting values booleans (λ ctx. Sound ctx (rest s (header .rules)) (atStart (header .clauses)))
+  suiting n = record { ctx = contextOf B; suited = record { ints = h .ints; bools = h .bools; near = n }; such = starts (known (h .opened)) (clauses-is (h .opened)) }
 
-  abbrev tail : List ℕ
-  tail = rest s (header .rules)
-
-  pub suited : Near values → Suited ctx values booleans
-  suited n = record { ints = h .ints; bools = h .bools; near = n }
-
-  reading : times (header .clauses) (readClause ctx) tail 0 ≡ done (record { value = B .clauses; next = length tail })
-  reading = rw (tail-is (h .opened), clauses-is (h .opened)) (opens-board s (h .opened .opens) .clauses)
-
-  pub rules-read : times (header .clauses) (readClause ctx) tail 0 ≡ done (clausesAt ctx tail (header .clauses) 0)
-  unfolding clausesAt
-  rules-read = reading ∙ ap (λ z. done (gotten z)) (sym reading)
-
-  pub rules-are : clausesAt ctx tail (header .clauses) 0 .value ≡ B .clauses
-  unfolding clausesAt
-  rules-are = ap (λ z. gotten z .value) reading
+  pub rules-are : clausesAt (rest s (header .rules)) (header .clauses) 0 .value ≡ B .clauses
+  rules-are = clauses-known (known (h .opened)) (clauses-is (h .opened))

@@ -1,127 +1,102 @@
--- Past literals and clauses that were read before, and whether they hold. Assumes nothing.
+-- Past literals and pieces that were read before, and whether they hold. Assumes nothing.
 use mathlib.Core.Path.{_≡_, sym, ap, _∙_}
-use mathlib.Core.Bool.{Bool, false, _||_}
-use mathlib.Core.List.{List, _∷_}
-use Prim.Native.Nat.{ℕ, suc, _+_}
+use mathlib.Core.Bool.{Bool, true, false, _||_, or-false}
+use mathlib.Core.List.{List, [], _∷_}
+use Prim.Native.Nat.{ℕ, _+_, _-_, _≤_, _<_}
+use native.Mathlib.Nat.{add-zero}
 use native.Mathlib.Numerals.{add-one}
+use native.Mathlib.Omega.{arith}
 use lib.ListN.{length}
 use lib.IntN.{ℤ}
 use Rattle.definitions.specs.Tools.{any, if_then_else_}
-use Rattle.definitions.specs.Board.{Comparison, Literal, Clause, isTrue, isFalse}
 use Rattle.definitions.specs.Result.{done, refused}
-use Rattle.definitions.specs.Result as result
-use Rattle.definitions.specs.Reading.{Got, Reader, Context, times, count, readLiteral, readClause}
-use Rattle.definitions.specs.Meaning.{Assignment, holds}
-use Rattle.laws.specs.Readings.{never, same, times-parts}
-use Rattle.laws.specs.Grammar.{found}
-use Rattle.laws.specs.Reads.{reads-literal}
-use Rattle.laws.specs.Ahead.{gotten, literalsAt, clausesAt}
-use Rattle.reader.specs.declared.Literal as code
-use Rattle.reader.specs.declared.LiteralRead.{LiteralRead}
-use Rattle.reader.specs.Said.{literalOf, Placed}
-use Rattle.reader.specs.Parts.{past}
+use Rattle.definitions.specs.Reading.{times, readLiteral}
+use Rattle.definitions.specs.Meaning.{Assignment, assigned, holds}
+use Rattle.laws.specs.Again.{There, literal-read, parts-length, literalsAt, FirstLiteral, first-literal, clauseAt, clausesAt}
+use Rattle.laws.specs.Pieces as laws
+use Rattle.laws.specs.Pieces.{clausesRecorded, recorded-all}
 use Rattle.laws.specs.Search.{seek}
-use Rattle.rules.proofs.Steps.{stands}
-use Rattle.judge.specs.Suited.{Suited, Known}
+use Rattle.reader.specs.declared.Reread.{Reread}
+use Rattle.reader.specs.Said.{literalOf}
+use Rattle.reader.specs.Literals.{Rereads, KnownLiteral, known-literal}
+use Rattle.rules.specs.declared.Cursor.{Cursor}
+use Rattle.rules.specs.declared.Piece.{Piece}
+use Rattle.rules.specs.Cursors.{saidPiece, comingAt, atStart, Held, Sound, Meets}
+use Rattle.rules.specs.Known.{start-coming}
+use Rattle.judge.specs.Suited.{Suiting}
+use Rattle.judge.specs.Clauses.{begun, holdsIn}
 
--- ---- parts that were read before: the first, and those after it
-module _ {A : Type 0} (r : Reader A) (t : List ℕ) (at : ℕ) {k n : ℕ} (e : k ≡ suc n) (d : times k r t at ≡ done (gotten (times k r t at))) where
-  never-refused : {why p : ℕ} → r t at ≡ refused why p → ⊥
-  never-refused f = never (sym f ∙ times-parts r t at {k = k} {n = n} e d .read)
+-- ---- whether one of n literals holds
+pub none-holds : (t : List ℕ) (a : Assignment) (n at : ℕ) → n ≡ 0 → any (holds a) (literalsAt t n at .value) ≡ false
+none-holds t a n at e = rw e
 
-  module _ (g : Got A) (f : r t at ≡ done g) where
-    rest : gotten (times n r t (g .next)) ≡ times-parts r t at {k = k} {n = n} e d .others
-    rest =
-        let q = times-parts r t at {k = k} {n = n} e d in
-        ap (λ h. gotten (times n r t (h .next))) (same (sym f ∙ q .read)) ∙ ap gotten (q .rest)
+module _ {values : List ℤ} {booleans t : List ℕ} {n at : ℕ} (h : 0 < n) (l : Suiting values booleans (λ ctx. times n (readLiteral ctx) t at ≡ done (literalsAt t n at))) where
+  first : FirstLiteral (l .ctx) t n at
+  first = first-literal (l .ctx) t n at h (l .such)
 
-    others : times n r t (g .next) ≡ done (gotten (times n r t (g .next)))
-    others =
-        let q = times-parts r t at {k = k} {n = n} e d in
-        ap (λ h. times n r t (h .next)) (same (sym f ∙ q .read)) ∙ q .rest ∙ ap done (sym rest)
+  pub there : There t at
+  there = literal-read t at (l .ctx) _ (first .read) .there
 
-    parts : gotten (times k r t at) .value ≡ g .value ∷ gotten (times n r t (g .next)) .value
-    parts =
-        let q = times-parts r t at {k = k} {n = n} e d in
-        rw (rest, same (sym f ∙ q .read)) (ap (λ h. h .value) (q .joined))
+  module _ {r : Reread} (d : Rereads t at r) where
+    pub known : KnownLiteral t (length values) (length booleans) (r .literal)
+    known = rw (l .suited .ints, l .suited .bools) (known-literal (l .ctx) t at (first .read) d)
 
--- ---- a literal
-module _ (ctx : Context) (t : List ℕ) where
-  pub known : {values : List ℤ} {booleans : List ℕ} (at next : ℕ) (l : code.Literal) → Suited ctx values booleans
-      → readLiteral ctx t at ≡ done (record { value = literalOf t l; next = next }) → Placed (at + 1) (LiteralRead.Got l next) → Known t (length values) (length booleans) l
-  known at next (code.Literal.Boolean b) s e p = rw (s .bools) (found (reads-literal ctx .told t at (isTrue b) next e) .0)
-  known at next (code.Literal.Negated b) s e p = rw (s .bools) (found (reads-literal ctx .told t at (isFalse b) next e) .0)
-  known at next (code.Literal.Comparison place k) s e p =
-      let d = stands ctx t at place next k p e in
-      (record { few = d .few; room = d .room }, rw (s .ints) (d .good))
+    pub others : Suiting values booleans (λ ctx. times (n - 1) (readLiteral ctx) t (r .next) ≡ done (literalsAt t (n - 1) (r .next)))
+    others = record { ctx = l .ctx; suited = l .suited; such = rw (d .next) (first .rest) }
 
-  -- ---- whether one of n literals holds
-  module _ (a : Assignment) where
-    abbrev pub someHolds : ℕ → ℕ → Bool
-    someHolds n at = any (holds a) (literalsAt ctx t n at .value)
+    pub first-holds : (a : Assignment) {b : Bool} → b ≡ holds a (literalOf t (r .literal)) → any (holds a) (literalsAt t n at .value) ≡ (b || any (holds a) (literalsAt t (n - 1) (r .next) .value))
+    first-holds a e = rw (first .joined, d .next, e, d .literal)
 
-    pub none-holds : {n : ℕ} (at : ℕ) → n ≡ 0 → someHolds n at ≡ false
-    unfolding literalsAt
-    none-holds at e = rw e
+-- ---- the first clause that fails: a piece's own, or one of those after it
+seek-piece : (a : Assignment) (t : List ℕ) (p : Piece) (ps : List laws.Piece) (i : ℕ) {b : Bool} → b ≡ holdsIn a t p
+    → seek 13 (any (holds a)) i (clausesRecorded (saidPiece t p ∷ ps)) ≡ (if b then seek 13 (any (holds a)) (i + begun p) (clausesRecorded ps) else refused 13 i)
+unfolding clausesRecorded holds
+seek-piece a t (Piece.Line place n j) ps i e = rw (e, add-one)
+seek-piece a t (Piece.Lone place constant) ps i e = rw (e, add-one, or-false)
+seek-piece a t (Piece.Led j place constant) ps i e = rw (e, add-zero)
 
-    module _ (at : ℕ) {k n : ℕ} (e : k ≡ suc n) (d : times k (readLiteral ctx) t at ≡ done (literalsAt ctx t k at)) (g : Got Literal) (f : readLiteral ctx t at ≡ done g) where
-      pub literals-on : times n (readLiteral ctx) t (g .next) ≡ done (literalsAt ctx t n (g .next))
-      unfolding literalsAt
-      literals-on = others (readLiteral ctx) t at e d g f
+begun-count : (t : List ℕ) (p : Piece) (ps : List laws.Piece) → length (clausesRecorded (saidPiece t p ∷ ps)) ≡ begun p + length (clausesRecorded ps)
+unfolding clausesRecorded
+begun-count t (Piece.Line place n j) ps = omega arith
+begun-count t (Piece.Lone place constant) ps = omega arith
+begun-count t (Piece.Led j place constant) ps = omega arith
 
-      pub first-holds : {b : Bool} → b ≡ holds a (g .value) → someHolds k at ≡ (b || someHolds n (g .next))
-      unfolding literalsAt
-      first-holds h = ap (any (holds a)) (parts (readLiteral ctx) t at e d g f) ∙ ap (λ b. b || someHolds n (g .next)) (sym h)
+module _ (values : List ℤ) (booleans t : List ℕ) (n : ℕ) where
+  abbrev a : Assignment
+  a = assigned values booleans
 
-    pub literal-read : (at : ℕ) {k n : ℕ} → k ≡ suc n → times k (readLiteral ctx) t at ≡ done (literalsAt ctx t k at) → {why p : ℕ} → readLiteral ctx t at ≡ refused why p → ⊥
-    unfolding literalsAt
-    literal-read at e d f = never-refused (readLiteral ctx) t at e d f
+  -- the search from number i on, among the clauses that are coming, answers what the search among all n does
+  pub record Seeking (i : ℕ) (c : Cursor) : Type 0 where
+    pub suiting : Suiting values booleans (λ ctx. Sound ctx t c)
+    pub same : seek 13 (any (holds a)) i (clausesRecorded (comingAt t c)) ≡ seek 13 (any (holds a)) 0 (clausesAt t n 0 .value)
+    pub count : i + length (clausesRecorded (comingAt t c)) ≡ n
 
-  -- ---- a clause
-  clause-counted : (at : ℕ) {g : Got ℕ} → count 0 64 1 t at ≡ done g → readClause ctx t at ≡ times (g .value) (readLiteral ctx) t (g .next)
-  unfolding readClause
-  clause-counted at e = ap (λ m. result._>>=_ m (λ g. times (g .value) (readLiteral ctx) t (g .next))) e
+  pub seek-start : Suiting values booleans (λ ctx. Sound ctx t (atStart n)) → Seeking 0 (atStart n)
+  seek-start l =
+      let e = ap clausesRecorded (start-coming t n) ∙ recorded-all 0 (clausesAt t n 0 .value) in
+      record { suiting = l; same = ap (seek 13 (any (holds a)) 0) e; count = omega (arith, ap length e, parts-length clauseAt t n 0) }
 
-  pub clause-uncounted : (at : ℕ) {why p : ℕ} → count 0 64 1 t at ≡ refused why p → readClause ctx t at ≡ done (gotten (readClause ctx t at)) → ⊥
-  unfolding readClause
-  clause-uncounted at e d = never (sym (ap (λ m. result._>>=_ m (λ g. times (g .value) (readLiteral ctx) t (g .next))) e) ∙ d)
+module _ {values : List ℤ} {booleans t : List ℕ} {n i : ℕ} {c : Cursor} (h : Seeking values booleans t n i c) where
+  module _ {p : Piece} {c′ : Cursor} (m : Meets (h .suiting .ctx) t c p c′) where
+    pub piece-suits : Suiting values booleans (λ ctx. Held ctx t p)
+    piece-suits = record { ctx = h .suiting .ctx; suited = h .suiting .suited; such = m .held }
 
-  module _ (at : ℕ) {g : Got ℕ} (e : count 0 64 1 t at ≡ done g) (d : readClause ctx t at ≡ done (gotten (readClause ctx t at))) where
-    pub its-literals : times (g .value) (readLiteral ctx) t (g .next) ≡ done (literalsAt ctx t (g .value) (g .next))
-    unfolding literalsAt
-    its-literals = sym (clause-counted at e) ∙ d ∙ ap (λ z. done (gotten z)) (clause-counted at e)
+    next : {b : Bool} → b ≡ holdsIn (assigned values booleans) t p
+        → (if b then seek 13 (any (holds (assigned values booleans))) (i + begun p) (clausesRecorded (comingAt t c′)) else refused 13 i) ≡ seek 13 (any (holds (assigned values booleans))) 0 (clausesAt t n 0 .value)
+    next e = sym (ap (λ ps. seek 13 (any (holds (assigned values booleans))) i (clausesRecorded ps)) (m .comes) ∙ seek-piece (assigned values booleans) t p (comingAt t c′) i e) ∙ h .same
 
-    pub literals-are : literalsAt ctx t (g .value) (g .next) ≡ gotten (readClause ctx t at)
-    unfolding literalsAt
-    literals-are = ap gotten (sym (clause-counted at e))
+    counted : i + begun p + length (clausesRecorded (comingAt t c′)) ≡ n
+    counted = omega (arith, h .count, ap (λ ps. length (clausesRecorded ps)) (m .comes), begun-count t p (comingAt t c′))
 
-  -- ---- the first clause that fails
-  pub no-clause : (a : Assignment) (i at : ℕ) {k : ℕ} → k ≡ 0 → seek 13 (any (holds a)) i (clausesAt ctx t k at .value) ≡ done tt
-  unfolding clausesAt
-  no-clause a i at e = rw e
+    pub number-most : i + begun p ≤ n
+    number-most = omega (arith, counted)
 
-  module _ (at : ℕ) {k n : ℕ} (e : k ≡ suc n) (d : times k (readClause ctx) t at ≡ done (clausesAt ctx t k at)) where
-    pub clause-read : {why p : ℕ} → past (readClause ctx t at) ≡ refused why p → ⊥
-    unfolding clausesAt
-    clause-read f = never (sym f ∙ ap past (times-parts (readClause ctx) t at e d .read))
+    pub seek-fails : false ≡ holdsIn (assigned values booleans) t p → refused 13 i ≡ seek 13 (any (holds (assigned values booleans))) 0 (clausesAt t n 0 .value)
+    seek-fails e = next e
 
-    pub clause-is : readClause ctx t at ≡ done (gotten (readClause ctx t at))
-    unfolding clausesAt
-    clause-is = let q = times-parts (readClause ctx) t at e d in q .read ∙ ap (λ z. done (gotten z)) (sym (q .read))
+    pub seek-on : true ≡ holdsIn (assigned values booleans) t p → Seeking values booleans t n (i + begun p) c′
+    seek-on e = record { suiting = record { ctx = h .suiting .ctx; suited = h .suiting .suited; such = m .onward .sound }; same = next e; count = counted }
 
-    module _ (next : ℕ) (p : past (readClause ctx t at) ≡ done next) where
-      here : Got Clause
-      here = record { value = gotten (readClause ctx t at) .value; next = next }
-
-      here-read : readClause ctx t at ≡ done here
-      unfolding here
-      here-read = clause-is ∙ ap (λ j. done (record { value = gotten (readClause ctx t at) .value; next = j })) (same (sym (ap past clause-is) ∙ p))
-
-      pub clauses-on : times n (readClause ctx) t next ≡ done (clausesAt ctx t n next)
-      unfolding clausesAt here
-      clauses-on = others (readClause ctx) t at e d here here-read
-
-      pub first-clause : (a : Assignment) (i : ℕ) (b : Bool) → b ≡ any (holds a) (gotten (readClause ctx t at) .value)
-          → seek 13 (any (holds a)) i (clausesAt ctx t k at .value) ≡ (if b then seek 13 (any (holds a)) (i + 1) (clausesAt ctx t n next .value) else refused 13 i)
-      unfolding clausesAt here
-      first-clause a i b h = rw (add-one, h) (ap (seek 13 (any (holds a)) i) (parts (readClause ctx) t at e d here here-read))
+  pub seek-none : comingAt t c ≡ [] → done tt ≡ seek 13 (any (holds (assigned values booleans))) 0 (clausesAt t n 0 .value)
+  unfolding clausesRecorded
+  seek-none e = rw e at (h .same)

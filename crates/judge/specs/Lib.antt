@@ -1,3 +1,4 @@
 pub mod Suited
+pub mod Clauses
 pub mod Checks
 pub mod Outcome

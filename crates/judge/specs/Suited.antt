@@ -7,10 +7,6 @@ use lib.IntN.{ℤ, pos, natAbs, _*ℤ_}
 use Rattle.definitions.specs.Tools.{All}
 use Rattle.definitions.specs.Board.{Term}
 use Rattle.definitions.specs.Reading.{Context}
-use Rattle.laws.specs.Admitted.{GoodComparison}
-use Rattle.laws.specs.Reread.{comparisonAt}
-use Rattle.reader.specs.declared.Literal.{Literal}
-use Rattle.slots.specs.Terms.{TermsStand}
 
 abbrev pub Near : List ℤ → Type 0
 Near values = All (λ v. natAbs v ≤ 4096) values
@@ -20,13 +16,12 @@ pub record Suited (ctx : Context) (values : List ℤ) (booleans : List ℕ) : Ty
   pub bools : length booleans ≡ ctx .bools
   pub near : Near values
 
+-- they suit a record whose context is such
+pub record Suiting (values : List ℤ) (booleans : List ℕ) (Such : Context → Type 0) : Type 0 where
+  pub ctx : Context
+  pub suited : Suited ctx values booleans
+  pub such : Such ctx
+
 -- a term's value
 abbrev pub product : List ℤ → Term → ℤ
 product values t = t .coef *ℤ getD values (t .var) (pos 0)
-
--- what is known of a literal that was read
-abbrev pub Known : List ℕ → ℕ → ℕ → Literal → Type 0
-Known rules ints bools (Literal.Boolean b) = (1 ≤ b) × (b ≤ bools)
-Known rules ints bools (Literal.Negated b) = (1 ≤ b) × (b ≤ bools)
-Known rules ints bools (Literal.Comparison place constant) =
-    TermsStand rules place × GoodComparison ints (comparisonAt rules place constant)

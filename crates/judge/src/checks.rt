@@ -6,7 +6,6 @@ use definitions::Verdict;
 use lent::Found;
 use lent::first_bad_byte;
 use opening::Header;
-use opening::context_of;
 ghost use mathlib.Core.Path.{_≡_};
 ghost use mathlib.Core.List.{map};
 ghost use Rattle.definitions.specs.Tools.{any};
@@ -38,9 +37,8 @@ fn first_broken(bytes: &[u8], header: Header, values: &[i32], booleans: &[u8]) -
     requires { ⌜ Long (now bytes) header (now values) (now booleans) × Near (now values) ⌝ }
     ensures { λ r. ⌜ saidFound 13 r ≡ each 13 0 (map (any (holds (assigned (now (values .entry)) (now (booleans .entry))))) (boardOf (now (bytes .entry)) .clauses)) ⌝ }
 {
-    let known = context_of(header);
     let at = header.rules;
-    first_failing(&bytes[at..], known, values, booleans, header.clauses)
+    first_failing(&bytes[at..], values, booleans, header.clauses)
 }
 
 // Refusals 12, 14 and 13: no sum is formed before every value is known to be within its bounds.

@@ -7,11 +7,12 @@ ghost use mathlib.Core.Path.{_≡_};
 ghost use mathlib.Core.List.{[]};
 ghost use lib.ListN.{length};
 ghost use Rattle.definitions.specs.Meaning.{assigned, compares, holds};
-ghost use Rattle.laws.specs.Admitted.{GoodTerm, GoodComparison};
-ghost use Rattle.laws.specs.Reread.{comparisonAt};
+ghost use Rattle.laws.specs.Admitted.{GoodTerm};
+ghost use Rattle.laws.specs.Reread.{comparisonAt, Stands};
 ghost use Rattle.reader.specs.Said.{literalOf};
-ghost use Rattle.slots.specs.Terms.{termRead, TermsStand};
-ghost use Rattle.judge.specs.Suited.{Near, product, Known};
+ghost use Rattle.reader.specs.Literals.{KnownLiteral};
+ghost use Rattle.slots.specs.Terms.{termRead};
+ghost use Rattle.judge.specs.Suited.{Near, product};
 
 // The value of a term.
 fn value_of(values: &[i32], term: Term) -> i32
@@ -24,7 +25,7 @@ fn value_of(values: &[i32], term: Term) -> i32
 
 // The comparison whose term count stands at a place.
 pub fn compares(rules: &[u8], values: &[i32], place: usize, constant: i32) -> bool
-    requires { ⌜ Near (now values) × TermsStand (now rules) place × GoodComparison (length (now values)) (comparisonAt (now rules) place constant) ⌝ }
+    requires { ⌜ Near (now values) × Stands (length (now values)) (now rules) place constant ⌝ }
     ensures { λ r. ⌜ r ≡ compares (assigned (now (values .entry)) []) (comparisonAt (now (rules .entry)) place constant) ⌝ }
 {
     let read = terms_at(rules, place);
@@ -40,7 +41,7 @@ pub fn compares(rules: &[u8], values: &[i32], place: usize, constant: i32) -> bo
 }
 
 pub fn holds(rules: &[u8], values: &[i32], booleans: &[u8], literal: Literal) -> bool
-    requires { ⌜ Near (now values) × Known (now rules) (length (now values)) (length (now booleans)) literal ⌝ }
+    requires { ⌜ Near (now values) × KnownLiteral (now rules) (length (now values)) (length (now booleans)) literal ⌝ }
     ensures { λ r. ⌜ r ≡ holds (assigned (now (values .entry)) (now (booleans .entry))) (literalOf (now (rules .entry)) literal) ⌝ }
 {
     match literal {

@@ -80,7 +80,7 @@ module _ (B : Board) (g : Admitted B) where
   -- ---- the list
   piece-most : (p : Piece) → Sound B p → piecePlaces of p ≤ tuplesLimit * 5
   unfolding piecePlaces
-  piece-most (line c) h = omega (arith, h .0)
+  piece-most (line j C) h = omega (arith, h .0)
   piece-most (under lead q) h = go (leZ (least of (q .terms)) (q .constant)) refl
     where
       n : ℕ

@@ -19,7 +19,6 @@ pub mod Tests
 pub mod Search
 pub mod Some
 pub mod Readings
-pub mod Ahead
 pub mod Mentions
 pub mod Counting
 pub mod Terms
@@ -29,6 +28,8 @@ pub mod Spelling
 pub mod Grammar
 pub mod Reads
 pub mod Reread
+pub mod Again
+pub mod Ahead
 pub mod Refusals
 pub mod Explained
 pub mod Boards

@@ -16,7 +16,7 @@ use Rattle.laws.specs.Ranges.{all-range}
 use Rattle.laws.specs.Division.{floor-within, ceil-within}
 use Rattle.laws.specs.Admitted.{Admitted, GoodTerm, GoodLiteral, GoodComparison, GoodClause}
 use Rattle.laws.specs.Terms.{good-bounds, ranges, Within, tuples-within}
-use Rattle.laws.specs.Pieces.{Piece, line, under, pieceClauses, compared, lineFrom, line-length, lone, opening, piecesFrom, used, selected-count, rules-pieces}
+use Rattle.laws.specs.Pieces.{Piece, line, under, pieceClauses, compared, lineFrom, lone, opening, piecesFrom, used, selected-count, rules-pieces}
 use Rattle.laws.specs.Layout.{Has, number-range}
 
 abbrev pub atomOf : SatLiteral → Atom
@@ -70,7 +70,7 @@ module _ (B : Board) where
 
   -- ---- the pieces of the record's clauses, whose selectors are those from j
   abbrev pub Sound : Piece → Type 0
-  Sound (line c) = (length c ≤ 64) × All Mentions c
+  Sound (line j C) = (length C ≤ 64) × All Mentions (lineFrom j C)
   Sound (under lead q) = (length lead ≤ 1) × All Mentions lead × GoodComparison (length (B .bounds)) q
 
   abbrev Good : Clause → Type 0
@@ -99,7 +99,7 @@ module _ (B : Board) where
   opening-sound : (alone : Bool) (j : ℕ) (C : Clause) → GoodClause (length (B .bounds)) (B .bools) C
       → Fits j (used (not alone) (length (comparisons C))) → All Sound (opening alone j C)
   opening-sound true j C g h = tt
-  opening-sound false j C g h = ((omega (arith, line-length j C, g .few), line-mentions j C (g .literals) h), tt)
+  opening-sound false j C g h = ((g .few, line-mentions j C (g .literals) h), tt)
 
   sound-from : (j : ℕ) (Cs : List Clause) → All (GoodClause (length (B .bounds)) (B .bools)) Cs
       → Fits j (length (flatten (map selected Cs))) → All Sound (piecesFrom j Cs)
@@ -122,7 +122,7 @@ module _ (B : Board) where
 
   pub piece-mentions : (p : Piece) → Sound p → All (All Mentions) (pieceClauses (boundsOf B) p)
   unfolding pieceClauses
-  piece-mentions (line c) h = (h .1, tt)
+  piece-mentions (line j C) h = (h .1, tt)
   piece-mentions (under lead q) h = under-mentions lead q (h .1) (h .2)
 
   -- ---- the axioms

@@ -12,25 +12,6 @@ use Rattle.definitions.specs.Encoding.{SatClause, bool, selector, plus, minus, 
 use Rattle.definitions.specs.Encoding as encoding
 use Rattle.laws.specs.Lists.{flatten-append, length-flatten, sum-flatten}
 
-pub data Piece : Type 0 where
-  line : SatClause → Piece
-  under : SatClause → Comparison → Piece
-
-unfoldable pub pieceClauses : (ℕ → Bounds) → Piece → List SatClause
-pieceClauses of (line c) = c ∷ []
-pieceClauses of (under lead q) = clausesUnder lead of q
-
--- comparisons, each under its negated selector, of which the first is j; or under nothing
-unfoldable pub compared : Bool → ℕ → List Comparison → List Piece
-compared led j [] = []
-compared true j (q ∷ qs) = under (minus (selector j) ∷ []) q ∷ compared true (suc j) qs
-compared false j (q ∷ qs) = under [] q ∷ compared false j qs
-
--- how many selectors n comparisons take
-abbrev pub used : Bool → ℕ → ℕ
-used true n = n
-used false n = 0
-
 -- the line of literals whose first selector is j
 unfoldable pub lineFrom : ℕ → Clause → SatClause
 lineFrom j [] = []
@@ -45,6 +26,26 @@ line-length j (isTrue b ∷ C) = ap suc (line-length j C)
 line-length j (isFalse b ∷ C) = ap suc (line-length j C)
 line-length j (atMost q ∷ C) = ap suc (line-length (suc j) C)
 
+-- a clause of the record and its line's first selector, or a comparison under its lead
+pub data Piece : Type 0 where
+  line : ℕ → Clause → Piece
+  under : SatClause → Comparison → Piece
+
+unfoldable pub pieceClauses : (ℕ → Bounds) → Piece → List SatClause
+pieceClauses of (line j C) = lineFrom j C ∷ []
+pieceClauses of (under lead q) = clausesUnder lead of q
+
+-- comparisons, each under its negated selector, of which the first is j; or under nothing
+unfoldable pub compared : Bool → ℕ → List Comparison → List Piece
+compared led j [] = []
+compared true j (q ∷ qs) = under (minus (selector j) ∷ []) q ∷ compared true (suc j) qs
+compared false j (q ∷ qs) = under [] q ∷ compared false j qs
+
+-- how many selectors n comparisons take
+abbrev pub used : Bool → ℕ → ℕ
+used true n = n
+used false n = 0
+
 -- a comparison that is its clause's only literal: it has no selector and its clause no line
 unfoldable pub lone : Clause → Bool
 lone [] = false
@@ -55,7 +56,7 @@ lone (atMost q ∷ l ∷ C) = false
 
 abbrev pub opening : Bool → ℕ → Clause → List Piece
 opening true j C = []
-opening false j C = line (lineFrom j C) ∷ []
+opening false j C = line j C ∷ []
 
 unfoldable pub piecesFrom : ℕ → List Clause → List Piece
 piecesFrom j [] = []
@@ -104,6 +105,31 @@ pub remaining-start : (led : Bool) (Cs : List Clause) → remaining led 0 [] Cs 
 unfolding remaining comparisons compared
 remaining-start true Cs = refl
 remaining-start false Cs = refl
+
+-- ---- the record's clauses: each has a line, or is a lone comparison
+unfoldable pub clausesRecorded : List Piece → List Clause
+clausesRecorded [] = []
+clausesRecorded (line j C ∷ ps) = C ∷ clausesRecorded ps
+clausesRecorded (under [] q ∷ ps) = (atMost q ∷ []) ∷ clausesRecorded ps
+clausesRecorded (under (l ∷ lead) q ∷ ps) = clausesRecorded ps
+
+recorded-led : (j : ℕ) (qs : List Comparison) (ps : List Piece) → clausesRecorded (compared true j qs ++ ps) ≡ clausesRecorded ps
+unfolding clausesRecorded compared
+recorded-led j [] ps = refl
+recorded-led j (q ∷ qs) ps = recorded-led (suc j) qs ps
+
+recorded-clause : (j : ℕ) (C : Clause) (ps : List Piece) → clausesRecorded (opening (lone C) j C ++ (compared (not (lone C)) j (comparisons C) ++ ps)) ≡ C ∷ clausesRecorded ps
+unfolding clausesRecorded compared lone comparisons
+recorded-clause j [] ps = refl
+recorded-clause j (isTrue b ∷ C) ps = ap (λ Cs. (isTrue b ∷ C) ∷ Cs) (recorded-led j (comparisons C) ps)
+recorded-clause j (isFalse b ∷ C) ps = ap (λ Cs. (isFalse b ∷ C) ∷ Cs) (recorded-led j (comparisons C) ps)
+recorded-clause j (atMost q ∷ []) ps = refl
+recorded-clause j (atMost q ∷ l ∷ C) ps = ap (λ Cs. (atMost q ∷ l ∷ C) ∷ Cs) (recorded-led (suc j) (comparisons (l ∷ C)) ps)
+
+pub recorded-all : (j : ℕ) (Cs : List Clause) → clausesRecorded (piecesFrom j Cs) ≡ Cs
+unfolding clausesRecorded piecesFrom
+recorded-all j [] = refl
+recorded-all j (C ∷ Cs) = recorded-clause j C _ ∙ ap (λ z. C ∷ z) (recorded-all _ Cs)
 
 -- ---- they are the definition's
 pub selected-count : (C : Clause) → length (selected C) ≡ used (not (lone C)) (length (comparisons C))

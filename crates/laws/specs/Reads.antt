@@ -45,7 +45,7 @@ Natural Good n = Spelt Good (λ v. natural n v ∷ [])
 abbrev Signed : (ℤ → Type 0) → ℕ → Grammar ℤ
 Signed Good n = Spelt Good (λ z. integer n z ∷ [])
 
-reads-count : (least most n : ℕ) → Reads (count least most n) (Natural (FromTo least most) n)
+pub reads-count : (least most n : ℕ) → Reads (count least most n) (Natural (FromTo least most) n)
 unfolding count
 reads-count least most n = reads-tested 4 (reads-unsigned n) (from-to least most)
 

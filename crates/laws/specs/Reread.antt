@@ -137,19 +137,27 @@ abbrev pub comparisonAt : List ℕ → ℕ → ℤ → Comparison
 comparisonAt s at constant = record { terms = termsAt s at; constant = constant }
 
 pub record ComparisonRead (s : List ℕ) (at : ℕ) (q : Comparison) (end : ℕ) : Type 0 where
-  pub some : 1 ≤ big s at 1
   pub few : big s at 1 ≤ 3
   pub terms : q .terms ≡ termsAt s at
   pub constant : q .constant ≡ twos 4 (big s (at + 1 + 3 * big s at 1) 4)
   pub next : end ≡ at + 5 + 3 * big s at 1
   pub room : end ≤ length s
 
+-- at a place stands the count of a comparison's terms, and then the terms
+pub record TermsStand (s : List ℕ) (place : ℕ) : Type 0 where
+  pub few : big s place 1 ≤ 3
+  pub room : place + 1 + 3 * big s place 1 ≤ length s
+
+-- they make a good comparison with a constant that is known
+pub record Stands (ints : ℕ) (s : List ℕ) (place : ℕ) (constant : ℤ) : Type 0 where
+  pub terms : TermsStand s place
+  pub good : GoodComparison ints (comparisonAt s place constant)
+
 module _ (ints : ℕ) (s : List ℕ) (at : ℕ) (q : Comparison) where
   comparison-end : (mid end : ℕ) → GoodComparison ints q → big s at 1 ≡ length (q .terms) → q .terms ≡ row (termAt s) 3 (at + 1) (length (q .terms))
       → mid ≡ at + 1 + 3 * length (q .terms) → Stand s mid (integer 4 (q .constant) ∷ []) end → ComparisonRead s at q end
   unfolding termsAt
   comparison-end mid end g n t m (more h k none) = record {
-    some = omega (arith, n, g .some);
     few = omega (arith, n, g .few);
     terms = t ∙ ap (row (termAt s) 3 (at + 1)) (sym n);
     constant = rw (n, ← m) (sym k);
@@ -157,7 +165,7 @@ module _ (ints : ℕ) (s : List ℕ) (at : ℕ) (q : Comparison) where
     room = h;
   }
 
-  comparison-stand : (end : ℕ) → GoodComparison ints q → Stand s at (comparisonFields q) end → ComparisonRead s at q end
+  pub comparison-stand : (end : ℕ) → GoodComparison ints q → Stand s at (comparisonFields q) end → ComparisonRead s at q end
   comparison-stand end g (more h n p) =
       let d = append-stand (several termFields (q .terms)) _ p in
       let r = stand-row (termAt s) 3 termFields s (one-term s) (at + 1) (d .mid) (q .terms) (d .front) in

@@ -15,7 +15,7 @@ use Rattle.laws.specs.Ranges.{length-range}
 use Rattle.laws.specs.Layout.{width-range}
 use Rattle.laws.specs.Admitted.{GoodBounds}
 use Rattle.laws.specs.Terms.{good-bounds, ranges, Within, tuples-within}
-use Rattle.laws.specs.Pieces.{Piece, line, under, pieceClauses, compared, lone, opening, piecesFrom, used, selected-count, rules-count, rules-places}
+use Rattle.laws.specs.Pieces.{Piece, line, under, pieceClauses, line-length, compared, lone, opening, piecesFrom, used, selected-count, rules-count, rules-places}
 
 -- ---- the lists' lengths
 pub M-is : (B : Board) → M B ≡ length (clauses B)
@@ -60,11 +60,11 @@ module _ (of : ℕ → Bounds) (x : ℕ) (h : of x .lo ≤ℤ of x .hi) where
 
 -- ---- a piece of the rules: a clause's line, or a comparison's clauses
 unfoldable pub pieceCount : (ℕ → Bounds) → Piece → ℕ
-pieceCount of (line c) = 1
+pieceCount of (line j C) = 1
 pieceCount of (under lead q) = if leZ (least of (q .terms)) (q .constant) then length (tuplesOf of q) else 1
 
 unfoldable pub piecePlaces : (ℕ → Bounds) → Piece → ℕ
-piecePlaces of (line c) = length c + 1
+piecePlaces of (line j C) = length C + 1
 piecePlaces of (under lead q) =
     if leZ (least of (q .terms)) (q .constant)
     then length (tuplesOf of q) * (length lead + length (q .terms) + 1)
@@ -113,17 +113,17 @@ module _ (of : ℕ → Bounds) (lead : SatClause) (q : Comparison) where
 
 pub piece-count : (of : ℕ → Bounds) (p : Piece) → length (pieceClauses of p) ≡ pieceCount of p
 unfolding pieceClauses pieceCount
-piece-count of (line c) = refl
+piece-count of (line j C) = refl
 piece-count of (under lead q) = under-count of lead q
 
 pub piece-places : (of : ℕ → Bounds) (p : Piece) → places (pieceClauses of p) ≡ piecePlaces of p
 unfolding pieceClauses piecePlaces places
-piece-places of (line c) = omega arith
+piece-places of (line j C) = omega (arith, line-length j C)
 piece-places of (under lead q) = under-places of lead q
 
 -- the selectors that it brings
 unfoldable pub pieceSelectors : Piece → ℕ
-pieceSelectors (line c) = 0
+pieceSelectors (line j C) = 0
 pieceSelectors (under lead q) = length lead
 
 compared-selectors : (led : Bool) (j : ℕ) (qs : List Comparison) → sum (map pieceSelectors (compared led j qs)) ≡ used led (length qs)

@@ -14,19 +14,18 @@ use Rattle.laws.specs.Written.{rest}
 use Rattle.laws.specs.Sizes.{selectors-sum, axioms-clauses, axioms-length, rules-clauses, rules-length, K-sum}
 use Rattle.laws.specs.Fits.{N-fits, M-fits, K-fits}
 use Rattle.opening.specs.declared.Header.{Header}
-use Rattle.opening.specs.Said.{headerOf, contextIn}
-use Rattle.opening.specs.Headers.{Opened, context-is, tail-is}
-use Rattle.reader.specs.Said.{contextOf}
-use Rattle.reader.specs.declared.Context.{Context}
+use Rattle.opening.specs.Said.{headerOf}
+use Rattle.opening.specs.Headers.{Opened, tail-is}
+use Rattle.rules.specs.Known.{Known}
 use Rattle.measure.specs.declared.Share.{Share}
 use Rattle.measure.specs.declared.Kinds.{Kinds}
 use Rattle.measure.specs.declared.Totals.{Totals}
 use Rattle.measure.specs.Said.{kindsOf, totalsOf}
-use Rattle.measure.specs.Shares.{Known, Adding}
+use Rattle.measure.specs.Shares.{Adding}
 
 -- what a pass over the rules is given
-pub known : {s : List ℕ} {h : Header} (o : Opened s h) {k : Context} → contextOf k ≡ contextIn h → Known s k (rest s (h .rules))
-known o e = record { opens = o .opens; context = e ∙ context-is o; tail = tail-is o }
+pub known : {s : List ℕ} {h : Header} → Opened s h → Known s (rest s (h .rules))
+known o = record { opens = o .opens; tail = tail-is o }
 
 -- ---- the sums over the variables
 counts-sum : (bs : List Bounds) → sum (map (λ b. width b + 1) bs) ≡ sum (map width bs) + length bs

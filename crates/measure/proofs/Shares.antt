@@ -1,53 +1,43 @@
 -- The share of each piece, and shares added up. Assumes nothing.
-use mathlib.Core.Path.{_≡_, refl, sym, ap, ap₂, subst, _∙_}
+use mathlib.Core.Path.{_≡_, refl, sym, ap₂, subst, _∙_}
 use mathlib.Core.Bool.{true, false}
-use mathlib.Core.List.{List, [], _∷_}
+use mathlib.Core.List.{List, _∷_}
 use Prim.Native.Nat.{ℕ, _+_, _*_, _≤_, _<_, _^_}
 use native.Mathlib.Nat.{mul-le-mul}
 use native.Mathlib.Omega.{arith}
-use lib.ListN.{length, drop}
+use lib.ListN.{length}
 use mir.Syntax.{w64}
 use mir.Val.{Fits}
 use lib.Signed.{leZ, _≤ℤ_, _<ℤ_}
 use Rattle.definitions.specs.Board.{Board, boundsOf}
 use Rattle.definitions.specs.Board as board
-use Rattle.definitions.specs.Result.{done}
-use Rattle.definitions.specs.Reading.{Context, times, readLiteral, readClause}
 use Rattle.definitions.specs.Encoding.{least}
 use Rattle.laws.specs.Whole.{le-test, gt-test}
 use Rattle.laws.specs.Admitted.{Admitted, GoodComparison}
-use Rattle.laws.specs.Grammar.{finds}
-use Rattle.laws.specs.Reread as reread
-use Rattle.laws.specs.Reread.{BoardRead, Recorded, tableEnd}
-use Rattle.laws.specs.Pieces.{Piece, line, lineFrom, line-length, piecesFrom, remaining, remaining-start}
-use Rattle.laws.specs.Ahead.{gotten, length-times, literalsAt, clausesAt, coming}
+use Rattle.laws.specs.Reread.{Recorded}
+use Rattle.laws.specs.Pieces.{Piece, line, piecesFrom}
+use Rattle.laws.specs.Again.{parts-length, literalAt, literalsAt}
 use Rattle.laws.specs.Sizes.{pieceCount, piecePlaces, pieceSelectors, N-sum, M-sum, K-sum}
 use Rattle.laws.specs.Fits.{tuples-fit, N-fits, M-fits, K-fits}
 use Rattle.walk.specs.declared.Comparison.{Comparison}
 use Rattle.walk.specs.Comparisons.{leastOf, literalsOf, shows-least, shows-count}
 use Rattle.slots.specs.Ready.{ReadyBy}
-use Rattle.rules.specs.declared.Cursor.{Cursor}
-use Rattle.rules.specs.declared.Piece as code
-use Rattle.rules.specs.declared.Stepped.{Stepped}
-use Rattle.rules.specs.Cursors.{Held, saidPiece, Sound, Onward, Went, atStart, comingAt}
 use Rattle.measure.specs.declared.Share.{Share}
 use Rattle.measure.specs.Shares.{ShareOf, ShareUnder, Adding, Fit, plus}
 
 -- ---- a line
-module _ (B : Board) (ctx : Context) (t : List ℕ) (n place j : ℕ) (h : times n (readLiteral ctx) t place ≡ done (literalsAt ctx t n place)) where
+module _ (of : ℕ → board.Bounds) (t : List ℕ) (n place j : ℕ) where
   abbrev piece : Piece
-  piece = line (lineFrom j (literalsAt ctx t n place .value))
+  piece = line j (literalsAt t n place .value)
 
-  line-places : n + 1 ≡ piecePlaces (boundsOf B) piece
+  line-places : n + 1 ≡ piecePlaces of piece
   unfolding piecePlaces
-  line-places =
-      let C = literalsAt ctx t n place .value in
-      omega (arith, line-length j C, length-times (readLiteral ctx) t n place (literalsAt ctx t n place) h)
+  line-places = omega (arith, parts-length literalAt t n place)
 
-  pub line-fits : piecePlaces (boundsOf B) piece < 2 ^ 63 → Fits w64 (n + 1)
+  pub line-fits : piecePlaces of piece < 2 ^ 63 → Fits w64 (n + 1)
   line-fits l = record { fits = omega (arith, line-places) }
 
-  pub line-share : ShareOf (boundsOf B) piece (record { clauses = 1; places = n + 1; selectors = 0 })
+  pub line-share : ShareOf of piece (record { clauses = 1; places = n + 1; selectors = 0 })
   unfolding pieceCount pieceSelectors
   line-share = record { clauses = refl; places = line-places; selectors = refl }
 
@@ -79,28 +69,12 @@ module _ (B : Board) (g : Admitted B) {f : ℕ → ℕ} (q : board.Comparison) (
         omega (arith, mul-le-mul most few)
 
 -- ---- shares added up
-module _ (of : ℕ → board.Bounds) (all : List Piece) (ctx : Context) (t : List ℕ) (c : Cursor) (total : Share) (a : Adding of all (comingAt ctx t c) total) where
-  -- the piece is told in a context that is the same
-  pub record Meets (same : Context) (p : code.Piece) (c′ : Cursor) : Type 0 where
-    pub held : Held same t p
-    pub onward : Onward ctx t c c′
-    pub adding : Adding of all (saidPiece same t p ∷ comingAt ctx t c′) total
+module _ (of : ℕ → board.Bounds) (all : List Piece) where
+  pub none-added : {coming : List Piece} → coming ≡ all → Adding of all coming (record { clauses = 0; places = 0; selectors = 0 })
+  none-added e = rw e (record { clauses = omega arith; places = omega arith; selectors = omega arith })
 
-  pub meets : (same : Context) → ctx ≡ same → (p : code.Piece) (c′ : Cursor) → Went ctx t c (Stepped.Met p c′) → Meets same p c′
-  unfolding Went
-  meets same e p c′ w = record {
-    held = subst (λ x. Held x t p) e (w .1);
-    onward = w .2;
-    adding = subst (λ x. Adding of all (saidPiece x t p ∷ comingAt ctx t c′) total) e (subst (λ l. Adding of all l total) (w .0) a);
-  }
-
-  pub passes : (c′ : Cursor) → Went ctx t c (Stepped.Passed c′) → Onward ctx t c c′ × Adding of all (comingAt ctx t c′) total
-  unfolding Went
-  passes c′ w = (w .1, subst (λ l. Adding of all l total) (w .0) a)
-
-  pub ends : Went ctx t c Stepped.End → Adding of all [] total
-  unfolding Went
-  ends w = subst (λ l. Adding of all l total) w a
+  pub still-adding : {coming coming′ : List Piece} {total : Share} → coming ≡ coming′ → Adding of all coming total → Adding of all coming′ total
+  still-adding {total = total} e a = subst (λ l. Adding of all l total) e a
 
 module _ (of : ℕ → board.Bounds) (all ps : List Piece) (total : Share) where
   pub adding-more : (p : Piece) (r : Share) → Adding of all (p ∷ ps) total → ShareOf of p r → Adding of all ps (plus total r)
@@ -122,27 +96,3 @@ module _ (B : Board) (g : Recorded B) (p : Piece) (ps : List Piece) (total : Sha
         places = omega (arith, a .places, s .places, K-sum B (g .admitted .bounds), K-fits B g);
         selectors = omega (arith, a .selectors, s .selectors, N-sum B, N-fits B (g .admitted));
       }
-
--- ---- where a pass over the rules starts
-module _ (s : List ℕ) (B : Board) (g : Admitted B) (r : BoardRead s B) (ctx : Context) (t : List ℕ) (e : ctx ≡ reread.contextOf B) (d : t ≡ drop (tableEnd B) s) where
-  abbrev n : ℕ
-  n = length (B .clauses)
-
-  read : times n (readClause ctx) t 0 ≡ finds (B .clauses) (length (drop (tableEnd B) s))
-  read = ap₂ (λ x u. times n (readClause x) u 0) e d ∙ r .clauses
-
-  pub start-sound : Sound ctx t (atStart n)
-  unfolding literalsAt clausesAt
-  start-sound =
-      record {
-        readable = record { literals = refl; clauses = read ∙ ap (λ z. done (gotten z)) (sym read) };
-        few = omega (arith, g .rules);
-        short = omega arith;
-      }
-
-  pub start-coming : comingAt ctx t (atStart n) ≡ piecesFrom 0 (B .clauses)
-  unfolding comingAt coming literalsAt clausesAt
-  start-coming = ap (λ z. remaining true 0 [] (gotten z .value)) read ∙ remaining-start true (B .clauses)
-
-  pub start-adding : Adding (boundsOf B) (piecesFrom 0 (B .clauses)) (comingAt ctx t (atStart n)) (record { clauses = 0; places = 0; selectors = 0 })
-  start-adding = rw start-coming (record { clauses = omega arith; places = omega arith; selectors = omega arith })

@@ -2,24 +2,13 @@
 use mathlib.Core.Path.{_≡_}
 use mathlib.Core.List.{List, map}
 use Prim.Native.Nat.{ℕ, _+_, _<_, _^_}
-use lib.ListN.{length, drop}
+use lib.ListN.{length}
 use Rattle.definitions.specs.Tools.{sum}
 use Rattle.definitions.specs.Board.{Bounds, Comparison}
 use Rattle.definitions.specs.Encoding.{SatClause}
-use Rattle.laws.specs.Boards.{Opens, boardOf}
-use Rattle.laws.specs.Reread.{tableEnd}
-use Rattle.laws.specs.Reread as reread
 use Rattle.laws.specs.Pieces.{Piece, under}
 use Rattle.laws.specs.Sizes.{pieceCount, piecePlaces, pieceSelectors}
-use Rattle.reader.specs.Said.{contextOf}
-use Rattle.reader.specs.declared.Context.{Context}
 use Rattle.measure.specs.declared.Share.{Share}
-
--- what a pass over the rules is given: an accepted record, what it said before its clauses, and its tail
-pub record Known (s : List ℕ) (known : Context) (rules : List ℕ) : Type 0 where
-  pub opens : Opens s
-  pub context : contextOf known ≡ reread.contextOf (boardOf s)
-  pub tail : rules ≡ drop (tableEnd (boardOf s)) s
 
 pub record ShareOf (of : ℕ → Bounds) (p : Piece) (r : Share) : Type 0 where
   pub clauses : r .clauses ≡ pieceCount of p

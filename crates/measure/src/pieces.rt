@@ -5,16 +5,17 @@ use rules::Piece;
 use slots::comparisons::ready;
 use walk::tuples::least;
 ghost use Prim.Native.Nat.{_≤_, _<_, _^_};
+ghost use lib.ListN.{length};
 ghost use Rattle.definitions.specs.Board.{boundsOf};
 ghost use Rattle.laws.specs.Boards.{Opens, boardOf};
-ghost use Rattle.laws.specs.Reread.{comparisonAt, contextOf};
+ghost use Rattle.laws.specs.Reread.{comparisonAt, contextOf, Stands};
 ghost use Rattle.laws.specs.Sizes.{piecePlaces};
-ghost use Rattle.rules.specs.Cursors.{Stands, Held, saidPiece};
+ghost use Rattle.rules.specs.Cursors.{Held, saidPiece};
 ghost use Rattle.measure.specs.Shares.{ShareOf, ShareUnder};
 
 // A comparison's clauses, each led by as many literals as is said.
 fn comparison_share(bytes: &[u8], rules: &[u8], lead: u64, place: usize, constant: i32) -> Share
-    requires { ⌜ Opens (now bytes) × Stands (contextOf (boardOf (now bytes))) (now rules) place constant × (lead ≤ 1) ⌝ }
+    requires { ⌜ Opens (now bytes) × Stands (length (boardOf (now bytes) .bounds)) (now rules) place constant × (lead ≤ 1) ⌝ }
     ensures { λ r. ⌜ ShareUnder (boundsOf (boardOf (now (bytes .entry)))) lead (comparisonAt (now (rules .entry)) place constant) r ⌝ }
 {
     // counting needs no first numbers
@@ -37,8 +38,8 @@ fn comparison_share(bytes: &[u8], rules: &[u8], lead: u64, place: usize, constan
 
 // A line is one clause; a comparison's clauses are counted, never walked.
 pub fn share_of(bytes: &[u8], rules: &[u8], piece: Piece) -> Share
-    requires { ⌜ Opens (now bytes) × Held (contextOf (boardOf (now bytes))) (now rules) piece × (piecePlaces (boundsOf (boardOf (now bytes))) (saidPiece (contextOf (boardOf (now bytes))) (now rules) piece) < 2 ^ 63) ⌝ }
-    ensures { λ r. ⌜ ShareOf (boundsOf (boardOf (now (bytes .entry)))) (saidPiece (contextOf (boardOf (now (bytes .entry)))) (now (rules .entry)) piece) r ⌝ }
+    requires { ⌜ Opens (now bytes) × Held (contextOf (boardOf (now bytes))) (now rules) piece × (piecePlaces (boundsOf (boardOf (now bytes))) (saidPiece (now rules) piece) < 2 ^ 63) ⌝ }
+    ensures { λ r. ⌜ ShareOf (boundsOf (boardOf (now (bytes .entry)))) (saidPiece (now (rules .entry)) piece) r ⌝ }
 {
     match piece {
         Piece::Line {

@@ -5,11 +5,9 @@ use crate::Share;
 use crate::Totals;
 use crate::pieces::share_of;
 use opening::Header;
-use opening::context_of;
-use reader::Context;
-use rules::Stepped;
+use rules::Ahead;
+use rules::next_piece;
 use rules::start;
-use rules::step;
 use slots::variables::first_number;
 ghost use mathlib.Core.Path.{_≡_};
 ghost use mathlib.Core.List.{[]};
@@ -18,7 +16,8 @@ ghost use Rattle.definitions.specs.Board.{boundsOf};
 ghost use Rattle.laws.specs.Boards.{boardOf};
 ghost use Rattle.laws.specs.Pieces.{piecesFrom};
 ghost use Rattle.opening.specs.Headers.{Opened};
-ghost use Rattle.measure.specs.Shares.{Known, Fit, Adding, plus};
+ghost use Rattle.rules.specs.Known.{Known};
+ghost use Rattle.measure.specs.Shares.{Fit, Adding, plus};
 ghost use Rattle.measure.specs.Said.{kindsOf, totalsOf};
 
 fn added(total: Share, share: Share) -> Share
@@ -33,8 +32,8 @@ fn added(total: Share, share: Share) -> Share
 }
 
 // All pieces of the rules.
-fn rules_share(bytes: &[u8], known: Context, clauses: usize, rules: &[u8]) -> Share
-    requires { ⌜ Known (now bytes) known (now rules) × (clauses ≡ length (boardOf (now bytes) .clauses)) ⌝ }
+fn rules_share(bytes: &[u8], clauses: usize, rules: &[u8]) -> Share
+    requires { ⌜ Known (now bytes) (now rules) × (clauses ≡ length (boardOf (now bytes) .clauses)) ⌝ }
     ensures { λ r. ⌜ Adding (boundsOf (boardOf (now (bytes .entry)))) (piecesFrom 0 (boardOf (now (bytes .entry)) .clauses)) [] r ⌝ }
 {
     let mut total = Share {
@@ -44,18 +43,11 @@ fn rules_share(bytes: &[u8], known: Context, clauses: usize, rules: &[u8]) -> Sh
     };
     let mut cursor = start(clauses);
     loop {
-        match step(rules, known, cursor) {
-            Stepped::Met(piece, next) => {
-                total = added(total, share_of(bytes, rules, piece));
-                cursor = next;
-            }
-            Stepped::Passed(next) => {
-                cursor = next;
-            }
-            Stepped::End => {
-                return total;
-            }
-        }
+        let Ahead::Met(piece, next) = next_piece(rules, cursor) else {
+            return total;
+        };
+        total = added(total, share_of(bytes, rules, piece));
+        cursor = next;
     }
 }
 
@@ -64,9 +56,8 @@ fn tail_share(bytes: &[u8], header: Header) -> Share
     requires { ⌜ Opened (now bytes) header ⌝ }
     ensures { λ r. ⌜ Adding (boundsOf (boardOf (now (bytes .entry)))) (piecesFrom 0 (boardOf (now (bytes .entry)) .clauses)) [] r ⌝ }
 {
-    let known = context_of(header);
     let tail = header.rules;
-    rules_share(bytes, known, header.clauses, &bytes[tail..])
+    rules_share(bytes, header.clauses, &bytes[tail..])
 }
 
 // A variable has width + 1 axioms, in 3 * width + 1 places.

@@ -1,3 +1,4 @@
 pub mod Said
 pub mod Parts
 pub mod Seen
+pub mod Literals

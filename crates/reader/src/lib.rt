@@ -4,6 +4,7 @@ pub mod faults; // faults.rt: why a reading was refused
 pub mod checks; // checks.rt: fields whose value has a range
 pub mod comparisons; // comparisons.rt: terms and constant
 pub mod clauses; // clauses.rt: literals and clauses
+pub mod rereading; // rereading.rt: a literal of an accepted record, without checks
 
 // What the record has said before.
 pub struct Context {
@@ -52,6 +53,12 @@ pub enum Literal {
 pub enum LiteralRead {
     Got(Literal, usize),
     Refused(Fault),
+}
+
+// The same of a literal that was read before.
+pub struct Reread {
+    pub literal: Literal,
+    pub next: usize,
 }
 
 // Of a part that is only tested: the place after it.

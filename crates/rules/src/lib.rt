@@ -1,19 +1,12 @@
 // A pass through the rules by value: a cursor that steps from piece to piece of the rules' clauses.
 ghost use mathlib.Core.Path.{_≡_};
 ghost use Prim.Native.Nat.{_<_};
-ghost use Rattle.reader.specs.Said.{contextOf};
-ghost use Rattle.definitions.specs.Result.{done};
-ghost use Rattle.definitions.specs.Reading.{times, readLiteral};
-ghost use Rattle.laws.specs.Ahead.{literalsAt};
+ghost use Rattle.laws.specs.Again.{There, literalsAt};
 ghost use Rattle.laws.specs.Pieces.{lone};
-ghost use Rattle.rules.specs.Cursors.{Sound, Went, atStart, behind, within};
+ghost use Rattle.rules.specs.Cursors.{Steady, Steps, Comes, atStart, behind, within};
 use fields::unchecked;
-use reader::Context;
 use reader::Literal;
-use reader::LiteralRead;
-use reader::Number;
-use reader::clauses::literal_at;
-use reader::clauses::literal_count_at;
+use reader::rereading::literal_again;
 
 // The kind of a comparison.
 const COMPARISON: u32 = 2;
@@ -47,6 +40,12 @@ pub enum Piece {
         place: usize,
         constant: i32,
     },
+}
+
+// The next piece of the rules and where the pass stands behind it.
+pub enum Ahead {
+    Met(Piece, Cursor),
+    Nothing,
 }
 
 // A step comes to a piece, or past something that has none, or to the end.
@@ -83,14 +82,13 @@ fn after(c: Cursor, next: usize, selector: usize) -> Cursor
 }
 
 // Past a literal of the present clause.
-fn past_literal(rules: &[u8], known: Context, c: Cursor) -> Stepped
-    requires { ⌜ Sound (contextOf known) (now rules) c × (0 < c .literals) ⌝ }
-    ensures { λ r. ⌜ Went (contextOf known) (now (rules .entry)) c r ⌝ }
+fn past_literal(rules: &[u8], c: Cursor) -> Stepped
+    requires { ⌜ Steady (now rules) c × (0 < c .literals) ⌝ }
+    ensures { λ r. ⌜ Steps (now (rules .entry)) c r ⌝ }
 {
-    // never refused: the record was accepted
-    let LiteralRead::Got(literal, next) = literal_at(rules, known, c.place) else {
-        return Stepped::End;
-    };
+    let read = literal_again(rules, c.place);
+    let literal = read.literal;
+    let next = read.next;
     match literal {
         Literal::Boolean(_) => Stepped::Passed(after(c, next, c.selector)),
         Literal::Negated(_) => Stepped::Passed(after(c, next, c.selector)),
@@ -118,9 +116,9 @@ fn past_literal(rules: &[u8], known: Context, c: Cursor) -> Stepped
 }
 
 // Whether a clause of n literals, which begin at a place, is a comparison alone: the first literal's kind tells.
-fn is_lone(rules: &[u8], known: Context, n: usize, at: usize) -> bool
-    requires { ⌜ times n (readLiteral (contextOf known)) (now rules) at ≡ done (literalsAt (contextOf known) (now rules) n at) ⌝ }
-    ensures { λ r. ⌜ r ≡ lone (literalsAt (contextOf known) (now (rules .entry)) n at .value) ⌝ }
+fn is_lone(rules: &[u8], n: usize, at: usize) -> bool
+    requires { ⌜ (n ≡ 1 → There (now rules) at) ⌝ }
+    ensures { λ r. ⌜ r ≡ lone (literalsAt (now (rules .entry)) n at .value) ⌝ }
 {
     if n != 1 {
         return false;
@@ -143,16 +141,13 @@ fn inside(c: Cursor, next: usize, literals: usize, led: bool) -> Cursor
 }
 
 // Into the next clause: its line comes first, if it has one.
-fn into_clause(rules: &[u8], known: Context, c: Cursor) -> Stepped
-    requires { ⌜ Sound (contextOf known) (now rules) c × (c .literals ≡ 0) × (0 < c .clauses) ⌝ }
-    ensures { λ r. ⌜ Went (contextOf known) (now (rules .entry)) c r ⌝ }
+fn into_clause(rules: &[u8], c: Cursor) -> Stepped
+    requires { ⌜ Steady (now rules) c × (c .literals ≡ 0) × (0 < c .clauses) ⌝ }
+    ensures { λ r. ⌜ Steps (now (rules .entry)) c r ⌝ }
 {
-    // never refused: the record was accepted
-    let Number::Value { value, next } = literal_count_at(rules, c.place) else {
-        return Stepped::End;
-    };
-    let n = value as usize;
-    if is_lone(rules, known, n, next) {
+    let n = unchecked(rules, c.place, 1) as usize;
+    let next = c.place + 1;
+    if is_lone(rules, n, next) {
         return Stepped::Passed(inside(c, next, n, false));
     }
     Stepped::Met(
@@ -166,15 +161,36 @@ fn into_clause(rules: &[u8], known: Context, c: Cursor) -> Stepped
 }
 
 // One step of a pass: to the next piece, or past a literal or a clause's count that begins none.
-pub fn step(rules: &[u8], known: Context, c: Cursor) -> Stepped
-    requires { ⌜ Sound (contextOf known) (now rules) c ⌝ }
-    ensures { λ r. ⌜ Went (contextOf known) (now (rules .entry)) c r ⌝ }
+fn step(rules: &[u8], c: Cursor) -> Stepped
+    requires { ⌜ Steady (now rules) c ⌝ }
+    ensures { λ r. ⌜ Steps (now (rules .entry)) c r ⌝ }
 {
     if 0 < c.literals {
-        return past_literal(rules, known, c);
+        return past_literal(rules, c);
     }
     if 0 < c.clauses {
-        return into_clause(rules, known, c);
+        return into_clause(rules, c);
     }
     Stepped::End
+}
+
+// The next piece at or behind the cursor.
+pub fn next_piece(rules: &[u8], cursor: Cursor) -> Ahead
+    requires { ⌜ Steady (now rules) cursor ⌝ }
+    ensures { λ r. ⌜ Comes (now (rules .entry)) cursor r ⌝ }
+{
+    let mut at = cursor;
+    loop {
+        match step(rules, at) {
+            Stepped::Met(piece, behind) => {
+                return Ahead::Met(piece, behind);
+            }
+            Stepped::Passed(behind) => {
+                at = behind;
+            }
+            Stepped::End => {
+                return Ahead::Nothing;
+            }
+        }
+    }
 }

@@ -4,7 +4,10 @@ use mathlib.Core.List.{List}
 use Prim.Native.Nat.{ℕ, _≤_, _<_}
 use native.Mathlib.Omega.{arith}
 use lib.ListN.{length, length-map}
-use lib.IntN.{pos}
+use lib.IntN.{ℤ, pos}
+use mir.Syntax.{w32}
+use mir.Val.{toZ, ofZ}
+use mir.Facts.{toZ-ofZ}
 use Rattle.definitions.specs.Board.{Board, boundsOf}
 use Rattle.definitions.specs.Board as board
 use Rattle.definitions.specs.Encoding.{first}
@@ -13,7 +16,9 @@ use Rattle.laws.specs.Whole.{whole, abs-le, abs-law, ne-in}
 use Rattle.laws.specs.Lists.{all-map, all-impl, map-same}
 use Rattle.laws.specs.Admitted.{Admitted, GoodTerm, GoodComparison}
 use Rattle.laws.specs.Terms.{good-bounds}
-use Rattle.laws.specs.Fits.{first-most}
+use Rattle.laws.specs.Fits.{first-most, good-constant}
+use Rattle.laws.specs.Boards.{Opens, boardOf, opens-admitted}
+use Rattle.laws.specs.Reread.{comparisonAt, Stands}
 use Rattle.walk.specs.declared.Comparison.{Comparison}
 use Rattle.walk.specs.Slots.{FairSlot, slotOf}
 use Rattle.walk.specs.Comparisons.{ShowsBy, FairComparison}
@@ -68,3 +73,11 @@ firsts-ready B firsts e q c h r =
     let same : (t : board.Term) → GoodTerm (length (B .bounds)) t → slotOf B (numbered firsts) t ≡ slotOf B (first B) t = λ t k. rw (e (t .var) (omega (arith, k .known))) in
     let terms = map-same (slotOf B (numbered firsts)) (slotOf B (first B)) (q .terms) (all-impl _ _ same (q .terms) (h .terms)) in
     record { shows = record { counted = r .shows .counted; terms = r .shows .terms ∙ terms; constant = r .shows .constant }; fair = r .fair }
+
+-- a comparison that stands in the rules of an accepted record, as `ready` is asked for it and as it answers
+module _ (s : List ℕ) (o : Opens s) (firsts : List ℕ) (e : FirstsOf (boardOf s) firsts) {rules : List ℕ} {place : ℕ} {k : ℤ} (h : Stands (length (boardOf s .bounds)) rules place k) where
+  pub to-ready : Opens s × Small (boardOf s) firsts × Stands (length (boardOf s .bounds)) rules place (toZ w32 (ofZ w32 k))
+  to-ready = (o, firsts-small (boardOf s) (opens-admitted s o) firsts e, rw (toZ-ofZ (good-constant (h .good))) h)
+
+  pub is-ready : {c : Comparison} → ReadyBy (boardOf s) (numbered firsts) (comparisonAt rules place (toZ w32 (ofZ w32 k))) c → ReadyFor (boardOf s) (comparisonAt rules place k) c
+  is-ready {c} r = firsts-ready (boardOf s) firsts e (comparisonAt rules place k) c (h .good) (rw (toZ-ofZ (good-constant (h .good))) at r)

@@ -1,7 +1,7 @@
 -- The terms of a comparison as the code has them, and where they stand. Assumes nothing.
 use mathlib.Core.Path.{_≡_, sym, ap, _∙_}
 use mathlib.Core.List.{List, map}
-use Prim.Native.Nat.{ℕ, _+_, _*_, _≤_, _<_}
+use Prim.Native.Nat.{ℕ, _+_, _*_, _<_}
 use native.Mathlib.Omega.{arith}
 use lib.ListN.{length, getD, take, length-map, List·getD-map}
 use lib.Seq.{getD-take}
@@ -40,11 +40,6 @@ module _ (ints : ℕ) where
   term-good ts r i d h g l = rw (term-of ts r i d h l) (all-at (GoodTerm ints) (termRead d) ts g i (omega (arith, h .counted)))
 
 -- ---- in bytes
--- at a place stands the count of a comparison's terms, and then the terms
-pub record TermsStand (s : List ℕ) (place : ℕ) : Type 0 where
-  pub few : big s place 1 ≤ 3
-  pub room : place + 1 + 3 * big s place 1 ≤ length s
-
 module _ (s : List ℕ) (place : ℕ) where
   pub terms-count : length (termsAt s place) ≡ big s place 1
   unfolding termsAt

@@ -10,13 +10,13 @@ use walk::Slot;
 ghost use mathlib.Core.Path.{_≡_};
 ghost use Prim.Native.Nat.{_+_, _≤_, _<_};
 ghost use lib.ListN.{length};
-ghost use Rattle.laws.specs.Admitted.{GoodTerm, GoodComparison};
+ghost use Rattle.laws.specs.Admitted.{GoodTerm};
 ghost use Rattle.laws.specs.Boards.{Opens, boardOf};
-ghost use Rattle.laws.specs.Reread.{termAt, termsAt, comparisonAt};
+ghost use Rattle.laws.specs.Reread.{termAt, termsAt, comparisonAt, TermsStand, Stands};
 ghost use Rattle.walk.specs.Slots.{slotOf};
 ghost use Rattle.slots.specs.Variables.{numbered};
 ghost use Rattle.slots.specs.Ready.{Small, ReadyBy};
-ghost use Rattle.slots.specs.Terms.{termRead, TermsOf, TermsStand};
+ghost use Rattle.slots.specs.Terms.{termRead, TermsOf};
 
 fn term_at(rules: &[u8], at: usize) -> Term
     requires { ⌜ at + 3 ≤ length (now rules) ⌝ }
@@ -63,7 +63,7 @@ fn slot_of(bytes: &[u8], firsts: &[u32], term: Term) -> Slot
 
 // The comparison whose term count stands at a place of the rules; a table gives the first numbers, and those that it lacks are 0.
 pub fn ready(bytes: &[u8], firsts: &[u32], rules: &[u8], place: usize, constant: i32) -> Comparison
-    requires { ⌜ Opens (now bytes) × Small (boardOf (now bytes)) (now firsts) × TermsStand (now rules) place × GoodComparison (length (boardOf (now bytes) .bounds)) (comparisonAt (now rules) place constant) ⌝ }
+    requires { ⌜ Opens (now bytes) × Small (boardOf (now bytes)) (now firsts) × Stands (length (boardOf (now bytes) .bounds)) (now rules) place constant ⌝ }
     ensures { λ r. ⌜ ReadyBy (boardOf (now (bytes .entry))) (numbered (now (firsts .entry))) (comparisonAt (now (rules .entry)) place constant) r ⌝ }
 {
     let read = terms_at(rules, place);

@@ -1,15 +1,19 @@
 -- The numbers of a clause's line. Assumes nothing.
 use mathlib.Core.Path.{_≡_, refl, sym, ap, _∙_}
 use mathlib.Core.List.{List, [], _∷_, _++_, map, flatten, append-nil}
-use Prim.Native.Nat.{ℕ, suc, _+_, _≤_}
+use Prim.Native.Nat.{ℕ, suc, _+_, _≤_, _<_}
 use native.Mathlib.Nat.{add-zero}
 use native.Mathlib.Numerals.{add-one}
 use native.Mathlib.Omega.{arith}
 use lib.ListN.{length}
 use lib.IntN.{ℤ, pos}
+use Rattle.laws.specs.Limits.{numbersLimit}
 use Rattle.definitions.specs.Tools.{neg}
 use Rattle.definitions.specs.Board.{Board, Literal, Clause, isTrue, isFalse, atMost}
+use Rattle.definitions.specs.Result.{done}
+use Rattle.definitions.specs.Reading.{Context, times, readLiteral}
 use Rattle.definitions.specs.Encoding.{first, number, literalNumber}
+use Rattle.laws.specs.Again.{literalsAt}
 use Rattle.laws.specs.Pieces.{lineFrom}
 use Rattle.reader.specs.declared.Literal as code
 use Rattle.reader.specs.Said.{literalOf}
@@ -47,6 +51,12 @@ unfolding lineNumbers
 line-more t n (code.Literal.Boolean b) C = rw add-zero
 line-more t n (code.Literal.Negated b) C = rw add-zero
 line-more t n (code.Literal.Comparison place constant) C = rw add-one
+
+-- n literals were read at a place, in a record with fewer than 20,000,000 Booleans
+pub record LineRead (t : List ℕ) (n place : ℕ) : Type 0 where
+  pub ctx : Context
+  pub bools : ctx .bools < numbersLimit
+  pub literals : times n (readLiteral ctx) t place ≡ done (literalsAt t n place)
 
 -- ---- it is the definition's
 pub line-is : (B : Board) (j : ℕ) (C : Clause) → lineNumbers (first B (length (B .bounds)) + j) C ≡ numbersOf B (lineFrom j C ∷ [])

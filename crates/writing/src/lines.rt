@@ -3,17 +3,12 @@ ghost use mathlib.Core.Path.{_≡_};
 ghost use Prim.Native.Nat.{_+_, _≤_, _<_};
 ghost use lib.IntN.{natAbs};
 ghost use lib.ListN.{length};
-ghost use Rattle.definitions.specs.Result.{done};
-ghost use Rattle.definitions.specs.Reading.{times, readLiteral};
 ghost use Rattle.laws.specs.Limits.{numbersLimit};
-ghost use Rattle.laws.specs.Ahead.{literalsAt};
+ghost use Rattle.laws.specs.Again.{literalsAt};
 ghost use Rattle.laws.specs.Written.{written};
-ghost use Rattle.reader.specs.Said.{contextOf};
-ghost use Rattle.writing.specs.Lines.{literalHere, takes, lineNumbers};
-use reader::Context;
+ghost use Rattle.writing.specs.Lines.{literalHere, takes, lineNumbers, LineRead};
 use reader::Literal;
-use reader::LiteralRead;
-use reader::clauses::literal_at;
+use reader::rereading::literal_again;
 
 // A literal's number; a comparison's is that of its selector.
 fn number_of(literal: Literal, selector: u32) -> i32
@@ -44,29 +39,20 @@ fn selectors_of(literal: Literal) -> u32
 }
 
 // Of n literals that begin at a place of the rules; the first selector has the number given.
-pub fn put_line(
-    rules: &[u8],
-    known: Context,
-    place: usize,
-    n: usize,
-    selector: u32,
-    list: &mut [i32],
-) -> usize
-    requires { ⌜ (times n (readLiteral (contextOf known)) (now rules) place ≡ done (literalsAt (contextOf known) (now rules) n place)) × (known .bools < numbersLimit) × (selector + n < numbersLimit) × (length (lineNumbers selector (literalsAt (contextOf known) (now rules) n place .value)) ≤ length (now list)) ⌝ }
-    ensures { λ r. ⌜ (r ≡ length (lineNumbers selector (literalsAt (contextOf known) (now (rules .entry)) n place .value))) × (now (list .exit) ≡ written (lineNumbers selector (literalsAt (contextOf known) (now (rules .entry)) n place .value)) (now (list .entry))) ⌝ }
+pub fn put_line(rules: &[u8], place: usize, n: usize, selector: u32, list: &mut [i32]) -> usize
+    requires { ⌜ LineRead (now rules) n place × (selector + n < numbersLimit) × (length (lineNumbers selector (literalsAt (now rules) n place .value)) ≤ length (now list)) ⌝ }
+    ensures { λ r. ⌜ (r ≡ length (lineNumbers selector (literalsAt (now (rules .entry)) n place .value))) × (now (list .exit) ≡ written (lineNumbers selector (literalsAt (now (rules .entry)) n place .value)) (now (list .entry))) ⌝ }
 {
     let mut next_place = place;
     let mut left = n;
     let mut number = selector;
     let mut at: usize = 0;
     while 0 < left {
-        // never refused: the record was accepted
-        let LiteralRead::Got(literal, next) = literal_at(rules, known, next_place) else {
-            return at;
-        };
+        let read = literal_again(rules, next_place);
+        let literal = read.literal;
         list[at] = number_of(literal, number);
         number += selectors_of(literal);
-        next_place = next;
+        next_place = read.next;
         left -= 1;
         at += 1;
     }

@@ -32,20 +32,17 @@ module _ (c : tie.Start) where
 -- the axioms are in the list, the clauses of the rules are to come
 module _ (c : tie.After-put-variables) where
   abbrev start : tie.Start
-  start = c .before .before .before .before .before .before .before .before .before
+  start = c .before .before .before .before .before .before .before .before
 
   axioms-put : Filling (axiomsFrom (B start) 0 ++ pieces start) (pieces start) (start .args .list .now) (c .put-variables .last .1 .1 .1 .0) (c .put-variables .result)
   axioms-put = begun (axiomsFrom (B start) 0) (pieces start) _ _ _ (all-fit start) (c .put-variables .ensures .0) (c .put-variables .ensures .1)
-
-context-of-requires : tie.Need-context-of-requires
-context-of-requires c κs = counts-small (c .before .pre .0)
 
 slice-aggregate-put-firsts : tie.Need-slice-aggregate-put-firsts
 slice-aggregate-put-firsts c = search needs
 
 put-firsts-requires : tie.Need-put-firsts-requires
 put-firsts-requires c κs =
-    let o = c .before .before .before .pre .0 in
+    let o = c .before .before .pre .0 in
     (o .opens, bools-is o, ints-is o, omega (arith, counts-small o))
 
 slice-aggregate-first-in : tie.Need-slice-aggregate-first-in
@@ -56,24 +53,24 @@ first-in-requires c κs = search needs
 
 put-variables-requires : tie.Need-put-variables-requires
 put-variables-requires c κs =
-    let s = c .before .before .before .before .before .before .before .before in
+    let s = c .before .before .before .before .before .before .before in
     let o = s .pre .0 in (o .opens, ints-is o, bools-is o, omega (arith, all-fit s, length-append (axiomsFrom (B s) 0) (pieces s)))
 
 slice-aggregate-put-pieces : tie.Need-slice-aggregate-put-pieces
 slice-aggregate-put-pieces c = search needs
 
 sub-put-pieces : tie.Need-sub-put-pieces
-sub-put-pieces c = rules-inside (c .before .before .before .before .before .before .before .before .before .before .before .pre .0)
+sub-put-pieces c = rules-inside (c .before .before .before .before .before .before .before .before .before .before .pre .0)
 
 part-put-pieces-start : tie.Need-part-put-pieces-start
-part-put-pieces-start c = omega (arith, rules-inside (c .before .before .before .before .before .before .before .before .before .before .before .pre .0))
+part-put-pieces-start c = omega (arith, rules-inside (c .before .before .before .before .before .before .before .before .before .before .pre .0))
 
 part-put-pieces-end : tie.Need-part-put-pieces-end
 part-put-pieces-end c = search needs
 
 mul-put-pieces : tie.Need-mul-put-pieces
 mul-put-pieces c =
-    let h : c .before .before .before .put-variables .result ≤ length (c .before .before .before .before .before .before .before .before .before .before .before .before .args .list .now) = omega (arith, room-before (axioms-put (c .before .before .before))) in search needs
+    let h : c .before .before .before .put-variables .result ≤ length (c .before .before .before .before .before .before .before .before .before .before .before .args .list .now) = omega (arith, room-before (axioms-put (c .before .before .before))) in search needs
 
 sub-put-pieces-2 : tie.Need-sub-put-pieces-2
 sub-put-pieces-2 c = omega (arith, room (axioms-put (c .before .before .before)))
@@ -86,21 +83,21 @@ part-put-pieces-end-2 c = search needs
 
 put-pieces-requires : tie.Need-put-pieces-requires
 put-pieces-requires c κs =
-    let s = c .before .before .before .before .before .before .before .before .before .before .before .before .before in
+    let s = c .before .before .before .before .before .before .before .before .before .before .before .before in
     let o = s .pre .0 in
     let l = c .before .before .before .before in
-    (known o (c .before .before .before .before .before .before .before .before .before .before .before .context-of .ensures), c .before .before .before .before .before .before .before .before .before .put-firsts .ensures, clauses-is o, c .before .before .before .before .before .before .first-in .ensures ∙ c .before .before .before .before .before .before .before .before .before .put-firsts .ensures (s .args .header .ints) (omega (arith, ints-is o)) ∙ ap (first (B s)) (ints-is o), omega (arith, room (axioms-put l), rest-length (l .put-variables .last .1 .1 .1 .0) (l .put-variables .result)))
+    (known o, c .before .before .before .before .before .before .before .before .before .put-firsts .ensures, clauses-is o, c .before .before .before .before .before .before .first-in .ensures ∙ c .before .before .before .before .before .before .before .before .before .put-firsts .ensures (s .args .header .ints) (omega (arith, ints-is o)) ∙ ap (first (B s)) (ints-is o), omega (arith, room (axioms-put l), rest-length (l .put-variables .last .1 .1 .1 .0) (l .put-variables .result)))
 
 add-result : tie.Need-add-result
 add-result c =
-    let h : c .before .before .before .before .before .before .put-variables .result + c .before .put-pieces .result ≤ length (c .before .before .before .before .before .before .before .before .before .before .before .before .before .before .before .args .list .now) = omega (arith, c .before .put-pieces .ensures .0, room-before (axioms-put (c .before .before .before .before .before .before))) in search needs
+    let h : c .before .before .before .before .before .before .put-variables .result + c .before .put-pieces .result ≤ length (c .before .before .before .before .before .before .before .before .before .before .before .before .before .before .args .list .now) = omega (arith, c .before .put-pieces .ensures .0, room-before (axioms-put (c .before .before .before .before .before .before))) in search needs
 
 same-length : tie.Need-same-length
 same-length c = last (axioms-put (c .before .before .before .before .before .before)) _ _ (c .before .put-pieces .ensures .0) (c .before .put-pieces .ensures .1) .2
 
 returns : tie.Need-returns
 returns c =
-    let s = c .before .before .before .before .before .before .before .before .before .before .before .before .before .before .before in
+    let s = c .before .before .before .before .before .before .before .before .before .before .before .before .before .before in
     let e = last (axioms-put (c .before .before .before .before .before .before)) _ _ (c .before .put-pieces .ensures .0) (c .before .put-pieces .ensures .1) in
     renamed (s .args .list .now) (sym (whole-list (B s))) (e .0, e .1)
 
@@ -108,7 +105,6 @@ pub put-list-spec : {M : Type 1} → statement M
 put-list-spec =
     tie.close
     (tie.spec
-    context-of-requires
     slice-aggregate-put-firsts
     put-firsts-requires
     slice-aggregate-first-in

@@ -1,5 +1,4 @@
 -- `rules::step` meets its contract.
-use Rattle.reader.specs.Said.{contextOf}
 use Rattle.rules.proofs.Steps.{ends}
 use borrow.Author.Needs.{needs}
 use Rattle.rules.proofs.step.Statement.{statement}
@@ -18,8 +17,7 @@ returns-2 : tie.Need-returns-2
 returns-2 c = search needs
 
 returns-3 : tie.Need-returns-3
-returns-3 c =
-    ends (contextOf (c .before .before .before .before .before .args .known)) (c .before .before .before .before .before .args .rules .now) (c .before .before .before .before .before .args .c) (c .before .before .if1 .left) (c .if2 .left)
+returns-3 c = λ ctx s. ends ctx _ _ (c .before .before .if1 .left) (c .if2 .left)
 
 pub step-spec : {M : Type 1} → statement M
 step-spec =

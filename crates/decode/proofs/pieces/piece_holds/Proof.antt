@@ -2,17 +2,18 @@
 use borrow.Author.Needs.{needs}
 use mathlib.Core.Path.{_≡_, sym, _∙_, subst}
 use mathlib.Core.Bool.{Bool, false}
+use lib.ListN.{length}
 use mir.Facts.{toZ-ofZ}
 use Rattle.definitions.specs.Board.{Board}
 use Rattle.laws.specs.Boards.{boardOf}
-use Rattle.laws.specs.Reread.{contextOf}
+use Rattle.laws.specs.Fits.{good-constant}
+use Rattle.laws.specs.Reread.{contextOf, Stands}
 use Rattle.laws.specs.Pieces as laws
 use Rattle.rules.specs.declared.Piece.{Piece}
-use Rattle.rules.specs.Cursors.{Stands, Held, saidPiece}
-use Rattle.rules.proofs.Steps.{constant-fits}
+use Rattle.rules.specs.Cursors.{Held, saidPiece}
 use Rattle.decode.specs.Truth.{trueClause}
 use Rattle.decode.specs.Tails.{leadOf}
-use Rattle.decode.specs.Sums.{Shown, shown-lead, shown-line, shown-sum, good-among}
+use Rattle.decode.specs.Sums.{Shown, shown-lead, shown-line, shown-sum, stands-among}
 use Rattle.decode.proofs.pieces.piece_holds.Statement.{statement}
 use Rattle.decode.proofs.pieces.piece_holds.Tie as tie
 
@@ -22,7 +23,7 @@ module _ (s : tie.Start) where
   B = boardOf (s .args .bytes .now)
 
   abbrev said : Piece → laws.Piece
-  said p = saidPiece (contextOf B) (s .args .rules .now) p
+  said p = saidPiece (s .args .rules .now) p
 
   abbrev held : (p : Piece) → s .args .piece ≡ p → Held (contextOf B) (s .args .rules .now) p
   held p e = subst (Held (contextOf B) (s .args .rules .now)) e (s .pre .4)
@@ -38,14 +39,14 @@ module _ (c : tie.After-piece) where
   abbrev s : tie.Start
   s = c .before .before .before .before .before .before .before .before
 
-  lone : Stands (contextOf (B s)) (s .args .rules .now) (c .piece .given .0 .0) (c .piece .given .0 .1 .0)
+  lone : Stands (length (B s .bounds)) (s .args .rules .now) (c .piece .given .0 .0) (c .piece .given .0 .1 .0)
   lone = held s _ (c .piece .given .1)
 
 module _ (c : tie.After-piece2) where
   abbrev s′ : tie.Start
   s′ = c .before .before .before .before .before .before .before .before
 
-  led : Stands (contextOf (B s′)) (s′ .args .rules .now) (c .piece2 .given .0 .1 .0) (c .piece2 .given .0 .1 .1 .0)
+  led : Stands (length (B s′ .bounds)) (s′ .args .rules .now) (c .piece2 .given .0 .1 .0) (c .piece2 .given .0 .1 .1 .0)
   led = held s′ _ (c .piece2 .given .1)
 
 lead-holds-requires : tie.Need-lead-holds-requires
@@ -64,8 +65,8 @@ compares-requires : tie.Need-compares-requires
 compares-requires c κs =
     let p = c .before in
     let h = lone p in
-    let f = constant-fits _ _ h in
-    simp toZ-ofZ (s p .pre .3 .near, record { few = h .few; room = h .room }, good-among _ (s p .pre .3 .long) (h .good))
+    let f = good-constant (h .good) in
+    simp toZ-ofZ (s p .pre .3 .near, stands-among (s p .pre .3 .long) h)
 
 enum-known-piece-2 : tie.Need-enum-known-piece-2
 enum-known-piece-2 c = search needs
@@ -74,19 +75,19 @@ compares-requires-2 : tie.Need-compares-requires-2
 compares-requires-2 c κs =
     let p = c .before in
     let h = led p in
-    let f = constant-fits _ _ h in
-    simp toZ-ofZ (s′ p .pre .3 .near, record { few = h .few; room = h .room }, good-among _ (s′ p .pre .3 .long) (h .good))
+    let f = good-constant (h .good) in
+    simp toZ-ofZ (s′ p .pre .3 .near, stands-among (s′ p .pre .3 .long) h)
 
 returns-2 : tie.Need-returns-2
 returns-2 c =
     let s = c .before .before .before .before .before .before .before .before in
-    shown s _ (c .enum-told .given .1) false (shown-line _ _ _ (false-lead s _ (c .enum-told .given .1) (sym (c .before .before .before .lead-holds .ensures) ∙ c .before .before .if1 .left)))
+    shown s _ (c .enum-told .given .1) false (shown-line _ _ _ _ (false-lead s _ (c .enum-told .given .1) (sym (c .before .before .before .lead-holds .ensures) ∙ c .before .before .if1 .left)))
 
 returns-3 : tie.Need-returns-3
 returns-3 c =
     let p = c .before .before in
     let h = lone p in
-    let f = constant-fits _ _ h in
+    let f = good-constant (h .good) in
     let e = false-lead (s p) _ (p .piece .given .1) (sym (p .before .before .before .lead-holds .ensures) ∙ p .before .before .if1 .left) in
     shown (s p) _ (p .piece .given .1) _ (shown-sum _ _ (s p .pre .2) _ (s p .pre .3) _ _ (h .good) e _ (simp toZ-ofZ at (c .compares .ensures)))
 
@@ -94,7 +95,7 @@ returns-4 : tie.Need-returns-4
 returns-4 c =
     let p = c .before .before in
     let h = led p in
-    let f = constant-fits _ _ h in
+    let f = good-constant (h .good) in
     let e = false-lead (s′ p) _ (p .piece2 .given .1) (sym (p .before .before .before .lead-holds .ensures) ∙ p .before .before .if1 .left) in
     shown (s′ p) _ (p .piece2 .given .1) _ (shown-sum _ _ (s′ p .pre .2) _ (s′ p .pre .3) _ _ (h .good) e _ (simp toZ-ofZ at (c .compares2 .ensures)))
 

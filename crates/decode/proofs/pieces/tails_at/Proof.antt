@@ -37,8 +37,7 @@ ready-requires : tie.Need-ready-requires
 ready-requires c κs =
     let s = c .before .before .before in
     let f = s .fits .constant in
-    let d = s .pre .2 in
-    simp toZ-ofZ (s .pre .0, firsts-small (boardOf (s .args .bytes .now)) (opens-admitted _ (s .pre .0)) (s .args .firsts .now) (s .pre .1), record { few = d .few; room = d .room }, d .good)
+    simp toZ-ofZ (s .pre .0, firsts-small (boardOf (s .args .bytes .now)) (opens-admitted _ (s .pre .0)) (s .args .firsts .now) (s .pre .1), s .pre .2)
 
 least-requires : tie.Need-least-requires
 least-requires c κs = c .ready .ensures .fair

@@ -5,7 +5,8 @@ use native.Mathlib.Omega.{arith}
 use Rattle.definitions.specs.Board.{Board}
 use Rattle.definitions.specs.Encoding.{clauses}
 use Rattle.laws.specs.Boards.{boardOf}
-use Rattle.opening.specs.Headers.{admitted, recorded, ints-is, bools-is, counts-small, rules-inside, tail-is}
+use Rattle.opening.specs.Headers.{admitted, recorded, ints-is, bools-is, counts-small, rules-inside}
+use Rattle.measure.proofs.Numbers.{known}
 use Rattle.decode.specs.Truth.{tests}
 use Rattle.decode.specs.Goes.{Goes, goes-start, goes-part, goes-fails}
 use Rattle.decode.specs.Sums.{Told, axioms-told, values-in, near-none}
@@ -69,7 +70,7 @@ search-rules-requires c κs =
     let n = c .before .before .before .before .before .before .before .before .before .before in
     let o = s n .pre .opened in
     let v = values-in (B (s n)) (s n .args .model .now) (admitted o) (told n) _ _ (near-none 1024) (omega (arith, ints-is o, counts-small o)) (c .before .before .before .before .write-values .ensures) in
-    (s n .pre, c .before .before .before .before .before .before .before .put-firsts .ensures, told n, v, tail-is o, omega (arith, rules-left n .count, clauses-fit (B (s n)) (s n .args .model .now) (recorded o)))
+    (s n .pre, c .before .before .before .before .before .before .before .put-firsts .ensures, told n, v, known o, omega (arith, rules-left n .count, clauses-fit (B (s n)) (s n .args .model .now) (recorded o)))
 
 returns : tie.Need-returns
 returns c =

@@ -1,66 +1,69 @@
--- `judge::clauses::first_failing` meets its contract: the search among the clauses that are left answers what the whole search does.
-use mathlib.Core.Path.{_≡_, refl, sym, _∙_}
-use Prim.Native.Nat.{_+_, _-_, _≤_}
-use native.Mathlib.Nat.{sub-zero}
+-- `judge::clauses::first_failing` meets its contract: the search among the clauses that are coming answers what the whole search does.
+use mathlib.Core.Path.{sym, _∙_}
 use native.Mathlib.Omega.{arith}
 use borrow.Author.Needs.{needs}
-use Rattle.definitions.specs.Tools.{any}
-use Rattle.definitions.specs.Result.{done}
-use Rattle.definitions.specs.Reading.{times, readClause}
-use Rattle.definitions.specs.Meaning.{assigned, holds}
-use Rattle.fields.proofs.Laws.{told}
-use Rattle.laws.specs.Ahead.{clausesAt}
-use Rattle.laws.specs.Search.{seek}
-use Rattle.reader.specs.Said.{contextOf, saidStep}
+use Rattle.rules.specs.Cursors.{todo, Meets, meets, ends}
 use Rattle.judge.proofs.Bounded.{denied}
-use Rattle.judge.proofs.Passing.{no-clause, clause-read, clause-is, clauses-on, first-clause}
+use Rattle.judge.proofs.Passing.{Seeking, seek-start, piece-suits, number-most, seek-fails, seek-on, seek-none}
 use Rattle.judge.proofs.clauses.first_failing.Statement.{statement}
 use Rattle.judge.proofs.clauses.first_failing.Tie as tie
 
 abbrev Inv-loop : tie.InvT-loop
-Inv-loop rules known values booleans clauses place₀ number₀ place number =
-    (number ≤ clauses) × (times (clauses - number) (readClause (contextOf known)) rules place ≡ done (clausesAt (contextOf known) rules (clauses - number) place)) × (seek 13 (any (holds (assigned values booleans))) number (clausesAt (contextOf known) rules (clauses - number) place .value) ≡ seek 13 (any (holds (assigned values booleans))) 0 (clausesAt (contextOf known) rules clauses 0 .value))
+Inv-loop rules values booleans clauses number₀ cursor₀ number cursor = Seeking values booleans rules clauses number cursor
 
 abbrev μ-loop : tie.MeasureT-loop
-μ-loop rules known values booleans clauses place₀ number₀ place number = clauses - number
+μ-loop rules values booleans clauses number₀ cursor₀ number cursor = todo cursor
+
+-- a piece was met
+module _ (p : tie.After-piece Inv-loop μ-loop) where
+  abbrev s : tie.Start Inv-loop μ-loop
+  s = p .before .before .before .before .before .before .before
+
+  abbrev seeking : Seeking (s .args .values .now) (s .args .booleans .now) (s .args .rules .now) (s .args .clauses) (p .before .before .before .loop .number) (p .before .before .before .loop .cursor)
+  seeking = p .before .before .before .loop .inv
+
+  met : Meets (seeking .suiting .ctx) (s .args .rules .now) (p .before .before .before .loop .cursor) (p .piece .given .0 .0) (p .piece .given .0 .1 .0)
+  met = meets _ _ _ (p .before .before .next-piece .ensures _ (seeking .suiting .such)) (p .piece .given .1)
+
+start-requires : tie.Need-start-requires Inv-loop μ-loop
+start-requires c κs = search needs
 
 loop-holds : tie.Need-loop-holds Inv-loop μ-loop
-loop-holds c = rw sub-zero (omega arith, c .before .before .pre .1, refl)
+loop-holds c = rw (c .start .ensures) (seek-start _ _ _ _ (c .before .before .before .pre))
 
-past-clause-requires : tie.Need-past-clause-requires Inv-loop μ-loop
-past-clause-requires c κs = search needs
+next-piece-requires : tie.Need-next-piece-requires Inv-loop μ-loop
+next-piece-requires c κs = (_, c .loop .inv .suiting .such)
 
-enum-known-next : tie.Need-enum-known-next Inv-loop μ-loop
-enum-known-next c = search needs
+enum-known-piece : tie.Need-enum-known-piece Inv-loop μ-loop
+enum-known-piece c = search needs
 
 enum-told : tie.Need-enum-told Inv-loop μ-loop
 enum-told c = search needs
 
 returns : tie.Need-returns Inv-loop μ-loop
 returns c =
-    absurd (clause-read (contextOf (c .before .before .before .before .before .before .before .args .known)) (c .before .before .before .before .before .before .before .args .rules .now) (c .before .before .before .before .loop .place) {k = c .before .before .before .before .before .before .before .args .clauses - c .before .before .before .before .loop .number} {n = c .before .before .before .before .before .before .before .args .clauses - (c .before .before .before .before .loop .number + 1)} (omega arith) (c .before .before .before .before .loop .inv .1) (told saidStep (c .before .before .past-clause .ensures) (c .enum-told .given .1)))
+    let l = c .before .before .before .loop in
+    seek-none (l .inv) (ends _ _ _ (c .before .before .next-piece .ensures _ (l .inv .suiting .such)) (c .enum-told .given .1))
 
-clause-holds-requires : tie.Need-clause-holds-requires Inv-loop μ-loop
-clause-holds-requires c κs =
-    (c .before .before .before .before .before .before .before .before .pre .0, clause-is (contextOf (c .before .before .before .before .before .before .before .before .args .known)) (c .before .before .before .before .before .before .before .before .args .rules .now) (c .before .before .before .before .before .loop .place) {k = c .before .before .before .before .before .before .before .before .args .clauses - c .before .before .before .before .before .loop .number} {n = c .before .before .before .before .before .before .before .before .args .clauses - (c .before .before .before .before .before .loop .number + 1)} (omega arith) (c .before .before .before .before .before .loop .inv .1))
+piece-holds-requires : tie.Need-piece-holds-requires Inv-loop μ-loop
+piece-holds-requires c κs = let p = c .before in piece-suits (seeking p) (met p)
 
 returns-2 : tie.Need-returns-2 Inv-loop μ-loop
-returns-2 c =
-    sym (first-clause (contextOf (c .before .before .before .before .before .before .before .before .before .before .args .known)) (c .before .before .before .before .before .before .before .before .before .before .args .rules .now) (c .before .before .before .before .before .before .before .loop .place) {k = c .before .before .before .before .before .before .before .before .before .before .args .clauses - c .before .before .before .before .before .before .before .loop .number} {n = c .before .before .before .before .before .before .before .before .before .before .args .clauses - (c .before .before .before .before .before .before .before .loop .number + 1)} (omega arith) (c .before .before .before .before .before .before .before .loop .inv .1) _ (told saidStep (c .before .before .before .before .before .past-clause .ensures) (c .before .before .before .next .given .1)) (assigned (c .before .before .before .before .before .before .before .before .before .before .args .values .now) (c .before .before .before .before .before .before .before .before .before .before .args .booleans .now)) (c .before .before .before .before .before .before .before .loop .number) _ (sym (denied (c .if1 .taken)) ∙ c .before .clause-holds .ensures)) ∙ c .before .before .before .before .before .before .before .loop .inv .2
+returns-2 c = let p = c .before .before .before in seek-fails (seeking p) (met p) (sym (denied (c .if1 .taken)) ∙ c .before .piece-holds .ensures)
+
+clauses-in-requires : tie.Need-clauses-in-requires Inv-loop μ-loop
+clauses-in-requires c κs = search needs
 
 add-number : tie.Need-add-number Inv-loop μ-loop
-add-number c = search needs
+add-number c = let p = c .before .before .before .before in omega (arith, c .clauses-in .ensures, number-most (seeking p) (met p))
 
 loop-less : tie.Need-loop-less Inv-loop μ-loop
-loop-less c = search needs
+loop-less c = met (c .before .before .before .before) .onward .less
 
 loop-again : tie.Need-loop-again Inv-loop μ-loop
 loop-again c =
-    (omega arith, clauses-on (contextOf (c .before .before .before .before .before .before .before .before .before .before .args .known)) (c .before .before .before .before .before .before .before .before .before .before .args .rules .now) (c .before .before .before .before .before .before .before .loop .place) {k = c .before .before .before .before .before .before .before .before .before .before .args .clauses - c .before .before .before .before .before .before .before .loop .number} {n = c .before .before .before .before .before .before .before .before .before .before .args .clauses - (c .before .before .before .before .before .before .before .loop .number + 1)} (omega arith) (c .before .before .before .before .before .before .before .loop .inv .1) _ (told saidStep (c .before .before .before .before .before .past-clause .ensures) (c .before .before .before .next .given .1)), sym (first-clause (contextOf (c .before .before .before .before .before .before .before .before .before .before .args .known)) (c .before .before .before .before .before .before .before .before .before .before .args .rules .now) (c .before .before .before .before .before .before .before .loop .place) {k = c .before .before .before .before .before .before .before .before .before .before .args .clauses - c .before .before .before .before .before .before .before .loop .number} {n = c .before .before .before .before .before .before .before .before .before .before .args .clauses - (c .before .before .before .before .before .before .before .loop .number + 1)} (omega arith) (c .before .before .before .before .before .before .before .loop .inv .1) _ (told saidStep (c .before .before .before .before .before .past-clause .ensures) (c .before .before .before .next .given .1)) (assigned (c .before .before .before .before .before .before .before .before .before .before .args .values .now) (c .before .before .before .before .before .before .before .before .before .before .args .booleans .now)) (c .before .before .before .before .before .before .before .loop .number) _ (sym (denied (c .if1 .left)) ∙ c .before .clause-holds .ensures)) ∙ c .before .before .before .before .before .before .before .loop .inv .2)
-
-returns-3 : tie.Need-returns-3 Inv-loop μ-loop
-returns-3 c =
-    sym (no-clause (contextOf (c .before .before .before .before .args .known)) (c .before .before .before .before .args .rules .now) (assigned (c .before .before .before .before .args .values .now) (c .before .before .before .before .args .booleans .now)) (c .before .loop .number) (c .before .loop .place) {k = c .before .before .before .before .args .clauses - c .before .loop .number} (omega arith)) ∙ c .before .loop .inv .2
+    let p = c .before .before .before .before in
+    rw (c .clauses-in .ensures) (seek-on (seeking p) (met p) (sym (denied (c .before .if1 .left)) ∙ c .before .before .piece-holds .ensures))
 
 pub first-failing-spec : {M : Type 1} → statement M
 first-failing-spec =
@@ -68,14 +71,15 @@ first-failing-spec =
     (tie.spec
     Inv-loop
     μ-loop
+    start-requires
     loop-holds
-    past-clause-requires
-    enum-known-next
+    next-piece-requires
+    enum-known-piece
     enum-told
     returns
-    clause-holds-requires
+    piece-holds-requires
     returns-2
+    clauses-in-requires
     add-number
     loop-less
-    loop-again
-    returns-3)
+    loop-again)

@@ -21,11 +21,11 @@ abbrev μ-loop : tie.MeasureT-loop
 μ-loop rules values place constant n terms sum₀ i₀ sum i = i
 
 terms-at-requires : tie.Need-terms-at-requires Inv-loop μ-loop
-terms-at-requires c κs = c .before .pre .1
+terms-at-requires c κs = c .before .pre .1 .terms
 
 loop-holds : tie.Need-loop-holds Inv-loop μ-loop
 loop-holds c =
-    (omega arith, c .before .terms-at .ensures .counted, sum-none _ (c .before .before .before .pre .0) _ (c .before .before .before .pre .2 .few) _ (c .before .terms-at .ensures .counted))
+    (omega arith, c .before .terms-at .ensures .counted, sum-none _ (c .before .before .before .pre .0) _ (c .before .before .before .pre .1 .good .few) _ (c .before .terms-at .ensures .counted))
 
 sub-i : tie.Need-sub-i Inv-loop μ-loop
 sub-i c = search needs
@@ -38,23 +38,23 @@ array-copy-out-value-of c = search needs
 
 value-of-requires : tie.Need-value-of-requires Inv-loop μ-loop
 value-of-requires c κs =
-    (c .before .before .before .before .before .before .pre .0, term-good _ _ _ _ _ (c .before .before .before .before .terms-at .ensures) (c .before .before .before .before .before .before .pre .2 .terms) (omega arith))
+    (c .before .before .before .before .before .before .pre .0, term-good _ _ _ _ _ (c .before .before .before .before .terms-at .ensures) (c .before .before .before .before .before .before .pre .1 .good .terms) (omega arith))
 
 add-sum : tie.Need-add-sum Inv-loop μ-loop
 add-sum c =
-    total-fits _ (c .before .before .before .before .before .before .before .pre .0) _ (c .before .before .before .before .before .before .before .pre .2 .few) (c .before .before .before .before .before .before .before .pre .2 .terms) _ _ _ _ (omega arith) (omega (arith, c .before .before .before .loop .inv .1)) (c .before .before .before .loop .inv .2) _ (c .value-of .ensures ∙ ap (product (c .before .before .before .before .before .before .before .args .values .now)) (term-of _ _ _ _ (c .before .before .before .before .before .terms-at .ensures) (omega arith)))
+    total-fits _ (c .before .before .before .before .before .before .before .pre .0) _ (c .before .before .before .before .before .before .before .pre .1 .good .few) (c .before .before .before .before .before .before .before .pre .1 .good .terms) _ _ _ _ (omega arith) (omega (arith, c .before .before .before .loop .inv .1)) (c .before .before .before .loop .inv .2) _ (c .value-of .ensures ∙ ap (product (c .before .before .before .before .before .before .before .args .values .now)) (term-of _ _ _ _ (c .before .before .before .before .before .terms-at .ensures) (omega arith)))
 
 loop-less : tie.Need-loop-less Inv-loop μ-loop
 loop-less c = search needs
 
 loop-again : tie.Need-loop-again Inv-loop μ-loop
 loop-again c =
-    (omega arith, c .before .before .before .loop .inv .1, sum-more _ (c .before .before .before .before .before .before .before .pre .0) _ (c .before .before .before .before .before .before .before .pre .2 .few) (c .before .before .before .before .before .before .before .pre .2 .terms) _ _ _ _ (omega arith) (omega (arith, c .before .before .before .loop .inv .1)) (c .before .before .before .loop .inv .2) _ (c .value-of .ensures ∙ ap (product (c .before .before .before .before .before .before .before .args .values .now)) (term-of _ _ _ _ (c .before .before .before .before .before .terms-at .ensures) (omega arith))))
+    (omega arith, c .before .before .before .loop .inv .1, sum-more _ (c .before .before .before .before .before .before .before .pre .0) _ (c .before .before .before .before .before .before .before .pre .1 .good .few) (c .before .before .before .before .before .before .before .pre .1 .good .terms) _ _ _ _ (omega arith) (omega (arith, c .before .before .before .loop .inv .1)) (c .before .before .before .loop .inv .2) _ (c .value-of .ensures ∙ ap (product (c .before .before .before .before .before .before .before .args .values .now)) (term-of _ _ _ _ (c .before .before .before .before .before .terms-at .ensures) (omega arith))))
 
 returns : tie.Need-returns Inv-loop μ-loop
 unfolding compares assigned
 returns c =
-    let z : c .before .loop .i ≡ 0 = omega arith in rw (sum-is _ (c .before .before .before .before .before .pre .0) _ (c .before .before .before .before .before .pre .2 .few) _ _ (c .before .loop .inv .2), toZ-ofZ (c .before .before .before .before .before .fits .constant), z)
+    let z : c .before .loop .i ≡ 0 = omega arith in rw (sum-is _ (c .before .before .before .before .before .pre .0) _ (c .before .before .before .before .before .pre .1 .good .few) _ _ (c .before .loop .inv .2), toZ-ofZ (c .before .before .before .before .before .fits .constant), z)
 
 pub compares-spec : {M : Type 1} → statement M
 compares-spec =

@@ -33,7 +33,7 @@ enum-known-literal-3 c = search needs
 
 compares-requires : tie.Need-compares-requires
 compares-requires c κs =
-    let k = rw (c .before .literal3 .given .1) at (c .before .before .before .before .before .pre .1) in (c .before .before .before .before .before .pre .0, k .0, rw (toZ-ofZ (good-constant (k .1))) (k .1))
+    let k = rw (c .before .literal3 .given .1) at (c .before .before .before .before .before .pre .1) in (c .before .before .before .before .before .pre .0, rw (toZ-ofZ (good-constant (k .good))) k)
 
 returns : tie.Need-returns
 unfolding holds assigned compares
@@ -48,7 +48,7 @@ returns-2 c =
 returns-3 : tie.Need-returns-3
 unfolding holds assigned compares
 returns-3 c =
-    let k = rw (c .before .before .literal3 .given .1) at (c .before .before .before .before .before .before .pre .1) in rw (c .before .before .literal3 .given .1) (rw (toZ-ofZ (good-constant (k .1))) at (c .compares .ensures))
+    let k = rw (c .before .before .literal3 .given .1) at (c .before .before .before .before .before .before .pre .1) in rw (c .before .before .literal3 .given .1) (rw (toZ-ofZ (good-constant (k .good))) at (c .compares .ensures))
 
 pub holds-spec : {M : Type 1} → statement M
 holds-spec =

@@ -16,8 +16,8 @@ slice-aggregate-ready c = search needs
 
 ready-requires : tie.Need-ready-requires
 ready-requires c κs =
-    let d = c .before .before .before .pre .1 in
-    (c .before .before .before .pre .0, λ x h. omega arith, record { few = d .few; room = d .room }, rw (toZ-ofZ (c .before .before .before .fits .constant)) (d .good))
+    let s = c .before .before .before in
+    (s .pre .0, λ x h. omega arith, rw (toZ-ofZ (s .fits .constant)) (s .pre .1))
 
 least-requires : tie.Need-least-requires
 least-requires c κs = c .ready .ensures .fair

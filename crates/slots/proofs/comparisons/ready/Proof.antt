@@ -38,7 +38,7 @@ abbrev μ-loop : tie.MeasureT-loop
 μ-loop bytes firsts rules place constant n terms slots₀ i₀ slots i = n - i
 
 terms-at-requires : tie.Need-terms-at-requires Inv-loop μ-loop
-terms-at-requires c κs = search needs
+terms-at-requires c κs = c .before .before .before .pre .2 .terms
 
 loop-holds : tie.Need-loop-holds Inv-loop μ-loop
 loop-holds c = (omega arith, refl, refl)
@@ -51,7 +51,7 @@ array-copy-out-term c = search needs
 
 slot-of-requires : tie.Need-slot-of-requires Inv-loop μ-loop
 slot-of-requires c κs =
-    (c .before .before .before .before .before .before .before .before .pre .0, term-good _ _ _ _ _ (c .before .before .before .before .terms-at .ensures) (c .before .before .before .before .before .before .before .before .pre .3 .terms) (c .before .loop-test .taken))
+    (c .before .before .before .before .before .before .before .before .pre .0, term-good _ _ _ _ _ (c .before .before .before .before .terms-at .ensures) (c .before .before .before .before .before .before .before .before .pre .2 .good .terms) (c .before .loop-test .taken))
 
 mul-slots : tie.Need-mul-slots Inv-loop μ-loop
 mul-slots c = search needs
@@ -67,11 +67,11 @@ loop-less c = search needs
 
 loop-again : tie.Need-loop-again Inv-loop μ-loop
 loop-again c =
-    (omega arith, rw length-set (c .before .before .before .loop .inv .1), more _ _ _ _ (c .before .before .before .before .before .terms-at .ensures) _ _ (c .before .before .before .loop .inv .2) _ _ (c .before .before .loop-test .taken) (omega (arith, c .before .before .before .before .before .terms-at .ensures .counted, c .before .before .before .before .before .before .before .before .before .pre .3 .few)) (c .slot-of .ensures))
+    (omega arith, rw length-set (c .before .before .before .loop .inv .1), more _ _ _ _ (c .before .before .before .before .before .terms-at .ensures) _ _ (c .before .before .before .loop .inv .2) _ _ (c .before .before .loop-test .taken) (omega (arith, c .before .before .before .before .before .terms-at .ensures .counted, c .before .before .before .before .before .before .before .before .before .pre .2 .good .few)) (c .slot-of .ensures))
 
 returns : tie.Need-returns Inv-loop μ-loop
 returns c =
-    shows-ready _ (opens-admitted _ (c .before .before .before .before .before .before .before .pre .0)) _ (c .before .before .before .before .before .before .before .pre .1) _ _ (c .before .before .before .before .before .before .before .pre .3) (record {
+    shows-ready _ (opens-admitted _ (c .before .before .before .before .before .before .before .pre .0)) _ (c .before .before .before .before .before .before .before .pre .1) _ _ (c .before .before .before .before .before .before .before .pre .2 .good) (record {
       counted = c .before .before .before .terms-at .ensures .counted;
       terms = all _ _ _ _ (c .before .before .before .terms-at .ensures) (c .before .loop .slots) (c .before .loop .i) (c .before .loop .inv .2) (omega arith);
       constant = toZ-ofZ (c .before .before .before .before .before .before .before .fits .constant);
