@@ -5,17 +5,16 @@ use Prim.Native.Nat.{ℕ, zero, suc, _+_, _*_, _-_, _≤_, _<_}
 use native.Mathlib.Numerals.{sub-one}
 use native.Mathlib.Omega.{arith}
 use lib.ListN.{length}
-use lib.IntN.{ℤ}
 use Rattle.definitions.specs.Board.{Literal, Clause, isTrue, isFalse, atMost}
 use Rattle.definitions.specs.Result.{Result, done, refused}
 use Rattle.definitions.specs.Result as result
-use Rattle.definitions.specs.Reading.{Got, Reader, Context, times, big, twos, count, readLiteral, readClause}
+use Rattle.definitions.specs.Reading.{Got, Reader, Context, times, big, count, readLiteral, readClause}
 use Rattle.laws.specs.Admitted.{GoodLiteral}
 use Rattle.laws.specs.Readings.{same, never, times-parts}
 use Rattle.laws.specs.Spelling.{Stand, none, more, literalFields, natural}
 use Rattle.laws.specs.Grammar.{found}
 use Rattle.laws.specs.Reads.{reads-count, reads-literal}
-use Rattle.laws.specs.Reread.{comparisonAt, comparison-stand}
+use Rattle.laws.specs.Reread.{comparisonAt, constantAt, comparison-stand}
 
 -- ---- parts, one after another
 module _ {A : Type 0} (f : List ℕ → ℕ → Got A) (t : List ℕ) where
@@ -55,9 +54,6 @@ module _ {A : Type 0} (f : List ℕ → ℕ → Got A) (t : List ℕ) where
         }
 
 -- ---- a literal: its kind tells what follows
-abbrev pub constantAt : List ℕ → ℕ → ℤ
-constantAt t place = twos 4 (big t (place + 1 + 3 * big t place 1) 4)
-
 -- where the kind is k
 abbrev pub saidBy : List ℕ → ℕ → ℕ → Got Literal
 saidBy t at zero = record { value = isTrue (big t (at + 1) 2); next = at + 3 }
@@ -154,10 +150,7 @@ module _ (ctx : Context) (t : List ℕ) where
   unfolding clauseAt
   clause-is at g e = literals-are (big t at 1) (at + 1) g (clause-read at g e .literals)
 
-  abbrev pub FirstClause : ℕ → ℕ → Type 0
-  FirstClause = First clauseAt t (readClause ctx) clause-is
-
-  pub first-clause : (n at : ℕ) → 0 < n → times n (readClause ctx) t at ≡ done (clausesAt t n at) → FirstClause n at
+  pub first-clause : (n at : ℕ) → 0 < n → times n (readClause ctx) t at ≡ done (clausesAt t n at) → First clauseAt t (readClause ctx) clause-is n at
   first-clause = first-part clauseAt t (readClause ctx) clause-is
 
   pub clauses-are : (n at : ℕ) (g : Got (List Clause)) → times n (readClause ctx) t at ≡ done g → g ≡ clausesAt t n at

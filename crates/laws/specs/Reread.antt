@@ -136,10 +136,14 @@ termsAt s at = row (termAt s) 3 (at + 1) (big s at 1)
 abbrev pub comparisonAt : List ℕ → ℕ → ℤ → Comparison
 comparisonAt s at constant = record { terms = termsAt s at; constant = constant }
 
+-- its constant, which stands behind the terms
+abbrev pub constantAt : List ℕ → ℕ → ℤ
+constantAt s at = twos 4 (big s (at + 1 + 3 * big s at 1) 4)
+
 pub record ComparisonRead (s : List ℕ) (at : ℕ) (q : Comparison) (end : ℕ) : Type 0 where
   pub few : big s at 1 ≤ 3
   pub terms : q .terms ≡ termsAt s at
-  pub constant : q .constant ≡ twos 4 (big s (at + 1 + 3 * big s at 1) 4)
+  pub constant : q .constant ≡ constantAt s at
   pub next : end ≡ at + 5 + 3 * big s at 1
   pub room : end ≤ length s
 

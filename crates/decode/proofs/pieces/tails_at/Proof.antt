@@ -3,14 +3,13 @@ use borrow.Author.Needs.{needs}
 use mathlib.Core.Path.{_≡_, _∙_}
 use mir.Syntax.{w32}
 use mir.Val.{SFits}
-use mir.Facts.{toZ-ofZ}
 use Rattle.definitions.specs.Board.{Board, boundsOf}
 use Rattle.definitions.specs.Board as board
 use Rattle.definitions.specs.Encoding.{least}
 use Rattle.laws.specs.Whole.{whole, back}
-use Rattle.laws.specs.Boards.{boardOf, opens-admitted}
+use Rattle.laws.specs.Boards.{boardOf}
 use Rattle.laws.specs.Reread.{comparisonAt}
-use Rattle.slots.specs.Ready.{ReadyFor, firsts-small, firsts-ready}
+use Rattle.slots.specs.Ready.{ReadyFor, to-ready, is-ready}
 use Rattle.walk.specs.Comparisons.{shows-least}
 use Rattle.decode.specs.Tails.{below-tails, above-tails}
 use Rattle.decode.proofs.pieces.tails_at.Statement.{statement}
@@ -24,20 +23,17 @@ module _ (c : tie.After-least) where
   abbrev q : board.Comparison
   q = comparisonAt (c .before .before .before .before .before .args .rules .now) (c .before .before .before .before .before .args .place) (c .before .before .before .before .before .args .constant)
 
-  is-ready : ReadyFor B q (c .before .ready .result)
-  is-ready = let f = c .before .before .before .before .before .fits .constant in firsts-ready B (c .before .before .before .before .before .args .firsts .now) (c .before .before .before .before .before .pre .1) q _ (c .before .before .before .before .before .pre .2 .good) (simp toZ-ofZ at (c .before .ready .ensures))
+  made-ready : ReadyFor B q (c .before .ready .result)
+  made-ready = let s = c .before .before .before .before .before in is-ready _ (s .pre .0) (s .args .firsts .now) (s .pre .1) (s .pre .2) (c .before .ready .ensures)
 
   least-is : c .least .result ≡ least (boundsOf B) (q .terms)
-  least-is = c .least .ensures ∙ shows-least B q _ (is-ready .shows)
+  least-is = c .least .ensures ∙ shows-least B q _ (made-ready .shows)
 
   least-fits : SFits w32 (c .least .result)
   least-fits = record { sfits = c .least .ok }
 
 ready-requires : tie.Need-ready-requires
-ready-requires c κs =
-    let s = c .before .before .before in
-    let f = s .fits .constant in
-    simp toZ-ofZ (s .pre .0, firsts-small (boardOf (s .args .bytes .now)) (opens-admitted _ (s .pre .0)) (s .args .firsts .now) (s .pre .1), s .pre .2)
+ready-requires c κs = let s = c .before .before .before in to-ready _ (s .pre .0) (s .args .firsts .now) (s .pre .1) (s .pre .2)
 
 least-requires : tie.Need-least-requires
 least-requires c κs = c .ready .ensures .fair
@@ -53,7 +49,7 @@ returns c =
 returns-2 : tie.Need-returns-2
 returns-2 c =
     let l = c .before in
-    λ lead. above-tails (B l) lead (q l) _ (omega (whole, least-is l, back (c .before .before .before .before .before .before .fits .constant), back (least-fits l))) (is-ready l)
+    λ lead. above-tails (B l) lead (q l) _ (omega (whole, least-is l, back (c .before .before .before .before .before .before .fits .constant), back (least-fits l))) (made-ready l)
 
 pub tails-at-spec : {M : Type 1} → statement M
 tails-at-spec =
