@@ -13,6 +13,7 @@ use Rattle.laws.specs.Whole.{whole, add-law, abs-law, part-law, abs-neg, abs-ad
 use Rattle.laws.specs.Lists.{map-read}
 use Rattle.laws.specs.Tuples.{no-term}
 use Rattle.walk.specs.declared.Slot.{Slot}
+use Rattle.walk.specs.declared.Place.{Place}
 use Rattle.walk.specs.declared.Spot.{Spot}
 use Rattle.walk.specs.declared.Comparison.{Comparison}
 use Rattle.walk.specs.declared.Walk.{Walk}
@@ -21,10 +22,10 @@ use Rattle.walk.specs.declared.At.the-variants.{Tuple, End}
 use Rattle.walk.specs.Slots.{FairSlot, slotBounds, orderNumber, slotLiteral}
 use Rattle.walk.specs.Walks.{places, moved, blank, seen, left, Fine, Over}
 use Rattle.walk.specs.Comparisons.{FairComparison, Walking, paddedRanges, placed, literalsAt, present, toCome, present-length, walking-fine}
-use Rattle.walk.specs.Rows.{along, run, rowLength, rowOf, rowClauses, After, slotAt, offsetAt, Holds, Steady, raised, lowered, rowFrom}
+use Rattle.walk.specs.Rows.{along, run, rowLength, rowOf, rowClauses, After, Placed, Holds, Steady, raised, lowered, rowFrom}
 use Rattle.walk.proofs.Moves.{move-second}
 use Rattle.walk.proofs.Slots.{floor-inside, ceil-inside, number-small, literal-rising, literal-falling}
-use Rattle.walk.proofs.Padding.{no-place, slot-fair, range-none, padded-length, low-is, bound-inside, literal-read}
+use Rattle.walk.proofs.Padding.{no-slot, no-place, slot-fair, place-fine, range-none, padded-length, low-is, bound-inside, literal-read}
 use Rattle.walk.proofs.Steps.{bound, raise-at, raise-on, lower-at, lower-on, holds-up, holds-down}
 
 -- ---- tuples
@@ -101,25 +102,38 @@ pub first-taken : (l : List ℤ) (n : ℕ) → n ≡ 1 → 0 < length l → take
 first-taken [] n e h = absurd (omega arith)
 first-taken (x ∷ l) n e h = rw e refl
 
+abbrev pub slotAt : Comparison → ℕ → Slot
+slotAt c i = getD (c .slots) i no-slot
+
+-- term i stands at place j
+module _ (c : Comparison) (f : FairComparison c) (w : Walk) (o : Walking c (Tuple w)) (i j : ℕ) (h : i < c .n) (e : i + 3 - c .n ≡ j) where
+  abbrev place : Place
+  place = getD (places w) j no-place
+
+  placed-at : Placed (slotAt c i) place
+  placed-at =
+      let low = low-is c f w o i h in
+      let k = getD (places w) (i + 3 - c .n) no-place .k in
+      subst (λ m. Placed (slotAt c i) (getD (places w) m no-place)) e (record {
+        fair = slot-fair c f i h;
+        fine = place-fine c f w o i h;
+        low = low;
+        high = bound-inside c f w o i h (bound (slotAt c i) k) (ap (λ z. z +ℤ pos k) (sym low)) .1;
+      })
+
+  literal-of : getD (present c w) i (pos 0) ≡ slotLiteral (slotAt c i) (bound (slotAt c i) (place .k))
+  literal-of =
+      literal-read c f w o i h
+      ∙ ap (λ m. slotLiteral (slotAt c i) (getD (places w) m no-place .lo +ℤ pos (getD (places w) m no-place .k))) e
+      ∙ ap (λ z. slotLiteral (slotAt c i) (z +ℤ pos (place .k))) (placed-at .low)
+
 module _ (c : Comparison) (f : FairComparison c) (two : 2 ≤ c .n) where
   module _ (w : Walk) (o : Walking c (Tuple w)) where
-    in-b : c .n - 2 + 3 - c .n ≡ 1
-    in-b = omega (arith, two)
+    pub placed-b : Placed (slotAt c (c .n - 2)) (w .b)
+    placed-b = placed-at c f w o (c .n - 2) 1 (omega (arith, two)) (omega (arith, two))
 
-    in-c : c .n - 1 + 3 - c .n ≡ 2
-    in-c = omega (arith, two)
-
-    pub offset-b : offsetAt c w (c .n - 2) ≡ w .b .k
-    offset-b = ap (λ j. getD (places w) j no-place .k) in-b
-
-    pub offset-c : offsetAt c w (c .n - 1) ≡ w .c .k
-    offset-c = ap (λ j. getD (places w) j no-place .k) in-c
-
-    at-term : (i : ℕ) → i < c .n → getD (present c w) i (pos 0) ≡ slotLiteral (slotAt c i) (bound (slotAt c i) (offsetAt c w i))
-    at-term i h = literal-read c f w o i h ∙ ap (λ z. slotLiteral (slotAt c i) (z +ℤ pos (offsetAt c w i))) (low-is c f w o i h)
-
-    pub top-term : (i : ℕ) → i < c .n → bound (slotAt c i) (offsetAt c w i) ≤ℤ slotBounds (slotAt c i) .hi
-    top-term i h = bound-inside c f w o i h (bound (slotAt c i) (offsetAt c w i)) (ap (λ z. z +ℤ pos (offsetAt c w i)) (sym (low-is c f w o i h))) .1
+    pub placed-c : Placed (slotAt c (c .n - 1)) (w .c)
+    placed-c = placed-at c f w o (c .n - 1) 2 (omega (arith, two)) (omega (arith, two))
 
     abbrev pub fixed : List ℤ
     fixed = take (c .n - 2) (present c w)
@@ -127,15 +141,9 @@ module _ (c : Comparison) (f : FairComparison c) (two : 2 ≤ c .n) where
     -- the present tuple's literals
     present-is : (y z : Spot) → Holds (slotAt c (c .n - 2)) (w .b .k) y → Holds (slotAt c (c .n - 1)) (w .c .k) z → present c w ≡ fixed ++ (y .literal ∷ z .literal ∷ [])
     present-is y z hy hz =
-        let ey : getD (present c w) (c .n - 2) (pos 0) ≡ y .literal = at-term (c .n - 2) (omega (arith, two)) ∙ ap (λ k. slotLiteral (slotAt c (c .n - 2)) (bound (slotAt c (c .n - 2)) k)) offset-b ∙ sym (hy .literal) in
-        let ez : getD (present c w) (c .n - 1) (pos 0) ≡ z .literal = at-term (c .n - 1) (omega (arith, two)) ∙ ap (λ k. slotLiteral (slotAt c (c .n - 1)) (bound (slotAt c (c .n - 1)) k)) offset-c ∙ sym (hz .literal) in
+        let ey = literal-of c f w o (c .n - 2) 1 (omega (arith, two)) (omega (arith, two)) ∙ sym (hy .literal) in
+        let ez = literal-of c f w o (c .n - 1) 2 (omega (arith, two)) (omega (arith, two)) ∙ sym (hz .literal) in
         parts (present c w) (c .n) (present-length c w f) two (f .few) ∙ ap₂ (λ p q. fixed ++ (p ∷ q ∷ [])) ey ez
-
-    pub top-b : bound (slotAt c (c .n - 2)) (w .b .k) ≤ℤ slotBounds (slotAt c (c .n - 2)) .hi
-    top-b = subst (λ k. bound (slotAt c (c .n - 2)) k ≤ℤ slotBounds (slotAt c (c .n - 2)) .hi) offset-b (top-term (c .n - 2) (omega (arith, two)))
-
-    pub top-c : bound (slotAt c (c .n - 1)) (w .c .k) ≤ℤ slotBounds (slotAt c (c .n - 1)) .hi
-    top-c = subst (λ k. bound (slotAt c (c .n - 1)) k ≤ℤ slotBounds (slotAt c (c .n - 1)) .hi) offset-c (top-term (c .n - 1) (omega (arith, two)))
 
     pub walking-along : (i : ℕ) → i ≤ min (w .b .w - w .b .k) (w .c .k) → Walking c (Tuple (along w i))
     unfolding Walking Over
@@ -145,11 +153,8 @@ module _ (c : Comparison) (f : FairComparison c) (two : 2 ≤ c .n) where
   fixed-along : (w : Walk) (o : Walking c (Tuple w)) (i : ℕ) (h : i ≤ min (w .b .w - w .b .k) (w .c .k)) → fixed (along w i) (walking-along w o i h) ≡ fixed w o
   fixed-along w o i h = elim (decLe 3 (c .n)) [
     | yes k ↦
-        let q : 0 + 3 - c .n ≡ 0 = omega (arith, f .few) in
-        let at : (v : Walk) → Walking c (Tuple v) → getD (present c v) 0 (pos 0) ≡ slotLiteral (slotAt c 0) (v .a .lo +ℤ pos (v .a .k)) =
-        λ v p. literal-read c f v p 0 (omega (arith, two)) ∙ ap (λ j. slotLiteral (slotAt c 0) (getD (places v) j no-place .lo +ℤ pos (getD (places v) j no-place .k))) q in
-        let one : (v : Walk) → Walking c (Tuple v) → take (c .n - 2) (present c v) ≡ slotLiteral (slotAt c 0) (v .a .lo +ℤ pos (v .a .k)) ∷ [] =
-        λ v p. first-taken (present c v) (c .n - 2) (omega (arith, f .few)) (omega (arith, present-length c v f)) ∙ ap (λ z. z ∷ []) (at v p) in
+        let one : (v : Walk) → Walking c (Tuple v) → take (c .n - 2) (present c v) ≡ slotLiteral (slotAt c 0) (bound (slotAt c 0) (v .a .k)) ∷ [] =
+        λ v p. first-taken (present c v) (c .n - 2) (omega (arith, f .few)) (omega (arith, present-length c v f)) ∙ ap (λ z. z ∷ []) (literal-of c f v p 0 0 (omega (arith, two)) (omega (arith, f .few))) in
         one (along w i) (walking-along w o i h) ∙ sym (one w o)
     | no k ↦ let q : c .n - 2 ≡ 0 = omega arith in rw q refl
   ]
@@ -172,13 +177,13 @@ module _ (c : Comparison) (f : FairComparison c) (two : 2 ≤ c .n) where
       let ec : w .c .k - i - 1 ≡ w .c .k - suc i = omega arith in
       let sy = slot-fair c f (c .n - 2) (omega (arith, two)) in
       let sz = slot-fair c f (c .n - 1) (omega (arith, two)) in
-      let top = subst (λ k. bound (slotAt c (c .n - 2)) k ≤ℤ slotBounds (slotAt c (c .n - 2)) .hi) (sym eb) (top-b (along w (suc i)) (walking-along w o (suc i) next)) in
+      let top = subst (λ k. bound (slotAt c (c .n - 2)) k ≤ℤ slotBounds (slotAt c (c .n - 2)) .hi) (sym eb) (placed-b (along w (suc i)) (walking-along w o (suc i) next) .high) in
       let hy′ = subst (λ k. Holds (slotAt c (c .n - 2)) k (raised y)) eb (holds-up (slotAt c (c .n - 2)) sy (w .b .k + i) y hy top) in
-      let hz′ = subst (λ k. Holds (slotAt c (c .n - 1)) k (lowered z)) ec (holds-down (slotAt c (c .n - 1)) sz (w .c .k - i) z hz (one-left (w .b .w - w .b .k) (w .c .k) i next) (top-c (along w i) (walking-along w o i here))) in
+      let hz′ = subst (λ k. Holds (slotAt c (c .n - 1)) k (lowered z)) ec (holds-down (slotAt c (c .n - 1)) sz (w .c .k - i) z hz (one-left (w .b .w - w .b .k) (w .c .k) i next) (placed-c (along w i) (walking-along w o i here) .high)) in
       ap₂ _∷_ (first-is w o i y z here hy hz) (run-literals w o (suc i) n (raised y) (lowered z) (omega (arith, h)) hy′ hz′)
 
   -- the row of the present tuple, from what is said of its last two terms
-  pub row-literals : (w : Walk) → Walking c (Tuple w) → (y z : Spot) → Holds (slotAt c (c .n - 2)) (offsetAt c w (c .n - 2)) y → Holds (slotAt c (c .n - 1)) (offsetAt c w (c .n - 1)) z
+  pub row-literals : (w : Walk) → Walking c (Tuple w) → (y z : Spot) → Holds (slotAt c (c .n - 2)) (w .b .k) y → Holds (slotAt c (c .n - 1)) (w .c .k) z
       → rowClauses c w ≡ rowFrom (take (c .n - 2) (present c w)) y z (rowLength w)
   unfolding rowClauses
   row-literals w o y z hy hz =
@@ -186,8 +191,8 @@ module _ (c : Comparison) (f : FairComparison c) (two : 2 ≤ c .n) where
       let eb : w .b .k + 0 ≡ w .b .k = omega arith in
       let ec : w .c .k - 0 ≡ w .c .k = omega arith in
       run-literals w o 0 m y z (omega arith)
-      (subst (λ k. Holds (slotAt c (c .n - 2)) k y) (offset-b w o ∙ sym eb) hy)
-      (subst (λ k. Holds (slotAt c (c .n - 1)) k z) (offset-c w o ∙ sym ec) hz)
+      (subst (λ k. Holds (slotAt c (c .n - 2)) k y) (sym eb) hy)
+      (subst (λ k. Holds (slotAt c (c .n - 1)) k z) (sym ec) hz)
 
 -- with fewer than two terms a row has one tuple
 pub row-single : (c : Comparison) → FairComparison c → (w : Walk) → Walking c (Tuple w) → c .n < 2 → rowClauses c w ≡ present c w ∷ []
@@ -226,12 +231,8 @@ literal-near s f b low high = ⊎-elim (λ g.
     let i = floor-inside s b f low high (floor b (s .coefficient)) refl h in
     omega (arith, ap natAbs (literal-rising s b h), number-small s (floor b (s .coefficient)) f (i .0) (i .1))) (le-or-lt (s .coefficient) (pos 0))
 
--- a spot at the present tuple is ready to go along its row
-pub spot-ready : (c : Comparison) (f : FairComparison c) → 2 ≤ c .n → (w : Walk) → Walking c (Tuple w) → (i : ℕ) → i < c .n → (p : Spot) → Holds (slotAt c i) (offsetAt c w i) p
-    → Steady p (rowLength w)
-spot-ready c f two w o i h p e =
-    let s = slotAt c i in
-    let g = slot-fair c f i h in
-    let near = literal-near s g (bound s (offsetAt c w i)) (omega (whole, add-law (slotBounds s .lo) (pos (offsetAt c w i)))) (top-term c f two w o i h) in
-    let d = walking-fine c w o in
-    record { short = e .rest .short; few = omega (arith, e .size, g .few); near = omega (arith, ap natAbs (e .literal), near, d .1 .0 .narrow) }
+-- a spot is ready to go along the row
+pub spot-ready : (s : Slot) (q : Place) → Placed s q → (p : Spot) → Holds s (q .k) p → (n : ℕ) → n ≤ 20000000 → Steady p n
+spot-ready s q h p e n few =
+    let near = literal-near s (h .fair) (bound s (q .k)) (omega (whole, add-law (slotBounds s .lo) (pos (q .k)))) (h .high) in
+    record { short = e .rest .short; few = omega (arith, e .size, h .fair .few); near = omega (arith, ap natAbs (e .literal), near, few) }
