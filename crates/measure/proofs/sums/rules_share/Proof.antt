@@ -36,8 +36,8 @@ share-of-requires c κs =
     let w = meets _ _ _ _ _ _ (c .before .before .before .before .loop .inv .1) _ (k .context) _ _ (rw (c .before .piece .given .1) at (c .before .before .before .step .ensures)) in
     (k .opens, w .held, next-fits _ (opens-recorded _ (k .opens)) _ _ _ (w .adding))
 
-added-requires : tie.Need-added-requires Inv-loop μ-loop
-added-requires c κs =
+and-requires : tie.Need-and-requires Inv-loop μ-loop
+and-requires c κs =
     let k = c .before .before .before .before .before .before .before .before .before .pre .0 in
     let w = meets _ _ _ _ _ _ (c .before .before .before .before .before .loop .inv .1) _ (k .context) _ _ (rw (c .before .before .piece .given .1) at (c .before .before .before .before .step .ensures)) in
     plus-fits _ (opens-recorded _ (k .opens)) _ _ _ (w .adding) _ (c .share-of .ensures)
@@ -49,7 +49,7 @@ loop-less c =
 loop-again : tie.Need-loop-again Inv-loop μ-loop
 loop-again c =
     let w = meets _ _ _ _ _ _ (c .before .before .before .before .before .before .loop .inv .1) _ (c .before .before .before .before .before .before .before .before .before .before .pre .0 .context) _ _ (rw (c .before .before .before .piece .given .1) at (c .before .before .before .before .before .step .ensures)) in
-    (w .onward .sound, rw (c .added .ensures) (adding-more _ _ _ _ _ _ (w .adding) (c .before .share-of .ensures)))
+    (w .onward .sound, rw (c .and .ensures) (adding-more _ _ _ _ _ _ (w .adding) (c .before .share-of .ensures)))
 
 enum-known-next : tie.Need-enum-known-next Inv-loop μ-loop
 enum-known-next c = search needs
@@ -81,7 +81,7 @@ rules-share-spec =
     step-requires
     enum-known-piece
     share-of-requires
-    added-requires
+    and-requires
     loop-less
     loop-again
     enum-known-next
