@@ -1,5 +1,6 @@
 pub mod Places
 pub mod Shares
+pub mod Running
 pub mod Said
 pub mod Outcome
 pub mod Told

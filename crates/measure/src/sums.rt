@@ -20,14 +20,17 @@ ghost use Rattle.rules.specs.Known.{Known};
 ghost use Rattle.measure.specs.Shares.{Fit, Adding, plus};
 ghost use Rattle.measure.specs.Said.{kindsOf, totalsOf};
 
-fn added(total: Share, share: Share) -> Share
-    requires { ⌜ Fit (plus total share) ⌝ }
-    ensures { λ r. ⌜ r ≡ plus total share ⌝ }
-{
-    Share {
-        clauses: total.clauses + share.clauses,
-        places: total.places + share.places,
-        selectors: total.selectors + share.selectors,
+impl Share {
+    // A total, and a further share.
+    fn and(self, share: Share) -> Share
+        requires { ⌜ Fit (plus self share) ⌝ }
+        ensures { λ r. ⌜ r ≡ plus self share ⌝ }
+    {
+        Share {
+            clauses: self.clauses + share.clauses,
+            places: self.places + share.places,
+            selectors: self.selectors + share.selectors,
+        }
     }
 }
 
@@ -46,7 +49,7 @@ fn rules_share(bytes: &[u8], clauses: usize, rules: &[u8]) -> Share
         let Ahead::Met(piece, next) = next_piece(rules, cursor) else {
             return total;
         };
-        total = added(total, share_of(bytes, rules, piece));
+        total = total.and(share_of(bytes, rules, piece));
         cursor = next;
     }
 }

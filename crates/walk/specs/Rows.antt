@@ -3,9 +3,11 @@ use mathlib.Core.Path.{_≡_, refl, sym, ap, _∙_}
 use mathlib.Core.List.{List, [], _∷_, _++_, map}
 use Prim.Native.Nat.{ℕ, zero, suc, min, _+_, _-_, _*_, _≤_, _<_}
 use native.Mathlib.Omega.{arith}
-use lib.ListN.{length, getD, drop, length-map}
+use lib.ListN.{length, drop, length-map}
 use lib.IntN.{ℤ, pos, natAbs, _+ℤ_, _-ℤ_}
+use lib.Signed.{_≤ℤ_}
 use Rattle.walk.specs.declared.Slot.{Slot}
+use Rattle.walk.specs.declared.Place.{Place}
 use Rattle.walk.specs.declared.Spot.{Spot}
 use Rattle.walk.specs.declared.Front.{Front}
 use Rattle.walk.specs.declared.Front.the-variants.{Nothing, Literal}
@@ -16,8 +18,8 @@ use Rattle.walk.specs.declared.Comparison.{Comparison}
 use Rattle.walk.specs.declared.Walk.{Walk}
 use Rattle.walk.specs.declared.At.{At}
 use Rattle.walk.specs.declared.At.the-variants.{Tuple}
-use Rattle.walk.specs.Slots.{slotBounds, slotLiteral}
-use Rattle.walk.specs.Walks.{placesOf, moved}
+use Rattle.walk.specs.Slots.{FairSlot, slotBounds, slotLiteral}
+use Rattle.walk.specs.Walks.{moved, Fine}
 use Rattle.walk.specs.Comparisons.{Walking, present, toCome}
 
 -- ---- the tuples of a row
@@ -52,12 +54,12 @@ pub record Rest (d k r : ℕ) : Type 0 where
   pub whole : k + r ≡ d * times
   pub short : r < d
 
--- the i-th term's slot, and the offset of its bound
-abbrev pub slotAt : Comparison → ℕ → Slot
-slotAt c i = getD (c .slots) i (record { coefficient = pos 0; lower = pos 0; upper = pos 0; first = 0 })
-
-abbrev pub offsetAt : Comparison → Walk → ℕ → ℕ
-offsetAt c w i = getD (placesOf w) (i + 3 - c .n) (record { lo = pos 0; k = 0; w = 0 }) .k
+-- a place that stands in the range of a slot
+pub record Placed (s : Slot) (p : Place) : Type 0 where
+  pub fair : FairSlot s
+  pub fine : Fine p
+  pub low : p .lo ≡ slotBounds s .lo
+  pub high : (slotBounds s .lo +ℤ pos (p .k)) ≤ℤ slotBounds s .hi
 
 -- what a spot says of a slot at the offset k
 pub record Holds (s : Slot) (k : ℕ) (p : Spot) : Type 0 where

@@ -3,10 +3,14 @@
 use crate::At;
 use crate::Comparison;
 use crate::Front;
+use crate::Place;
 use crate::Row;
 use crate::Run;
+use crate::Slot;
 use crate::Spot;
 use crate::Walk;
+use crate::terms::literal;
+use crate::tuples::bound;
 use crate::tuples::next;
 use crate::tuples::room;
 use crate::tuples::tuple_literal;
@@ -18,7 +22,7 @@ ghost use lib.ListN.{take, drop};
 ghost use Rattle.definitions.specs.Tools.{All};
 ghost use Rattle.walk.specs.Comparisons.{FairComparison, Walking, present, toCome};
 ghost use Rattle.walk.specs.Walks.{placesOf, Fine};
-ghost use Rattle.walk.specs.Rows.{rowLength, rowClauses, Rest, slotAt, offsetAt, Holds, Steady, raised, lowered, frontOf, inRun, ReadyRun, inRow, Ready};
+ghost use Rattle.walk.specs.Rows.{rowLength, rowClauses, Rest, Placed, Holds, Steady, raised, lowered, frontOf, inRun, ReadyRun, inRow, Ready};
 
 // How many tuples the row has from the present one on.
 fn row_length(w: Walk) -> u32
@@ -63,23 +67,16 @@ fn magnitude(a: i32) -> u32
     if a < 0 { (-a) as u32 } else { a as u32 }
 }
 
-// The literal of term i at the present tuple, ready to go along the row.
-fn spot_at(c: Comparison, w: Walk, i: usize) -> Spot
-    requires { ⌜ FairComparison c × Walking c (At.Tuple w) × (i < c .n) ⌝ }
-    ensures { λ r. ⌜ Holds (slotAt c i) (offsetAt c w i) r ⌝ }
+// The literal of a term at its place, ready to go along the row.
+fn spot_at(s: Slot, p: Place) -> Spot
+    requires { ⌜ Placed s p ⌝ }
+    ensures { λ r. ⌜ Holds s (p .k) r ⌝ }
 {
-    let a = w.a;
-    let b = w.b;
-    let z = w.c;
-    let places = [a, b, z];
-    let slots = c.slots;
-    let s = slots[i];
-    let p = places[i + 3 - c.n];
     let d = magnitude(s.coefficient);
     Spot {
         d: d,
         r: until(d, p.k),
-        literal: tuple_literal(c, w, i),
+        literal: literal(s, bound(p)),
     }
 }
 
@@ -145,10 +142,13 @@ pub fn row_at(c: Comparison, w: Walk) -> Row
     if n < 2 {
         return Row::One(front_at(c, w, n));
     }
+    let slots = c.slots;
+    let y = w.b;
+    let z = w.c;
     Row::Many(Run {
         front: front_at(c, w, n - 2),
-        y: spot_at(c, w, n - 2),
-        z: spot_at(c, w, n - 1),
+        y: spot_at(slots[n - 2], y),
+        z: spot_at(slots[n - 1], z),
         count: row_length(w),
     })
 }

@@ -132,7 +132,7 @@ pub fn first_tuple(c: Comparison) -> At
     lowest(place(c, 0), place(c, 1), place(c, 2), t as u32)
 }
 
-fn bound(p: Place) -> i32
+pub fn bound(p: Place) -> i32
     requires { ⌜ Fine p ⌝ }
     ensures { λ r. ⌜ r ≡ p .lo +ℤ pos (p .k) ⌝ }
 {

@@ -56,8 +56,8 @@ share-of-requires c κs =
     let o = s p .pre .0 .opens in
     (o, met p .held, next-fits _ (opens-recorded _ o) _ _ _ (adding p))
 
-added-requires : tie.Need-added-requires Inv-loop μ-loop
-added-requires c κs =
+and-requires : tie.Need-and-requires Inv-loop μ-loop
+and-requires c κs =
     let p = c .before .before in
     plus-fits _ (opens-recorded _ (s p .pre .0 .opens)) _ _ _ (adding p) _ (c .share-of .ensures)
 
@@ -67,7 +67,7 @@ loop-less c = met (c .before .before .before) .onward .less
 loop-again : tie.Need-loop-again Inv-loop μ-loop
 loop-again c =
     let p = c .before .before .before in
-    (met p .onward .sound, rw (c .added .ensures) (adding-more _ _ _ _ _ _ (adding p) (c .before .share-of .ensures)))
+    (met p .onward .sound, rw (c .and .ensures) (adding-more _ _ _ _ _ _ (adding p) (c .before .share-of .ensures)))
 
 pub rules-share-spec : {M : Type 1} → statement M
 rules-share-spec =
@@ -82,6 +82,6 @@ rules-share-spec =
     enum-told
     returns
     share-of-requires
-    added-requires
+    and-requires
     loop-less
     loop-again)

@@ -1,78 +1,61 @@
 -- `walk::rows::spot_at` meets its contract.
-use mathlib.Core.Path.{ap, _∙_}
+use borrow.Author.Needs.{needs}
+use mathlib.Core.Path.{_≡_, ap, _∙_}
 use native.Mathlib.Omega.{arith}
-use lib.IntN.{pos, _+ℤ_}
+use lib.IntN.{pos, natAbs, _+ℤ_}
 use mir.Syntax.{w32}
 use mir.Val.{SFits}
 use mir.Facts.{toZ-ofZ}
-use Rattle.laws.specs.Whole.{abs-fits}
-use Rattle.walk.specs.Slots.{slotLiteral}
-use Rattle.walk.specs.Rows.{slotAt, offsetAt}
-use Rattle.walk.proofs.Padding.{slot-fair, place-fine, low-is, literal-read}
-use borrow.Author.Needs.{needs}
+use Rattle.laws.specs.Whole.{whole, abs-fits, add-law}
+use Rattle.walk.specs.Slots.{slotBounds, slotLiteral}
 use Rattle.walk.proofs.rows.spot_at.Statement.{statement}
 use Rattle.walk.proofs.rows.spot_at.Tie as tie
 
-mul-s : tie.Need-mul-s
-mul-s c = search needs
-
-array-copy-out-s : tie.Need-array-copy-out-s
-array-copy-out-s c = search needs
-
-add-p : tie.Need-add-p
-add-p c = search needs
-
-sub-p : tie.Need-sub-p
-sub-p c = search needs
-
-mul-p : tie.Need-mul-p
-mul-p c = search needs
-
-array-copy-out-p : tie.Need-array-copy-out-p
-array-copy-out-p c = search needs
-
 magnitude-requires : tie.Need-magnitude-requires
-magnitude-requires c κs =
-    let s = c .before .before .before .before .before .before .before .before in
-    let a = s .args in let g = slot-fair (a .c) (s .pre .0) (a .i) (s .pre .2) in
-    let f : SFits w32 (slotAt (a .c) (a .i) .coefficient) = abs-fits (omega (arith, g .few)) in simp toZ-ofZ (g .few)
+magnitude-requires c κs = search needs
+
+-- the coefficient's magnitude
+module _ (c : tie.After-magnitude) where
+  abbrev s : tie.Start
+  s = c .before .before
+
+  size : c .magnitude .result ≡ natAbs (s .args .s .coefficient)
+  size = let f : SFits w32 (s .args .s .coefficient) = abs-fits (omega (arith, s .pre .fair .few)) in simp toZ-ofZ at (c .magnitude .ensures)
 
 until-requires : tie.Need-until-requires
 until-requires c κs =
-    let s = c .before .before .before .before .before .before .before .before .before in
-    let a = s .args in let g = slot-fair (a .c) (s .pre .0) (a .i) (s .pre .2) in
-    let f : SFits w32 (slotAt (a .c) (a .i) .coefficient) = abs-fits (omega (arith, g .few)) in
-    let e = simp toZ-ofZ at (c .magnitude .ensures) in
-    let p = place-fine (a .c) (s .pre .0) (a .w) (s .pre .1) (a .i) (s .pre .2) in
-    (omega (arith, e, g .some), omega (arith, p .inside, p .narrow), omega (arith, e, g .few))
+    let p = s c .pre in
+    (omega (arith, size c, p .fair .some), omega (arith, p .fine .inside, p .fine .narrow), omega (arith, size c, p .fair .few))
 
-tuple-literal-requires : tie.Need-tuple-literal-requires
-tuple-literal-requires c κs = search needs
+bound-requires : tie.Need-bound-requires
+bound-requires c κs = search needs
+
+-- the bound at the place
+module _ (c : tie.After-bound) where
+  abbrev m : tie.After-magnitude
+  m = c .before .before
+
+  bound-is : c .bound .result ≡ slotBounds (s m .args .s) .lo +ℤ pos (s m .args .p .k)
+  bound-is = c .bound .ensures ∙ ap (λ z. z +ℤ pos (s m .args .p .k)) (s m .pre .low)
+
+  bound-fits : SFits w32 (c .bound .result)
+  bound-fits = record { sfits = c .bound .ok }
+
+literal-requires : tie.Need-literal-requires
+literal-requires c κs =
+    let p = s (m c) .pre in
+    let low = slotBounds (s (m c) .args .s) .lo in
+    rw (toZ-ofZ (bound-fits c), bound-is c) (p .fair, omega (whole, add-law low (pos (s (m c) .args .p .k))), p .high)
 
 returns : tie.Need-returns
 returns c =
-    let s = c .before .before .before .before .before .before .before .before .before .before .before in
-    let a = s .args in let g = slot-fair (a .c) (s .pre .0) (a .i) (s .pre .2) in
-    let f : SFits w32 (slotAt (a .c) (a .i) .coefficient) = abs-fits (omega (arith, g .few)) in
-    let e = simp toZ-ofZ at (c .before .before .magnitude .ensures) in
-    let l : SFits w32 (c .tuple-literal .result) = record { sfits = c .tuple-literal .ok } in
+    let b = c .before in
     record {
-      size = e;
-      rest = c .before .until .ensures;
-      literal = toZ-ofZ l ∙ c .tuple-literal .ensures ∙ literal-read (a .c) (s .pre .0) (a .w) (s .pre .1) (a .i) (s .pre .2) ∙ ap (λ z. slotLiteral (slotAt (a .c) (a .i)) (z +ℤ pos (offsetAt (a .c) (a .w) (a .i)))) (low-is (a .c) (s .pre .0) (a .w) (s .pre .1) (a .i) (s .pre .2));
+      size = size (m b);
+      rest = b .before .until .ensures;
+      literal = toZ-ofZ (record { sfits = c .literal .ok }) ∙ c .literal .ensures ∙ ap (slotLiteral (s (m b) .args .s)) (toZ-ofZ (bound-fits b) ∙ bound-is b);
     }
 
 pub spot-at-spec : {M : Type 1} → statement M
 spot-at-spec =
-    tie.close
-    (tie.spec
-    mul-s
-    array-copy-out-s
-    add-p
-    sub-p
-    mul-p
-    array-copy-out-p
-    magnitude-requires
-    until-requires
-    tuple-literal-requires
-    returns)
+    tie.close (tie.spec magnitude-requires until-requires bound-requires literal-requires returns)
