@@ -30,6 +30,10 @@ most = 2147483647
 abbrev pub firstLine : ℕ → ℕ → List ℕ
 firstLine N M = ascii "p cnf " ++ decimal N ++ ascii " " ++ decimal M ++ ascii "\n"
 
+-- the last number, if there is one, ends a clause
+abbrev pub Ended : List ℤ → Type 0
+Ended ns = (ns ≡ []) ⊎ ((ms : List ℤ) × (ns ≡ ms ++ (pos 0 ∷ [])))
+
 -- text of N, M and the numbers of the list: the first line as printed, then the numbers, none beyond N, and M clauses
 pub record GoodText (N M : ℕ) (ns : List ℤ) (t : List ℕ) : Type 0 where
   pub small : (N ≤ most) × (M ≤ most)
@@ -39,19 +43,19 @@ pub record GoodText (N M : ℕ) (ns : List ℤ) (t : List ℕ) : Type 0 where
   pub spaced : Spaced free ns body
   pub known : All (λ n. natAbs n ≤ N) ns
   pub clauses : zeros ns ≡ M
-  pub ended : (ns ≡ []) ⊎ ((ms : List ℤ) × (ns ≡ ms ++ (pos 0 ∷ [])))
+  pub ended : Ended ns
 
--- lines of `v` and one or more numbers, each after one space; without the last newline
-pub data Values : List ℤ → List ℕ → Type 0 where
-  first : (n : ℤ) → Values (n ∷ []) (ascii "v " ++ numeral n)
-  onLine : (n : ℤ) {ns : List ℤ} {t : List ℕ} → Values ns t → Values (ns ++ (n ∷ [])) (t ++ (ascii " " ++ numeral n))
-  newLine : (n : ℤ) {ns : List ℤ} {t : List ℕ} → Values ns t → Values (ns ++ (n ∷ [])) (t ++ (ascii "\nv " ++ numeral n))
+-- lines of `v` and one or more numbers, each after one space; the last number is told apart, and the last newline is not here
+pub data Values : List ℤ → ℤ → List ℕ → Type 0 where
+  first : (n : ℤ) → Values [] n (ascii "v " ++ numeral n)
+  onLine : (n : ℤ) {ns : List ℤ} {m : ℤ} {t : List ℕ} → Values ns m t → Values (ns ++ (m ∷ [])) n (t ++ (ascii " " ++ numeral n))
+  newLine : (n : ℤ) {ns : List ℤ} {m : ℤ} {t : List ℕ} → Values ns m t → Values (ns ++ (m ∷ [])) n (t ++ (ascii "\nv " ++ numeral n))
 
 -- a reply for N with the literals ns: the line, then lines of values with one 0, the last number
 pub record GoodReply (N : ℕ) (ns : List ℤ) (t : List ℕ) : Type 0 where
   pub values : List ℕ
   pub lined : t ≡ ascii "s SATISFIABLE\n" ++ (values ++ ascii "\n")
-  pub listed : Values (ns ++ (pos 0 ∷ [])) values
+  pub listed : Values ns (pos 0) values
   pub literals : All (λ n. (1 ≤ natAbs n) × (natAbs n ≤ N)) ns
 
 -- the reply 'none'

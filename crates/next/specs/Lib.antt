@@ -2,3 +2,8 @@ pub mod Forms
 pub mod Reading
 pub mod Operations
 pub mod Examples
+pub mod Stepping
+pub mod Reached
+pub mod GoodTexts
+pub mod GoodReplies
+pub mod Places
