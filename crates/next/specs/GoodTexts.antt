@@ -113,7 +113,7 @@ snoc-same (a ∷ k) (b ∷ l) x y e =
     let t : k ++ (x ∷ []) ≡ l ++ (y ∷ []) = cc in
     ap (λ z. z ∷ k) h ∙ ap (λ z. b ∷ z) (snoc-same k l x y t)
 
-yes : (b : Bool) → T b → b ≡ true
+pub yes : (b : Bool) → T b → b ≡ true
 yes true t = refl
 yes false t = absurd t
 

@@ -7,3 +7,6 @@ pub mod Reached
 pub mod GoodTexts
 pub mod GoodReplies
 pub mod Places
+pub mod Lives
+pub mod Details
+pub mod Pinned

@@ -38,7 +38,7 @@ is-true : (b : Bool) → b ≡ true → T b
 is-true b e = rw e tt
 
 -- ---- digits
-digit-is : (b : ℕ) → digit b ≡ true → (48 + (b - 48) ≡ b) × (b - 48 < 10)
+pub digit-is : (b : ℕ) → digit b ≡ true → (48 + (b - 48) ≡ b) × (b - 48 < 10)
 digit-is b h =
     let l = both (leb 48 b) (leb b 57) h in
     let m = leb-true 48 b (l .0) in
@@ -209,7 +209,7 @@ longer-by-one : (w : List ℕ) (b : ℕ) → suc (length w) ≡ length (w ++ (b 
 longer-by-one w b = omega (arith, length-append w (b ∷ []))
 
 -- bytes after a head and a part
-onto : {w : List ℕ} (h u : List ℕ) (c : ℕ) → w ≡ h ++ u → w ++ (c ∷ []) ≡ h ++ (u ++ (c ∷ []))
+pub onto : {w : List ℕ} (h u : List ℕ) (c : ℕ) → w ≡ h ++ u → w ++ (c ∷ []) ≡ h ++ (u ++ (c ∷ []))
 onto h u c e = ap (λ x. x ++ (c ∷ [])) e ∙ append-assoc h u (c ∷ [])
 
 module _ (q : Which) (narrow : Narrow q) where
