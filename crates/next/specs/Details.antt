@@ -186,25 +186,33 @@ numeral-last : (x : ℤ) → natAbs x < 2 ^ 64 → (u : List ℕ) × ((c : ℕ) 
 numeral-last (pos v) m = decimal-last v m
 numeral-last (negsuc v) m = let k = decimal-last (suc v) m in (45 ∷ k .0, (k .1 .0, ap (λ z. 45 ∷ z) (k .1 .1)))
 
-module _ (start : State) (head : List ℕ) {N : ℕ} (places : (s : State) → fed start 0 head ≡ done s → (k : Kind) × ((ns : List ℤ) × ((s ≡ reading.number k ns) × (beyond k ≡ N)))) where
+split-done : (t u : List ℕ) (s : State) (at : ℕ) {s′ : State} → fed s at (t ++ u) ≡ done s′ → (s₁ : State) × ((fed s at t ≡ done s₁) × (fed s₁ (at + length t) u ≡ done s′))
+split-done t u s at h = made (fed s at t) (λ s₁. fed s₁ (at + length t) u) (sym (fed-append t u s at) ∙ h)
+
+-- a number beyond N, where one may begin, is refused at its first byte
+far-refused : (k : Kind) (ns : List ℤ) (at : ℕ) (x : ℤ) → beyond k < natAbs x → natAbs x < 2 ^ 64 → fed (reading.number k ns) at (numeral x) ≡ refused 18 at
+far-refused k ns at x far m =
+    numeral-fed k ns at x m ∙ rw (lt-leb (natAbs x) (beyond k) far) (none-free at (free k ns) (within k ns (num at (negative x) (natAbs x))))
+
+-- where a number may begin
+abbrev pub Free : ℕ → State → Type 0
+Free N s = (k : Kind) × ((ns : List ℤ) × ((s ≡ reading.number k ns) × (beyond k ≡ N)))
+
+free-refused : (N : ℕ) (s : State) (at : ℕ) (x : ℤ) → Free N s → N < natAbs x → natAbs x < 2 ^ 64 → fed s at (numeral x) ≡ refused 18 at
+free-refused N s at x f far m = ap (λ s. fed s at (numeral x)) (f .1 .1 .0) ∙ far-refused (f .0) (f .1 .0) at x (omega (arith, f .1 .1 .1, far)) m
+
+module _ (start : State) (head : List ℕ) {N : ℕ} (places : (s : State) → fed start 0 head ≡ done s → Free N s) where
   pub beyond-refused : (t : List ℕ) (b : ℕ) (s : State) (x : ℤ) (n d : ℕ) → N < natAbs x → natAbs x < 2 ^ 64 → t ++ (b ∷ []) ≡ head ++ numeral x
       → fed start 0 t ≡ done s → fed start 0 (t ++ (b ∷ [])) ≡ refused n d → d ≡ length head
   beyond-refused t b s x n d far m is r h =
       let l = numeral-last x m in
       let e : t ≡ head ++ l .0 = snoc-same t (head ++ l .0) b (l .1 .0) (is ∙ ap (λ z. head ++ z) (l .1 .1) ∙ sym (append-assoc head (l .0) (l .1 .0 ∷ []))) in
-      let i = made (fed start 0 head) (λ s. fed s (0 + length head) (l .0)) (sym (fed-append head (l .0) start 0) ∙ ap (fed start 0) (sym e) ∙ r) in
-      let p = places (i .0) (i .1 .0) in
-      let k = p .0 in
-      let ns = p .1 .0 in
-      let f : fed start 0 (t ++ (b ∷ [])) ≡ refused 18 (0 + length head) =
-      ap (fed start 0) is ∙ fed-on head (numeral x) start 0 (i .1 .0 ∙ ap done (p .1 .1 .0)) (numeral-fed k ns (0 + length head) x m ∙ rw (lt-leb (natAbs x) (beyond k) (omega (arith, p .1 .1 .1, far))) (none-free (0 + length head) (free k ns) (within k ns (num (0 + length head) (negative x) (natAbs x))))) in
-      let y = refusal-is (sym h ∙ f) in
+      let i = split-done head (l .0) start 0 (ap (fed start 0) (sym e) ∙ r) in
+      let f = free-refused N (i .0) (0 + length head) x (places (i .0) (i .1 .0)) far m in
+      let y = refusal-is (sym h ∙ ap (fed start 0) is ∙ fed-on head (numeral x) start 0 (i .1 .0) f) in
       omega (arith, y .1)
 
 -- ---- the states of text after its first line, and of a reply after its own
-split-done : (t u : List ℕ) (s : State) (at : ℕ) {s′ : State} → fed s at (t ++ u) ≡ done s′ → (s₁ : State) × ((fed s at t ≡ done s₁) × (fed s₁ (at + length t) u ≡ done s′))
-split-done t u s at h = made (fed s at t) (λ s₁. fed s₁ (at + length t) u) (sym (fed-append t u s at) ∙ h)
-
 module _ (P : State → Type 0) (keeps : (s : State) (at b : ℕ) (s′ : State) → P s → step s at b ≡ done s′ → P s′) where
   stays : (t : List ℕ) (s : State) (at : ℕ) (s′ : State) → P s → fed s at t ≡ done s′ → P s′
   stays [] s at s′ p h = subst P (same h) p
@@ -237,10 +245,6 @@ module _ (N M : ℕ) where
   listing-blank : (s : State) (at b : ℕ) (s′ : State) → Listing N M s → blank b ≡ true → step s at b ≡ done s′ → (ns : List ℤ) × (s′ ≡ reading.number (text N M) ns)
   listing-blank s at b s′ (textFree ns) e h = (ns, sym (same (rw e at h)))
   listing-blank s at b s′ (textInside ns p) e h = (ns ++ (valueOf p ∷ []), sym (same (passed at (whole p) (done (reading.number (text N M) (ns ++ (valueOf p ∷ [])))) (rw e at h) .1)))
-
--- where a number may begin after a head
-abbrev pub Free : ℕ → State → Type 0
-Free N s = (k : Kind) × ((ns : List ℤ) × ((s ≡ reading.number k ns) × (beyond k ≡ N)))
 
 pub text-head : (N : ℕ) (h : List ℕ) → TextHead N h → (s : State) → fed textStart 0 h ≡ done s → Free N s
 text-head N h t s e =

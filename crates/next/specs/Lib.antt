@@ -10,3 +10,5 @@ pub mod Places
 pub mod Lives
 pub mod Details
 pub mod Pinned
+pub mod Written
+pub mod Models
