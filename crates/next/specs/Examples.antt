@@ -7,8 +7,7 @@ use Rattle.definitions.specs.Operations.{Outcome, _leaves_, Sizes}
 use Rattle.definitions.specs.Dimacs.{ascii}
 use Rattle.definitions.specs.Open.{all-open}
 use Rattle.definitions.specs.Examples.{hex}
-use Rattle.next.specs.Reading.{Read, readText}
-use Rattle.next.specs.Reading.{readReply}
+use Rattle.next.specs.Reading.{Read, readText, readReply}
 use Rattle.next.specs.Operations.{textOf, WriteText, ReadText, ReadReply}
 
 pub data Question : Type 0 where

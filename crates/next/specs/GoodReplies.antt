@@ -1,21 +1,19 @@
 -- A reply is read exactly if it is good: its literals, or 'none' (02, P2). Assumes nothing.
-use mathlib.Core.Path.{_≡_, refl, sym, ap, _∙_, subst}
+use mathlib.Core.Path.{_≡_, refl, ap, _∙_, subst}
 use mathlib.Core.Logic.{_↔_}
-use mathlib.Core.Bool.{Bool, true, false}
-use mathlib.Core.List.{List, [], _∷_, _++_, append-assoc}
-use Prim.Native.Nat.{ℕ, zero, suc, _+_, _≤_, _<_}
+use mathlib.Core.List.{List, [], _∷_, _++_}
+use Prim.Native.Nat.{ℕ, _+_, _≤_}
 use native.Mathlib.Omega.{arith}
 use borrow.Author.Tests.{ne-eqb}
-use lib.Dec.{eqb}
 use lib.ListN.{length}
-use lib.IntN.{ℤ, pos, natAbs}
+use lib.IntN.{ℤ, natAbs}
 use Rattle.definitions.specs.Tools.{All}
-use Rattle.definitions.specs.Result.{Result, _>>=_, done, refused}
+use Rattle.definitions.specs.Result.{_>>=_, done}
 use Rattle.definitions.specs.Dimacs.{ascii}
 use Rattle.laws.specs.Readings.{same, never}
 use Rattle.laws.specs.Lists.{append-all}
 use Rattle.next.specs.Forms.{numeral, Values, first, onLine, newLine, GoodReply, noModel}
-use Rattle.next.specs.Reading.{Number, Kind, text, reply, Reply, model, none, State, word, count, countOn, verdict, number, within, over, awaits, step, fed, endReply, readReply}
+use Rattle.next.specs.Reading.{reply, Reply, model, none, State, word, count, countOn, verdict, number, within, over, awaits, fed, endReply, readReply}
 use Rattle.next.specs.Stepping.{fed-on}
 use Rattle.next.specs.Reached.{made, wide, ofReply, Reached, all-kept}
 use Rattle.next.specs.GoodTexts.{numberAt, numeral-whole, number-read}

@@ -1,24 +1,24 @@
 -- Text is read as N, M and a list exactly if it is good for them (02, P2). Assumes nothing.
 use mathlib.Core.Path.{_≡_, refl, sym, ap, _∙_, subst}
-use mathlib.Core.Logic.{_⊎_, _↔_, inl, inr}
+use mathlib.Core.Logic.{_↔_, inl, inr}
 use mathlib.Core.Bool.{Bool, true, false, _&&_}
 use mathlib.Core.List.{List, [], _∷_, _++_, append-assoc}
 use Prim.Native.Nat.{ℕ, zero, suc, _+_, _≤_, _<_}
 use native.Mathlib.Omega.{arith}
 use borrow.Author.Tests.{lt-ltb, le-leb, eq-eqb, eqb-true}
-use lib.Dec.{T, ltb, leb, eqb}
+use lib.Dec.{T, eqb}
 use lib.ListN.{length, length-append}
 use lib.IntN.{ℤ, pos, negsuc, natAbs}
 use Rattle.definitions.specs.Tools.{All}
-use Rattle.definitions.specs.Result.{Result, _>>=_, _>>_, need, done, refused}
+use Rattle.definitions.specs.Result.{_>>=_, _>>_, done}
 use Rattle.definitions.specs.Dimacs.{ascii, decimal}
 use Rattle.laws.specs.Readings.{same, never}
 use Rattle.laws.specs.Lists.{all-append, append-all}
 use Rattle.next.specs.Forms.{numeral, blank, Spaced, none, gap, number, zeros, Ended, most, firstLine, GoodText}
 use Rattle.next.specs.Reading as reading
 use Rattle.next.specs.Reading.{digit, Number, valueOf, whole, Count, variables, clauses, Kind, text, reply, State, word, count, countOn, verdict, within, over, awaits, counted, beyond, step, fed, Read, endText, readText}
-use Rattle.next.specs.Stepping.{fed-append, fed-on, fed-one, fed-awaits, count-fed, num, free, negative, numeral-fed}
-use Rattle.next.specs.Reached.{passed, made, both, wide, bytes, whole-bytes, value-size, zeros-append, zero-or, more-room, ofText, InText, Reached, all-kept}
+use Rattle.next.specs.Stepping.{fed-on, fed-awaits, count-fed, num, free, negative, numeral-fed}
+use Rattle.next.specs.Reached.{passed, made, both, wide, bytes, whole-bytes, value-size, zeros-append, more-room, ofText, Reached, all-kept}
 
 abbrev pub textStart : State
 textStart = awaits (ascii "p cnf ") (count variables)

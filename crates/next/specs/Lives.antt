@@ -1,19 +1,18 @@
 -- What is not refused begins something good: from every state that is reached some bytes lead to an end. Assumes nothing.
-use mathlib.Core.Path.{_≡_, refl, sym, ap, _∙_}
-use mathlib.Core.Logic.{_⊎_, inl, inr}
+use mathlib.Core.Path.{_≡_, refl, ap}
 use mathlib.Core.Bool.{Bool, true, false}
 use mathlib.Core.List.{List, [], _∷_, _++_}
 use Prim.Native.Nat.{ℕ, zero, suc, _+_, _-_, _≤_}
 use native.Mathlib.Omega.{arith}
 use borrow.Author.Tests.{lt-ltb, le-leb, eq-eqb, ne-eqb}
-use lib.Dec.{ltb, leb, eqb}
+use lib.Dec.{ltb}
 use lib.ListN.{length}
 use lib.IntN.{ℤ, pos}
 use Rattle.definitions.specs.Result.{Result, _>>=_, done}
 use Rattle.definitions.specs.Dimacs.{ascii}
 use Rattle.next.specs.Forms.{zeros}
-use Rattle.next.specs.Reading.{valueOf, Count, variables, clauses, Kind, text, reply, Reply, model, none, State, word, count, countOn, verdict, number, within, over, awaits, fed, Read, endText, endReply}
-use Rattle.next.specs.Stepping.{fed-on, fed-awaits, num, free}
+use Rattle.next.specs.Reading.{valueOf, variables, clauses, text, reply, Reply, model, none, State, word, count, countOn, verdict, number, within, over, fed, endText, endReply}
+use Rattle.next.specs.Stepping.{fed-on, fed-awaits, num}
 use Rattle.next.specs.Reached.{zeros-append, more-room, ofText, ofReply, Reached}
 use Rattle.next.specs.GoodTexts.{count-ends}
 

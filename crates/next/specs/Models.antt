@@ -1,16 +1,16 @@
 -- 19 is the least variable missing or present twice, and the model has exactly the reply's literals (02, P2). Assumes nothing.
-use mathlib.Core.Path.{_≡_, refl, sym, ap, _∙_, subst}
+use mathlib.Core.Path.{_≡_, refl, sym, ap, _∙_}
 use mathlib.Core.Logic.{_⊎_, _↔_, _≢_, inl, inr}
 use mathlib.Core.Bool.{Bool, true, false}
 use mathlib.Core.List.{List, [], _∷_, map}
 use Prim.Native.Nat.{ℕ, zero, suc, _+_, _-_, _≤_, _<_}
 use native.Mathlib.Omega.{arith}
 use borrow.Author.Tests.{eq-eqb, ne-eqb, eqb-true, eqb-false, ltb-true, ltb-false}
-use lib.Dec.{T, ltb, eqb}
+use lib.Dec.{ltb, eqb}
 use lib.ListN.{length, getD, length-map}
 use lib.IntN.{ℤ, pos, negsuc, natAbs}
 use Rattle.definitions.specs.Tools.{Any, if_then_else_, countUp, any, eqZ}
-use Rattle.definitions.specs.Result.{Result, each, done, refused}
+use Rattle.definitions.specs.Result.{each, done, refused}
 use Rattle.definitions.specs.Operations.{_leaves_}
 use Rattle.laws.specs.Lists.{counted-at, length-countUp}
 use Rattle.laws.specs.Decide.{Decides, some}

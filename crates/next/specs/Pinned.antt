@@ -2,7 +2,6 @@
 use mathlib.Core.Path.{_≡_, refl, sym, ap, _∙_, subst}
 use mathlib.Core.List.{List, [], _∷_, _++_}
 use Prim.Native.Nat.{ℕ, _+_, _≤_}
-use native.Mathlib.Omega.{arith}
 use mathlib.Core.Bool.{_&&_}
 use lib.Dec.{eqb}
 use lib.ListN.{length}
@@ -11,10 +10,10 @@ use Rattle.definitions.specs.Result.{Result, _>>=_, done, refused}
 use Rattle.next.specs.Forms.{zeros, GoodText}
 use Rattle.next.specs.Reading.{valueOf, whole, text, reply, Reply, State, word, count, countOn, verdict, number, within, over, fed, Read, endText, endReply, readText, readReply}
 use Rattle.next.specs.Stepping.{fed-on}
-use Rattle.next.specs.Reached.{wide, Which, ofText, ofReply, OfReply, Narrow, Reached, all-kept}
+use Rattle.next.specs.Reached.{wide, ofText, ofReply, Narrow, Reached, all-kept}
 use Rattle.next.specs.GoodTexts.{textStart, only-good-text-is-read, good-text-is-read}
 use Rattle.next.specs.GoodReplies.{replyStart, Answers, only-a-good-reply-is-read, a-good-reply-is-read}
-use Rattle.next.specs.Places.{Begins, Pinned, Reader, pinned}
+use Rattle.next.specs.Places.{Pinned, Reader, pinned}
 use Rattle.next.specs.Lives.{Lives, text-lives, reply-lives}
 use Rattle.next.specs.Details.{Beyond, Here, here-done, here-refused, here-need, why-refused, beyond-refused, Free, text-head, reply-head}
 

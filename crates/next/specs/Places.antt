@@ -1,19 +1,17 @@
 -- Where reading stops: the first byte that begins nothing good, for text and replies alike. Assumes nothing.
 use mathlib.Core.Path.{_≡_, refl, sym, ap, _∙_, subst}
 use mathlib.Core.Logic.{_⊎_, _↔_, inl, inr}
-use mathlib.Core.Bool.{Bool, true, false}
 use mathlib.Core.List.{List, [], _∷_, _++_, append-assoc}
-use Prim.Native.Nat.{ℕ, zero, suc, _+_, _≤_, _<_}
+use Prim.Native.Nat.{ℕ, suc, _+_, _≤_, _<_}
 use native.Mathlib.Nat.{add-zero}
 use native.Mathlib.Omega.{arith}
 use lib.ListN.{length, getD, take, drop, length-append, take-append-drop}
 use lib.Seq.{take-at, take-suc, length-take-le}
-use Rattle.definitions.specs.Result.{Result, _>>=_, _>>_, need, done, refused}
-use Rattle.laws.specs.Readings.{same, never}
+use Rattle.definitions.specs.Result.{Result, _>>=_, _>>_, done, refused}
+use Rattle.laws.specs.Readings.{never}
 use Rattle.laws.specs.Refusals.{refusal-is}
 use Rattle.next.specs.Reading.{State, step, fed}
 use Rattle.next.specs.Stepping.{fed-append, fed-one}
-use Rattle.next.specs.Reached.{made}
 
 -- something good begins with these bytes
 pub record Begins (Good : List ℕ → Type 0) (t : List ℕ) : Type 0 where

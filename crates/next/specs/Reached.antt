@@ -5,7 +5,7 @@ use mathlib.Core.Bool.{Bool, true, false, not, _&&_, _||_}
 use mathlib.Core.List.{List, [], _∷_, _++_, append-assoc, append-nil}
 use Prim.Native.Nat.{ℕ, zero, suc, _+_, _*_, _-_, _/_, _%_, _≤_, _<_}
 use native.Mathlib.Omega.{arith}
-use borrow.Author.Tests.{lt-ltb, ne-eqb, eqb-true, eqb-false, ltb-true, leb-true}
+use borrow.Author.Tests.{ne-eqb, eqb-true, eqb-false, ltb-true, leb-true}
 use lib.Dec.{T, ltb, leb, eqb, leb·suc-zero}
 use lib.ListN.{length, length-append}
 use lib.IntN.{ℤ, pos, negsuc, natAbs}
@@ -17,7 +17,7 @@ use Rattle.laws.specs.Lists.{all-append}
 use Rattle.text.specs.Decimals.{decimal-one, decimal-more}
 use Rattle.next.specs.Forms.{numeral, blank, Spaced, none, gap, number, zeros, Ended, most, firstLine, Values, first, onLine, newLine, GoodReply, noModel}
 use Rattle.next.specs.Reading as reading
-use Rattle.next.specs.Reading.{digit, Number, valueOf, whole, begun, further, longer, grown, Count, variables, clauses, Kind, text, reply, Reply, model, State, word, count, countOn, verdict, within, over, awaits, counted, starts, stops, beyond, step, fed}
+use Rattle.next.specs.Reading.{digit, Number, valueOf, whole, begun, further, longer, grown, Count, variables, clauses, Kind, text, reply, model, State, word, count, countOn, verdict, within, over, awaits, counted, stops, beyond, step, fed}
 use Rattle.next.specs.Stepping.{cases, num, free}
 
 -- ---- what a step that was passed tells

@@ -5,25 +5,25 @@ use mathlib.Core.Bool.{Bool, true, false}
 use mathlib.Core.List.{List, [], _∷_, _++_, map, flatten, append-assoc, append-nil}
 use Prim.Native.Nat.{ℕ, zero, suc, _+_, _≤_}
 use native.Mathlib.Omega.{arith}
-use lib.Dec.{T, leb}
-use lib.ListN.{length, take, drop, replicate, length-replicate}
+use lib.Dec.{T}
+use lib.ListN.{length, drop, replicate, length-replicate}
 use lib.Seq.{take-all, take-at}
 use borrow.Author.Tests.{le-leb}
 use lib.IntN.{ℤ, pos, negsuc, natAbs}
 use Rattle.definitions.specs.Tools.{All, if_then_else_, eqZ}
 use Rattle.definitions.specs.Board.{Board}
-use Rattle.definitions.specs.Result.{Result, done, refused}
+use Rattle.definitions.specs.Result.{done}
 use Rattle.definitions.specs.Encoding.{SatClause, N, M, K, clauses, literalNumber, clauseList}
-use Rattle.definitions.specs.Operations.{accepted, Outcome, _leaves_, sizesOf, Compile}
-use Rattle.definitions.specs.Dimacs.{ascii, digits, decimal, entry, shown, printed}
+use Rattle.definitions.specs.Operations.{accepted, _leaves_, sizesOf, Compile}
+use Rattle.definitions.specs.Dimacs.{digits, entry, shown, printed}
 use Rattle.laws.specs.Reread.{accepted-admitted, accepted-parts}
 use Rattle.laws.specs.Admitted.{Admitted}
 use Rattle.laws.specs.Mentions.{InList, literals-numbered}
 use Rattle.laws.specs.Sizes.{M-is, K-is}
 use Rattle.laws.specs.Fits.{N-fits}
 use Rattle.demands.specs.Flat.{list-numbers}
-use Rattle.next.specs.Forms.{numeral, blank, Spaced, none, gap, number, zeros, Ended, most, firstLine, GoodText}
-use Rattle.next.specs.Reading.{Read, readText}
+use Rattle.next.specs.Forms.{numeral, blank, Spaced, none, gap, number, zeros, Ended, firstLine, GoodText}
+use Rattle.next.specs.Reading.{readText}
 use Rattle.next.specs.Operations.{textOf, WriteText, ReadText}
 use Rattle.next.specs.Reached.{zeros-append, zero-or}
 use Rattle.next.specs.GoodTexts.{good-text-is-read}
