@@ -31,7 +31,7 @@ pub fn put_ended(n: u64, end: u8, out: &mut [u8]) -> usize
     at + 1
 }
 
-fn magnitude(number: i32) -> u64
+pub fn magnitude(number: i32) -> u64
     ensures { λ r. ⌜ r ≡ natAbs number ⌝ }
 {
     if number < 0 {

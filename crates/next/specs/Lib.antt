@@ -1,0 +1,14 @@
+pub mod Forms
+pub mod Reading
+pub mod Operations
+pub mod Examples
+pub mod Stepping
+pub mod Reached
+pub mod GoodTexts
+pub mod GoodReplies
+pub mod Places
+pub mod Lives
+pub mod Details
+pub mod Pinned
+pub mod Written
+pub mod Models
