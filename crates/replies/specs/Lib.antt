@@ -3,3 +3,4 @@ pub mod Said
 pub mod Bytes
 pub mod Texts
 pub mod Replied
+pub mod Lists

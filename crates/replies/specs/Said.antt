@@ -17,6 +17,7 @@ use Rattle.replies.specs.declared.Checked.{Checked}
 use Rattle.replies.specs.declared.Value.{Value}
 use Rattle.replies.specs.declared.Listed.{Listed}
 use Rattle.replies.specs.declared.Heard.{Heard}
+use Rattle.replies.specs.declared.TakenText.{TakenText}
 
 abbrev pub saidWord : List ℕ → Word → Result (ℕ × List ℕ)
 saidWord t (Word.Past next) = done (next, drop next t)
@@ -90,3 +91,8 @@ abbrev pub saidHeard : Heard → Result Summary
 saidHeard Heard.Nothing = done without
 saidHeard (Heard.Literals from count rising) = done (literals count rising)
 saidHeard (Heard.Bad d) = refused 18 d
+
+abbrev pub saidTaken : TakenText → Result Sizes
+saidTaken (TakenText.Sizes n m k) = done (sizes n m k)
+saidTaken (TakenText.Bad d) = refused 18 d
+saidTaken (TakenText.Short k) = refused 10 k

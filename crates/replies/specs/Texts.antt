@@ -37,7 +37,7 @@ module _ {A : Type 0} (end : ℕ → State → Result A) where
     word-parts (c ∷ cs) v s at [] = bad c (cs ++ v) s (at + 0) ∙ ap (refused 18) (add-zero at)
     word-parts (c ∷ cs) v s at (b ∷ t) = from-step (word c (cs ++ v) s) at b t ∙ elim (cases (eqb b c)) [ inl e ↦ rw e (word-parts cs v s (suc at) t) | inr e ↦ rw e ]
 
-list-step : (s : State) (at b : ℕ) (t : List ℕ) → listFrom s at (b ∷ t) ≡ (step s at b >>= λ s′. listFrom s′ (suc at) t)
+pub list-step : (s : State) (at b : ℕ) (t : List ℕ) → listFrom s at (b ∷ t) ≡ (step s at b >>= λ s′. listFrom s′ (suc at) t)
 list-step = from-step endText
 
 -- ---- the numbers, number by number
@@ -45,7 +45,7 @@ module _ (N M : ℕ) (ns : List ℤ) where
   abbrev onNumber : Number × ℕ × List ℕ → Result Read
   onNumber r = listFrom (number (text N M) (ns ++ (valueOf (r .0) ∷ []))) (r .1) (r .2)
 
-  abbrev onFound : Found → Result Read
+  abbrev pub onFound : Found → Result Read
   onFound (ends at) = need 18 at (eqb (zeros ns) M) >> done (record { n = N; m = M; list = ns })
   onFound (holds p next rest) = onNumber (p, next, rest)
 
@@ -97,17 +97,17 @@ module _ (N M : ℕ) (ns : List ℤ) where
       go false = refl
 
   module _ (at : ℕ) (t : List ℕ) {z : ℕ} (e : zeros ns ≡ z) where
-    next-is : {f : Found} → foundFrom N (ltb z M) at t ≡ done f → listFrom (number (text N M) ns) at t ≡ onFound f
+    pub next-is : {f : Found} → foundFrom N (ltb z M) at t ≡ done f → listFrom (number (text N M) ns) at t ≡ onFound f
     next-is h = free-parts at t ∙ rw (e, h)
 
-    next-bad : {n d : ℕ} → foundFrom N (ltb z M) at t ≡ refused n d → listFrom (number (text N M) ns) at t ≡ refused n d
+    pub next-bad : {n d : ℕ} → foundFrom N (ltb z M) at t ≡ refused n d → listFrom (number (text N M) ns) at t ≡ refused n d
     next-bad h = free-parts at t ∙ rw (e, h)
 
-at-most : (b : Bool) (n : ℕ) → (if b then suc n else n) ≤ suc n
+pub at-most : (b : Bool) (n : ℕ) → (if b then suc n else n) ≤ suc n
 at-most true n = omega arith
 at-most false n = omega arith
 
-zeros-snoc : (ns : List ℤ) (minus : Bool) (size : ℕ) → zeros (ns ++ (valueOf (num 0 minus size) ∷ [])) ≡ (if eqb size 0 then suc (zeros ns) else zeros ns)
+pub zeros-snoc : (ns : List ℤ) (minus : Bool) (size : ℕ) → zeros (ns ++ (valueOf (num 0 minus size) ∷ [])) ≡ (if eqb size 0 then suc (zeros ns) else zeros ns)
 zeros-snoc ns minus size = zeros-append ns (valueOf (num 0 minus size) ∷ []) ∙ go minus size
   where
     go : (minus : Bool) (size : ℕ) → zeros ns + zeros ((if minus then neg size else pos size) ∷ []) ≡ (if eqb size 0 then suc (zeros ns) else zeros ns)
@@ -127,11 +127,11 @@ pub record Counts (N M from numbers clauses at : ℕ) (t : List ℕ) : Type 0 wh
   pub goes : listFrom (number (text N M) ns) at (drop at t) ≡ listFrom (started N M) from (drop from t)
 
 module _ (N M from : ℕ) (t : List ℕ) where
-  pub counts-none : from ≤ length t → Counts N M from 0 0 from t
+  unfoldable pub counts-none : from ≤ length t → Counts N M from 0 0 from t
   counts-none h = record { ns = []; long = refl; ended = refl; few = omega arith; short = omega arith; inside = h; goes = refl }
 
   module _ {numbers clauses at : ℕ} (k : Counts N M from numbers clauses at t) where
-    pub counts-more : (start : ℕ) (minus : Bool) (size next after : ℕ) → foundFrom N (ltb clauses M) at (drop at t) ≡ done (holds (num start minus size) next (drop next t)) → at < next → next ≤ length t
+    unfoldable pub counts-more : (start : ℕ) (minus : Bool) (size next after : ℕ) → foundFrom N (ltb clauses M) at (drop at t) ≡ done (holds (num start minus size) next (drop next t)) → at < next → next ≤ length t
         → after ≡ (if eqb size 0 then suc clauses else clauses) → Counts N M from (numbers + 1) after next t
     counts-more start minus size next after f l m e =
         let p = num start minus size in
@@ -277,8 +277,11 @@ module _ (t : List ℕ) where
   text-bad h = sym (ap sized (text-parts t ∙ ap (λ m. m >>= body) h))
 
   module _ {N M next : ℕ} {u : List ℕ} (h : lineAt t ≡ done (N, M, next, u)) where
+    pub text-read : readText t ≡ listFrom (started N M) next u
+    text-read = text-parts t ∙ ap (λ m. m >>= body) h
+
     text-sized : sized (readText t) ≡ sized (listFrom (started N M) next u)
-    text-sized = ap sized (text-parts t ∙ ap (λ m. m >>= body) h)
+    text-sized = ap sized text-read
 
     pub text-is : {z : Sizes} → sized (listFrom (started N M) next u) ≡ done z → done z ≡ sized (readText t)
     text-is e = sym (text-sized ∙ e)

@@ -41,7 +41,7 @@ pub fn next_number(text: &[u8], n: u32, room: bool, from: usize) -> Next
     Next::End(at)
 }
 
-fn clauses_after(clauses: usize, size: u32) -> usize
+pub fn clauses_after(clauses: usize, size: u32) -> usize
     requires { ⌜ clauses < 18446744073709551615 ⌝ }
     ensures { λ r. ⌜ r ≡ (if eqb size 0 then suc clauses else clauses) ⌝ }
 {

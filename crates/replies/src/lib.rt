@@ -5,6 +5,7 @@ pub mod clauses; // clauses.rt: the numbers of a clause list
 pub mod values; // values.rt: the numbers of a reply
 pub mod reply; // reply.rt: a whole reply
 pub mod line; // line.rt: the first line, and the check of a whole text
+pub mod lists; // lists.rt: text read into a lent list
 
 pub enum Word {
     Past(usize),
@@ -80,4 +81,11 @@ pub enum Heard {
         rising: bool,
     },
     Bad(usize),
+}
+
+// Text read into a list: N, M and K; the detail of 18; or, where the list is shorter, the K that is wanted.
+pub enum TakenText {
+    Sizes { n: u32, m: u32, k: usize },
+    Bad(usize),
+    Short(usize),
 }
