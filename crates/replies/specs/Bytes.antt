@@ -5,13 +5,13 @@ use mathlib.Core.List.{List, [], _∷_}
 use Prim.Native.Nat.{ℕ, _+_, _*_, _-_, _≤_, _<_}
 use native.Mathlib.Numerals.{add-one}
 use native.Mathlib.Omega.{arith}
-use lib.Dec.{ltb, leb}
+use lib.Dec.{ltb}
 use lib.ListN.{length, drop, getD, length-drop}
 use lib.Seq.{drop-cons}
-use borrow.Author.Tests.{eq-eqb, ne-eqb, le-leb, lt-leb, leb-true}
+use borrow.Author.Tests.{eq-eqb, ne-eqb, le-leb, lt-leb}
 use Rattle.definitions.specs.Result.{Result, _>>=_, _>>_, done, refused}
 use Rattle.next.specs.Forms.{blank, most}
-use Rattle.next.specs.Reading.{digit, Number, whole, further, begun, grown}
+use Rattle.next.specs.Reading.{digit, Number, whole, begun, grown}
 use Rattle.next.specs.Stepping.{num}
 use Rattle.replies.specs.Parts.{wordAt, countFrom, countAt, numberFrom, numberAt, Found, ends, holds, foundFrom}
 use Rattle.replies.specs.declared.Count.{Count}
@@ -20,13 +20,6 @@ use Rattle.replies.specs.Said.{countIn}
 pub via : {A : Type 0} {x y z : A} → x ≡ y → x ≡ z → y ≡ z
 via p q = sym p ∙ q
 
-pub digit-least : (b : ℕ) → digit b ≡ true → 48 ≤ b
-digit-least b h = leb-true 48 b (go (leb 48 b) h)
-  where
-    go : (a : Bool) → (a && leb b 57) ≡ true → a ≡ true
-    go true h = refl
-    go false h = h
-
 pub first-of : (a b : Bool) → (a && b) ≡ true → a ≡ true
 first-of true b h = refl
 first-of false b h = h
@@ -34,9 +27,6 @@ first-of false b h = h
 pub second-of : (a b : Bool) → (a && b) ≡ true → b ≡ true
 second-of true b h = h
 second-of false b h = absurd (let z : _≡_ {A = ℕ} 0 1 = cc in omega arith)
-
-pub further-digit : (minus : Bool) (size b : ℕ) → further (num 0 minus size) b ≡ true → digit b ≡ true
-further-digit minus size b h = first-of (digit b) _ h
 
 pub nothing-left : (t : List ℕ) (at : ℕ) → length t ≤ at → drop at t ≡ []
 nothing-left t at h = go (drop at t) (omega (arith, length-drop at t))
