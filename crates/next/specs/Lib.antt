@@ -12,3 +12,4 @@ pub mod Details
 pub mod Pinned
 pub mod Written
 pub mod Models
+pub mod Theorems

@@ -17,7 +17,7 @@ pub record Number : Type 0 where
 abbrev pub valueOf : Number → ℤ
 valueOf p = if p .minus then neg (p .size) else pos (p .size)
 
--- it may end here: a minus alone is no number, nor is -0
+-- it may end here: a minus alone is no number
 abbrev pub whole : Number → Bool
 whole p = ltb 0 (p .size) || not (p .minus)
 
@@ -53,15 +53,15 @@ pub data Reply : Type 0 where
   model : List ℤ → Reply
   none : Reply
 
--- what comes next; the list is of the numbers read before
+-- what comes next; a list is of the numbers read before
 pub data State : Type 0 where
-  word : ℕ → List ℕ → State → State
-  count : Count → State
-  countOn : Count → ℕ → State
-  verdict : ℕ → State
-  number : Kind → List ℤ → State
-  within : Kind → List ℤ → Number → State
-  over : Reply → State
+  word : ℕ → List ℕ → State → State  -- these bytes, one or more
+  count : Count → State  -- a count's first digit
+  countOn : Count → ℕ → State  -- a further one, or what stands after the count
+  verdict : ℕ → State  -- `UNSATISFIABLE` or `SATISFIABLE`
+  number : Kind → List ℤ → State  -- a number's first byte
+  within : Kind → List ℤ → Number → State  -- a further one, or what stands after the number
+  over : Reply → State  -- nothing
 
 -- these bytes, and then what follows them
 abbrev pub awaits : List ℕ → State → State

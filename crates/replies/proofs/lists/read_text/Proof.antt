@@ -1,0 +1,92 @@
+-- `replies::lists::read_text` meets its contract.
+use native.Mathlib.Omega.{arith}
+use Rattle.replies.specs.Said.{saidHead, saidCounted}
+use Rattle.replies.specs.Bytes.{told}
+use Rattle.replies.specs.Texts.{text-bad, numbers-bad}
+use Rattle.replies.specs.Lists.{line-small, taken-bad, taken-short, taken-fits, taken-all}
+use borrow.Author.Needs.{needs}
+use Rattle.replies.proofs.lists.read_text.Statement.{statement}
+use Rattle.replies.proofs.lists.read_text.Tie as tie
+
+first-line-requires : tie.Need-first-line-requires
+first-line-requires c κs = search needs
+
+enum-known-n : tie.Need-enum-known-n
+enum-known-n c = search needs
+
+count-numbers-requires : tie.Need-count-numbers-requires
+count-numbers-requires c κs =
+    let first-line = c .before .before .before .first-line in
+    rw (c .before .n .given .1) at (first-line .ensures .1)
+
+enum-known-k : tie.Need-enum-known-k
+enum-known-k c = search needs
+
+returns : tie.Need-returns
+returns c =
+    let args = c .before .before .before .before .before .before .before .before .before .before .args in
+    let first-line = c .before .before .before .before .before .before .before .before .first-line in
+    let n = c .before .before .before .before .before .before .n in
+    let count-numbers = c .before .before .before .before .count-numbers in
+    let k = c .before .before .k in
+    taken-short (args .text .now) (args .list .now) (told (saidHead (args .text .now)) (first-line .ensures .0) (n .given .1)) (told (saidCounted _ _) (count-numbers .ensures) (k .given .1)) (c .if1 .taken)
+
+put-numbers-requires : tie.Need-put-numbers-requires
+put-numbers-requires c κs =
+    let args = c .before .before .before .before .before .before .before .before .before .before .before .args in
+    let first-line = c .before .before .before .before .before .before .before .before .before .first-line in
+    let n = c .before .before .before .before .before .before .before .n in
+    let count-numbers = c .before .before .before .before .before .count-numbers in
+    let k = c .before .before .before .k in
+    let line = told (saidHead (args .text .now)) (first-line .ensures .0) (n .given .1) in
+    (omega (arith, line-small (args .text .now) line), rw (n .given .1) at (first-line .ensures .1), taken-fits (args .text .now) (args .list .now) line (told (saidCounted _ _) (count-numbers .ensures) (k .given .1)) (omega (arith, c .before .if1 .left)))
+
+enum-known-d : tie.Need-enum-known-d
+enum-known-d c = search needs
+
+enum-known-d-2 : tie.Need-enum-known-d-2
+enum-known-d-2 c = search needs
+
+same-length : tie.Need-same-length
+same-length c = search needs
+
+returns-2 : tie.Need-returns-2
+returns-2 c =
+    let args = c .before .before .before .before .before .before .before .before .before .before .before .before .before .args in
+    let first-line = c .before .before .before .before .before .before .before .before .before .before .before .first-line in
+    let n = c .before .before .before .before .before .before .before .before .before .n in
+    let count-numbers = c .before .before .before .before .before .before .before .count-numbers in
+    let k = c .before .before .before .before .before .k in
+    let if1 = c .before .before .before .if1 in
+    taken-all (args .text .now) (args .list .now) (told (saidHead (args .text .now)) (first-line .ensures .0) (n .given .1)) (told (saidCounted _ _) (count-numbers .ensures) (k .given .1)) _ (omega (arith, if1 .left)) (c .before .put-numbers .ensures)
+
+returns-3 : tie.Need-returns-3
+returns-3 c =
+    let args = c .before .before .before .before .before .before .before .before .before .args in
+    let first-line = c .before .before .before .before .before .before .before .first-line in
+    let n = c .before .before .before .before .before .n in
+    let count-numbers = c .before .before .before .count-numbers in
+    taken-bad (args .text .now) (args .list .now) (numbers-bad (args .text .now) (told (saidHead (args .text .now)) (first-line .ensures .0) (n .given .1)) (told (saidCounted _ _) (count-numbers .ensures) (c .before .d .given .1)))
+
+returns-4 : tie.Need-returns-4
+returns-4 c =
+    let args = c .before .before .before .before .before .args in
+    let first-line = c .before .before .before .first-line in
+    taken-bad (args .text .now) (args .list .now) (text-bad (args .text .now) (told (saidHead (args .text .now)) (first-line .ensures .0) (c .before .d2 .given .1)))
+
+pub read-text-spec : {M : Type 1} → statement M
+read-text-spec =
+    tie.close
+    (tie.spec
+    first-line-requires
+    enum-known-n
+    count-numbers-requires
+    enum-known-k
+    returns
+    put-numbers-requires
+    enum-known-d
+    enum-known-d-2
+    same-length
+    returns-2
+    returns-3
+    returns-4)

@@ -1,0 +1,74 @@
+-- `replies::reply::check_reply` meets its contract.
+use mathlib.Core.Path.{_∙_}
+use Rattle.replies.specs.Said.{saidWord}
+use Rattle.replies.specs.Bytes.{told}
+use Rattle.replies.specs.Replied.{reply-wrong, reply-ends, reply-none, reply-model}
+use borrow.Author.Needs.{needs}
+use Rattle.replies.proofs.reply.check_reply.Statement.{statement}
+use Rattle.replies.proofs.reply.check_reply.Tie as tie
+
+slice-aggregate-word-at : tie.Need-slice-aggregate-word-at
+slice-aggregate-word-at c = search needs
+
+word-at-requires : tie.Need-word-at-requires
+word-at-requires c κs = search needs
+
+enum-known-next : tie.Need-enum-known-next
+enum-known-next c = search needs
+
+returns : tie.Need-returns
+returns c =
+    let args = c .before .before .before .before .before .before .before .args in
+    let word-at = c .before .before .before .before .word-at in
+    let next = c .before .before .next in
+    reply-ends (args .n) (args .text .now) (told (saidWord (args .text .now)) (word-at .ensures .0) (next .given .1)) (c .if1 .taken)
+
+shared-slice-read-if2 : tie.Need-shared-slice-read-if2
+shared-slice-read-if2 c = search needs
+
+no-model-requires : tie.Need-no-model-requires
+no-model-requires c κs = search needs
+
+returns-2 : tie.Need-returns-2
+returns-2 c =
+    let args = c .before .before .before .before .before .before .before .before .before .before .args in
+    let word-at = c .before .before .before .before .before .before .before .word-at in
+    let next = c .before .before .before .before .before .next in
+    let if1 = c .before .before .before .if1 in
+    c .no-model .ensures ∙ reply-none (args .n) (args .text .now) (told (saidWord (args .text .now)) (word-at .ensures .0) (next .given .1)) (if1 .left) (c .before .if2 .taken)
+
+a-model-requires : tie.Need-a-model-requires
+a-model-requires c κs = search needs
+
+enum-known-d : tie.Need-enum-known-d
+enum-known-d c = search needs
+
+returns-3 : tie.Need-returns-3
+returns-3 c =
+    let args = c .before .before .before .before .before .before .before .before .before .before .args in
+    let word-at = c .before .before .before .before .before .before .before .word-at in
+    let next = c .before .before .before .before .before .next in
+    let if1 = c .before .before .before .if1 in
+    c .a-model .ensures ∙ reply-model (args .n) (args .text .now) (told (saidWord (args .text .now)) (word-at .ensures .0) (next .given .1)) (if1 .left) (c .before .if2 .left)
+
+returns-4 : tie.Need-returns-4
+returns-4 c =
+    let args = c .before .before .before .before .before .before .args in
+    let word-at = c .before .before .before .word-at in
+    reply-wrong (args .n) (args .text .now) (told (saidWord (args .text .now)) (word-at .ensures .0) (c .before .d .given .1))
+
+pub check-reply-spec : {M : Type 1} → statement M
+check-reply-spec =
+    tie.close
+    (tie.spec
+    slice-aggregate-word-at
+    word-at-requires
+    enum-known-next
+    returns
+    shared-slice-read-if2
+    no-model-requires
+    returns-2
+    a-model-requires
+    enum-known-d
+    returns-3
+    returns-4)

@@ -1,0 +1,79 @@
+// Text read into a lent list.
+ghost use mathlib.Core.Path.{_≡_};
+ghost use Prim.Native.Nat.{_≤_, _<_};
+ghost use lib.ListN.{length};
+ghost use Rattle.definitions.specs.Operations.{_leaves_};
+ghost use Rattle.laws.specs.Written.{written};
+ghost use Rattle.next.specs.Reading.{valueOf};
+ghost use Rattle.next.specs.Stepping.{num};
+ghost use Rattle.next.specs.Operations.{ReadText};
+ghost use Rattle.replies.specs.Lists.{numbersFrom, Fits};
+ghost use Rattle.replies.specs.Said.{saidTaken};
+use super::Counted;
+use super::Head;
+use super::Next;
+use super::TakenText;
+use super::clauses::clauses_after;
+use super::clauses::count_numbers;
+use super::clauses::next_number;
+use super::line::first_line;
+
+fn signed_of(minus: bool, size: u32) -> i32
+    requires { ⌜ size < 2147483648 ⌝ }
+    ensures { λ r. ⌜ r ≡ valueOf (num 0 minus size) ⌝ }
+{
+    if minus {
+        return -(size as i32);
+    }
+    size as i32
+}
+
+// The numbers of text that has been checked, to the start of the list; how many.
+fn put_numbers(text: &[u8], n: u32, m: u32, from: usize, list: &mut [i32]) -> usize
+    requires { ⌜ (n < 2147483648) × (from ≤ length (now text)) × Fits n m from (now text) (now list) ⌝ }
+    ensures { λ r. ⌜ now (list .exit) ≡ written (numbersFrom n m from (now (text .entry))) (now (list .entry)) ⌝ }
+{
+    let mut at = from;
+    let mut numbers: usize = 0;
+    let mut clauses: usize = 0;
+    loop {
+        match next_number(text, n, clauses < m as usize, at) {
+            Next::Number {
+                start: _,
+                minus,
+                size,
+                next,
+            } => {
+                list[numbers] = signed_of(minus, size);
+                numbers += 1;
+                clauses = clauses_after(clauses, size);
+                at = next;
+            }
+            Next::End(_) => {
+                return numbers;
+            }
+            Next::Bad(_) => {
+                return numbers;
+            }
+        }
+    }
+}
+
+// N, M and K, and the list; or the detail of 18, or the K that is wanted.
+pub fn read_text(text: &[u8], list: &mut [i32]) -> TakenText
+    ensures { λ r. ⌜ (saidTaken r leaves now (list .exit)) ≡ ReadText (now (text .entry)) (now (list .entry)) ⌝ }
+{
+    match first_line(text) {
+        Head::Sizes { n, m, next } => match count_numbers(text, n, m, next) {
+            Counted::Numbers(k) => {
+                if list.len() < k {
+                    return TakenText::Short(k);
+                }
+                put_numbers(text, n, m, next, list);
+                TakenText::Sizes { n, m, k }
+            }
+            Counted::Bad(d) => TakenText::Bad(d),
+        },
+        Head::Bad(d) => TakenText::Bad(d),
+    }
+}

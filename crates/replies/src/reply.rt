@@ -1,0 +1,62 @@
+// A whole reply.
+ghost use mathlib.Core.Path.{_≡_};
+ghost use Prim.Native.Nat.{_≤_};
+ghost use lib.ListN.{length, drop};
+ghost use Rattle.next.specs.Reading.{readReply};
+ghost use Rattle.replies.specs.Parts.{summed, noneAt, modelAt};
+ghost use Rattle.replies.specs.Said.{saidHeard};
+use super::Heard;
+use super::Listed;
+use super::Word;
+use super::parts::word_at;
+use super::values::count_values;
+
+fn no_model(text: &[u8], from: usize) -> Heard
+    requires { ⌜ from ≤ length (now text) ⌝ }
+    ensures { λ r. ⌜ saidHeard r ≡ summed (noneAt from (drop from (now (text .entry)))) ⌝ }
+{
+    match word_at(text, b"UNSATISFIABLE\n", from) {
+        Word::Past(next) => {
+            if text.len() <= next {
+                return Heard::Nothing;
+            }
+            Heard::Bad(next)
+        }
+        Word::Bad(d) => Heard::Bad(d),
+    }
+}
+
+fn a_model(text: &[u8], n: u32, from: usize) -> Heard
+    requires { ⌜ from ≤ length (now text) ⌝ }
+    ensures { λ r. ⌜ saidHeard r ≡ summed (modelAt n from (drop from (now (text .entry)))) ⌝ }
+{
+    match word_at(text, b"SATISFIABLE\n", from) {
+        Word::Past(next) => match count_values(text, n, next) {
+            Listed::Literals { count, rising } => Heard::Literals {
+                from: next,
+                count,
+                rising,
+            },
+            Listed::Bad(d) => Heard::Bad(d),
+        },
+        Word::Bad(d) => Heard::Bad(d),
+    }
+}
+
+// 'None', or the count of literals and whether they are in order, or the detail of 18.
+pub fn check_reply(text: &[u8], n: u32) -> Heard
+    ensures { λ r. ⌜ saidHeard r ≡ summed (readReply n (now (text .entry))) ⌝ }
+{
+    match word_at(text, b"s ", 0) {
+        Word::Past(next) => {
+            if text.len() <= next {
+                return Heard::Bad(next);
+            }
+            if text[next] == 85 {
+                return no_model(text, next);
+            }
+            a_model(text, n, next)
+        }
+        Word::Bad(d) => Heard::Bad(d),
+    }
+}
