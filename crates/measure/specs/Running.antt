@@ -9,7 +9,7 @@ use Rattle.definitions.specs.Tools.{sum}
 use Rattle.definitions.specs.Board.{Board, Bounds, Comparison, Clause, boundsOf}
 use Rattle.definitions.specs.Encoding.{selector, minus, comparisons, selected, rulesFrom, rules, places}
 use Rattle.laws.specs.Lists.{sum-append}
-use Rattle.laws.specs.Pieces.{Piece, under, line-length, lone, opening, compared, used, piecesFrom, left, rules-places}
+use Rattle.laws.specs.Pieces.{Piece, under, line-length, lone, opening, compared, used, piecesFrom, remaining, rules-places}
 use Rattle.laws.specs.Sizes.{piecePlaces, piece-places}
 use Rattle.measure.specs.declared.Share.{Share}
 use Rattle.measure.specs.Shares.{Adding}
@@ -66,9 +66,9 @@ module _ (of : ℕ → Bounds) where
 
 -- behind the first k record clauses the total is their places
 pub running-total : (B : Board) (k : ℕ) (led : Bool) (j : ℕ) (total : Share)
-    → Adding (boundsOf B) (piecesFrom 0 (B .clauses)) (left led j [] (drop k (B .clauses))) total
+    → Adding (boundsOf B) (piecesFrom 0 (B .clauses)) (remaining led j [] (drop k (B .clauses))) total
     → total .places ≡ sum (take k (map places (rules B)))
-unfolding rules left comparisons compared
+unfolding rules remaining comparisons compared
 running-total B k led j total a =
     let of = boundsOf B in
     let n = j + used led 0 in

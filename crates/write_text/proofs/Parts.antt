@@ -27,7 +27,7 @@ use Rattle.walk.specs.declared.Comparison.{Comparison}
 use Rattle.walk.specs.declared.Walk.{Walk}
 use Rattle.walk.specs.declared.At.{At}
 use Rattle.walk.specs.declared.At.the-variants.{Tuple, End}
-use Rattle.walk.specs.Walks.{places, seen, left, Over}
+use Rattle.walk.specs.Walks.{placesOf, seen, tuplesLeft, Over}
 use Rattle.walk.specs.Comparisons.{Walking, literalsAt, present, toCome, none-left}
 use Rattle.writing.specs.Signs.{plus-is, minus-is}
 use Rattle.writing.specs.Axioms.{stepsFrom, axiomNumbers, steps-more}
@@ -84,11 +84,11 @@ steps-text i n l h =
 abbrev pub After : Comparison → Walk → At → Type 0
 After c w r = Walking c r × (toCome c (Tuple w) ≡ present c w ∷ toCome c r)
 
-pub after : (c : Comparison) (w : Walk) → Walking c (Tuple w) → (r : At) → Over (places w) r × (left (Tuple w) ≡ seen w ∷ left r) → After c w r
+pub after : (c : Comparison) (w : Walk) → Walking c (Tuple w) → (r : At) → Over (placesOf w) r × (tuplesLeft (Tuple w) ≡ seen w ∷ tuplesLeft r) → After c w r
 unfolding Walking Over toCome present
 after c w o r n = (onward r (n .0), ap (map (literalsAt c)) (n .1))
   where
-    onward : (r : At) → Over (places w) r → Walking c r
+    onward : (r : At) → Over (placesOf w) r → Walking c r
     onward (Tuple v) k = (k .0, k .1 ∙ o .1)
     onward End k = tt
 

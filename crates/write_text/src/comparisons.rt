@@ -8,10 +8,10 @@ use crate::entries::add_entry;
 use walk::At;
 use walk::Comparison;
 use walk::Walk;
-use walk::tuples::first;
+use walk::tuples::first_tuple;
 use walk::tuples::least;
-use walk::tuples::literal_at;
 use walk::tuples::next;
+use walk::tuples::tuple_literal;
 
 // The literal that leads each clause, if there is one.
 fn add_lead(lead: i32, at: usize, out: &mut [u8]) -> usize
@@ -32,7 +32,7 @@ fn add_literals(c: Comparison, w: Walk, at: usize, out: &mut [u8]) -> usize
     let mut i: usize = 0;
     let mut place = at;
     while i < c.n {
-        place = add_entry(literal_at(c, w, i), place, out);
+        place = add_entry(tuple_literal(c, w, i), place, out);
         i += 1;
     }
     add_entry(0, place, out)
@@ -53,7 +53,7 @@ fn add_tuples(c: Comparison, lead: i32, at: usize, out: &mut [u8]) -> usize
     ensures { λ r. ⌜ Adds (entries (led lead (literalsOf c))) at (now (out .entry)) r (now (out .exit)) ⌝ }
 {
     let mut place = at;
-    let mut tuple = first(c);
+    let mut tuple = first_tuple(c);
     loop {
         let At::Tuple(w) = tuple else {
             break;

@@ -82,7 +82,7 @@ pub fn write_text(bytes: &[u8], out: &mut [u8]) -> Texted
     ensures { λ r. ⌜ Allowed (now (bytes .entry)) (now (out .entry)) r (now (out .exit)) ⌝ }
 {
     match measure(bytes) {
-        Measured::Board(header, totals) => {
+        Measured::Accepted(header, totals) => {
             let length = text_length(bytes, header, totals);
             if out.len() < length {
                 Texted::Refused(Refusal::ListTooShort { wanted: length })

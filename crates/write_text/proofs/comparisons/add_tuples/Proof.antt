@@ -45,12 +45,12 @@ module _ (h : tie.After-next Inv-loop μ-loop) where
   text-next : entries (led lead (toCome (s .args .c) (h .before .before .before .before .loop .tuple))) ≡ entries (clause (leadOf lead ++ present (s .args .c) here)) ++ entries (led lead (toCome (s .args .c) (h .next .result)))
   text-next = text-on (s .args .c) lead (h .before .before .before .before .loop .tuple) here (h .before .before .tuple .given .1) (h .next .result) onward
 
-first-requires : tie.Need-first-requires Inv-loop μ-loop
-first-requires c κs = c .before .pre .0
+first-tuple-requires : tie.Need-first-tuple-requires Inv-loop μ-loop
+first-tuple-requires c κs = c .before .pre .0
 
 loop-holds : tie.Need-loop-holds Inv-loop μ-loop
 loop-holds c =
-    (begin _ _ (ap (λ ls. entries (led (toZ w32 (ofZ w32 (c .before .before .args .lead))) ls)) (c .first .ensures .1)), c .first .ensures .0)
+    (begin _ _ (ap (λ ls. entries (led (toZ w32 (ofZ w32 (c .before .before .args .lead))) ls)) (c .first-tuple .ensures .1)), c .first-tuple .ensures .0)
 
 enum-known-tuple : tie.Need-enum-known-tuple Inv-loop μ-loop
 enum-known-tuple c = search needs
@@ -87,7 +87,7 @@ add-tuples-spec =
     (tie.spec
     Inv-loop
     μ-loop
-    first-requires
+    first-tuple-requires
     loop-holds
     enum-known-tuple
     enum-told
