@@ -1,3 +1,0 @@
-pub mod Adds
-pub mod Lengths
-pub mod Outcome
