@@ -13,7 +13,8 @@ use Rattle.definitions.specs.Tools.{Any, if_then_else_, countUp, any, eqZ}
 use Rattle.definitions.specs.Result.{each, done, refused}
 use Rattle.definitions.specs.Operations.{_leaves_}
 use Rattle.laws.specs.Lists.{counted-at, length-countUp}
-use Rattle.laws.specs.Decide.{Decides, some}
+use Rattle.laws.specs.Decide.{Decides}
+use Rattle.laws.specs.Some.{some}
 use Rattle.laws.specs.Reads.{equalsZ}
 use Rattle.demands.specs.Flat.{TrueIn}
 use Rattle.next.specs.Forms.{GoodReply, noModel}

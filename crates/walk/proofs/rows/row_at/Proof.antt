@@ -5,6 +5,7 @@ use mathlib.Core.List.{_∷_, []}
 use Prim.Native.Nat.{_-_, _≤_}
 use native.Mathlib.Omega.{arith}
 use lib.Seq.{take-all}
+use Rattle.laws.specs.Limits.{numbersLimit}
 use Rattle.walk.specs.Comparisons.{present, present-length, walking-fine}
 use Rattle.walk.specs.Rows.{Placed, rowLength, inRun, rowFrom}
 use Rattle.walk.proofs.Runs.{slotAt, placed-b, placed-c, row-single, row-literals, spot-ready}
@@ -40,7 +41,7 @@ module _ (c : tie.Else1) where
   last : Placed (slotAt (s .args .c) (s .args .c .n - 1)) (s .args .w .c)
   last = placed-c (s .args .c) (s .pre .0) two (s .args .w) (s .pre .1)
 
-  few : rowLength (s .args .w) ≤ 20000000
+  few : rowLength (s .args .w) ≤ numbersLimit
   few = let d = walking-fine (s .args .c) (s .args .w) (s .pre .1) in omega (arith, d .1 .0 .narrow)
 
 mul-spot-at : tie.Need-mul-spot-at
