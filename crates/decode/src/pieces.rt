@@ -13,6 +13,7 @@ use walk::Slot;
 use walk::tuples::first_tuple;
 use walk::tuples::least;
 ghost use mathlib.Core.Path.{_≡_};
+ghost use lib.ListN.{length};
 ghost use lib.IntN.{pos};
 ghost use lib.Signed.{_≤ℤ_};
 ghost use Rattle.laws.specs.Boards.{Opens, boardOf};
