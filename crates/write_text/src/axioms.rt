@@ -2,6 +2,7 @@
 ghost use Prim.Native.Nat.{_+_, _<_};
 ghost use mathlib.Core.Path.{_≡_};
 ghost use lib.ListN.{length};
+ghost use Rattle.laws.specs.Limits.{numbersLimit};
 ghost use Rattle.laws.specs.Boards.{Opens, boardOf};
 ghost use Rattle.text.specs.Entries.{entries};
 ghost use Rattle.writing.specs.Axioms.{stepsFrom, axiomNumbers};
@@ -13,7 +14,7 @@ use slots::variables::width_of;
 
 // From each order variable to the next: if x is at most c - 1, it is at most c.
 fn add_steps(first: u32, steps: u32, at: usize, out: &mut [u8]) -> usize
-    requires { ⌜ (first + steps < 20000000) × Counts at (entries (stepsFrom first steps)) ⌝ }
+    requires { ⌜ (first + steps < numbersLimit) × Counts at (entries (stepsFrom first steps)) ⌝ }
     ensures { λ r. ⌜ Adds (entries (stepsFrom first steps)) at (now (out .entry)) r (now (out .exit)) ⌝ }
 {
     let mut number = first;
@@ -30,7 +31,7 @@ fn add_steps(first: u32, steps: u32, at: usize, out: &mut [u8]) -> usize
 
 // Not p(x, lower - 1); p(x, upper); then the steps between.
 fn add_axioms(first: u32, width: u32, at: usize, out: &mut [u8]) -> usize
-    requires { ⌜ (0 < width) × (first + width < 20000000) × Counts at (entries (axiomNumbers first width)) ⌝ }
+    requires { ⌜ (0 < width) × (first + width < numbersLimit) × Counts at (entries (axiomNumbers first width)) ⌝ }
     ensures { λ r. ⌜ Adds (entries (axiomNumbers first width)) at (now (out .entry)) r (now (out .exit)) ⌝ }
 {
     let steps = width - 1;

@@ -1,12 +1,14 @@
-// A comparison's clauses, each led by the same literal: a negated selector's number, or none (0).
+// A comparison's clauses, each led by the same literal, a negated selector, or by none.
 ghost use mathlib.Core.List.{_++_};
 ghost use Rattle.text.specs.Entries.{entries};
 ghost use Rattle.walk.specs.Comparisons.{FairComparison, Walking, literalsOf, present};
-ghost use Rattle.writing.specs.Numbers.{clause, leadOf, led, underLead};
+ghost use Rattle.walk.specs.Rows.{frontOf};
+ghost use Rattle.writing.specs.Numbers.{clause, led, underLead};
 ghost use Rattle.write_text.specs.Adds.{Adds, Counts};
 use crate::entries::add_entry;
 use walk::At;
 use walk::Comparison;
+use walk::Front;
 use walk::Walk;
 use walk::tuples::first_tuple;
 use walk::tuples::least;
@@ -14,14 +16,14 @@ use walk::tuples::next;
 use walk::tuples::tuple_literal;
 
 // The literal that leads each clause, if there is one.
-fn add_lead(lead: i32, at: usize, out: &mut [u8]) -> usize
-    requires { ⌜ Counts at (entries (leadOf lead)) ⌝ }
-    ensures { λ r. ⌜ Adds (entries (leadOf lead)) at (now (out .entry)) r (now (out .exit)) ⌝ }
+fn add_lead(lead: Front, at: usize, out: &mut [u8]) -> usize
+    requires { ⌜ Counts at (entries (frontOf lead)) ⌝ }
+    ensures { λ r. ⌜ Adds (entries (frontOf lead)) at (now (out .entry)) r (now (out .exit)) ⌝ }
 {
-    if lead < 0 {
-        return add_entry(lead, at, out);
-    }
-    at
+    let Front::Literal(literal) = lead else {
+        return at;
+    };
+    add_entry(literal, at, out)
 }
 
 // The present tuple's literals and 0.
@@ -39,16 +41,16 @@ fn add_literals(c: Comparison, w: Walk, at: usize, out: &mut [u8]) -> usize
 }
 
 // The clause of the present tuple.
-fn add_tuple(c: Comparison, lead: i32, w: Walk, at: usize, out: &mut [u8]) -> usize
-    requires { ⌜ FairComparison c × Walking c (At.Tuple w) × Counts at (entries (clause (leadOf lead ++ present c w))) ⌝ }
-    ensures { λ r. ⌜ Adds (entries (clause (leadOf lead ++ present c w))) at (now (out .entry)) r (now (out .exit)) ⌝ }
+fn add_tuple(c: Comparison, lead: Front, w: Walk, at: usize, out: &mut [u8]) -> usize
+    requires { ⌜ FairComparison c × Walking c (At.Tuple w) × Counts at (entries (clause (frontOf lead ++ present c w))) ⌝ }
+    ensures { λ r. ⌜ Adds (entries (clause (frontOf lead ++ present c w))) at (now (out .entry)) r (now (out .exit)) ⌝ }
 {
     let place = add_lead(lead, at, out);
     add_literals(c, w, place, out)
 }
 
 // A clause for each tuple.
-fn add_tuples(c: Comparison, lead: i32, at: usize, out: &mut [u8]) -> usize
+fn add_tuples(c: Comparison, lead: Front, at: usize, out: &mut [u8]) -> usize
     requires { ⌜ FairComparison c × Counts at (entries (led lead (literalsOf c))) ⌝ }
     ensures { λ r. ⌜ Adds (entries (led lead (literalsOf c))) at (now (out .entry)) r (now (out .exit)) ⌝ }
 {
@@ -66,7 +68,7 @@ fn add_tuples(c: Comparison, lead: i32, at: usize, out: &mut [u8]) -> usize
 }
 
 // Where the constant is below the least sum, the lead alone is the one clause.
-pub fn add_comparison(c: Comparison, lead: i32, at: usize, out: &mut [u8]) -> usize
+pub fn add_comparison(c: Comparison, lead: Front, at: usize, out: &mut [u8]) -> usize
     requires { ⌜ FairComparison c × Counts at (entries (underLead lead c)) ⌝ }
     ensures { λ r. ⌜ Adds (entries (underLead lead c)) at (now (out .entry)) r (now (out .exit)) ⌝ }
 {

@@ -4,7 +4,7 @@ ghost use lib.ListN.{length, take};
 ghost use Rattle.definitions.specs.Dimacs.{ascii};
 ghost use Rattle.text.specs.Lines.{line};
 ghost use Rattle.write_text.specs.Adds.{Adds, Counts};
-use text::lines::put_line;
+use text::lines::put_text_line;
 use text::lines::put_word;
 
 // A word of six bytes, and two numbers of at most 20 digits, each with its end.
@@ -27,6 +27,6 @@ pub fn add_first_line(n: u64, m: u64, at: usize, out: &mut [u8]) -> usize
     ensures { λ r. ⌜ Adds (line (ascii "p cnf ") n m) at (now (out .entry)) r (now (out .exit)) ⌝ }
 {
     let mut bytes = [0u8; LONGEST];
-    let k = put_line(b"p cnf ", n, m, &mut bytes);
+    let k = put_text_line(b"p cnf ", n, m, &mut bytes);
     add_bytes(&bytes, k, at, out)
 }

@@ -19,7 +19,6 @@ use measure::Measured;
 use measure::Totals;
 use measure::measure;
 use opening::Header;
-use opening::context_of;
 use slots::FIRSTS;
 use slots::variables::first_in;
 use slots::variables::put_firsts;
@@ -41,14 +40,12 @@ fn add_rules(bytes: &[u8], header: Header, at: usize, out: &mut [u8]) -> usize
     requires { ⌜ Opened (now bytes) header × Counts at (entries (piecesNumbers (boardOf (now bytes)) (piecesFrom 0 (boardOf (now bytes) .clauses)))) ⌝ }
     ensures { λ r. ⌜ Adds (entries (piecesNumbers (boardOf (now (bytes .entry))) (piecesFrom 0 (boardOf (now (bytes .entry)) .clauses)))) at (now (out .entry)) r (now (out .exit)) ⌝ }
 {
-    let known = context_of(header);
     let tail = header.rules;
     let mut firsts = [0u32; FIRSTS];
     put_firsts(bytes, header.bools, header.ints, &mut firsts);
     let selectors = first_in(&firsts, header.ints);
     add_pieces(
         bytes,
-        known,
         &firsts,
         &bytes[tail..],
         header.clauses,

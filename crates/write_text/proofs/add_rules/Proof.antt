@@ -9,17 +9,12 @@ use borrow.Author.Needs.{needs}
 use Rattle.write_text.proofs.add_rules.Statement.{statement}
 use Rattle.write_text.proofs.add_rules.Tie as tie
 
-context-of-requires : tie.Need-context-of-requires
-context-of-requires c κs =
-    let s = c .before .before in
-    counts-small (s .pre .0)
-
 slice-aggregate-put-firsts : tie.Need-slice-aggregate-put-firsts
 slice-aggregate-put-firsts c = search needs
 
 put-firsts-requires : tie.Need-put-firsts-requires
 put-firsts-requires c κs =
-    let s = c .before .before .before .before in
+    let s = c .before .before .before in
     let o = s .pre .0 in
     (o .opens, bools-is o, ints-is o, omega (arith, counts-small o))
 
@@ -34,12 +29,12 @@ slice-aggregate-add-pieces c = search needs
 
 sub-add-pieces : tie.Need-sub-add-pieces
 sub-add-pieces c =
-    let s = c .before .before .before .before .before .before .before .before .before in
+    let s = c .before .before .before .before .before .before .before .before in
     rules-inside (s .pre .0)
 
 part-add-pieces-start : tie.Need-part-add-pieces-start
 part-add-pieces-start c =
-    let s = c .before .before .before .before .before .before .before .before .before in
+    let s = c .before .before .before .before .before .before .before .before in
     omega (arith, rules-inside (s .pre .0))
 
 part-add-pieces-end : tie.Need-part-add-pieces-end
@@ -47,10 +42,10 @@ part-add-pieces-end c = search needs
 
 add-pieces-requires : tie.Need-add-pieces-requires
 add-pieces-requires c κs =
-    let s = c .before .before .before .before .before .before .before .before .before .before .before in
+    let s = c .before .before .before .before .before .before .before .before .before .before in
     let o = s .pre .0 in
     let f = c .before .before .before .before .before .before .put-firsts .ensures in
-    (known o (c .before .before .before .before .before .before .before .before .context-of .ensures), f, clauses-is o, c .before .before .before .first-in .ensures ∙ f (s .args .header .ints) (omega (arith, ints-is o)) ∙ ap (first (boardOf (s .args .bytes .now))) (ints-is o), s .pre .1)
+    (known o, f, clauses-is o, c .before .before .before .first-in .ensures ∙ f (s .args .header .ints) (omega (arith, ints-is o)) ∙ ap (first (boardOf (s .args .bytes .now))) (ints-is o), s .pre .1)
 
 same-length : tie.Need-same-length
 same-length c = c .before .before .add-pieces .ensures .long
@@ -62,7 +57,6 @@ pub add-rules-spec : {M : Type 1} → statement M
 add-rules-spec =
     tie.close
     (tie.spec
-    context-of-requires
     slice-aggregate-put-firsts
     put-firsts-requires
     slice-aggregate-first-in

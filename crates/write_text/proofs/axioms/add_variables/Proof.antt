@@ -6,6 +6,7 @@ use Prim.Native.Nat.{_+_, _-_, _≤_, _<_}
 use native.Mathlib.Omega.{arith}
 use lib.ListN.{length}
 use Rattle.definitions.specs.Board.{Board}
+use Rattle.laws.specs.Limits.{numbersLimit}
 use Rattle.definitions.specs.Encoding as encoding
 use Rattle.laws.specs.Fits.{first-most, width-most, width-least}
 use Rattle.laws.specs.Boards.{boardOf, opens-admitted}
@@ -37,7 +38,7 @@ module _ (h : tie.After-width-of Inv-loop μ-loop) where
   inside : h .before .before .before .loop .x < length (B .bounds)
   inside = omega (arith, h .before .before .loop-test .taken, s .pre .1)
 
-  first-small : h .before .before .before .loop .first + h .width-of .result < 20000000
+  first-small : h .before .before .before .loop .first + h .width-of .result < numbersLimit
   first-small = omega (arith, h .width-of .ensures, width-most _ (h .before .bounds-of .ensures .good), h .before .before .before .loop .inv .1, first-most B (opens-admitted _ (s .pre .0)) (h .before .before .before .loop .x))
 
   text-next : let l = h .before .before .before .loop in

@@ -7,27 +7,27 @@ use lib.IntN.{pos}
 use lib.Signed.{_<ℤ_, _≤ℤ_}
 use mir.Syntax.{w32}
 use mir.Val.{SFits}
-use mir.Facts.{toZ-ofZ}
 use Rattle.definitions.specs.Dimacs.{entry}
 use Rattle.laws.specs.Whole.{whole, back, abs-fits}
 use Rattle.text.specs.Entries.{entries}
 use Rattle.walk.specs.Comparisons.{leastOf, literalsOf}
-use Rattle.writing.specs.Numbers.{leadOf, led, underLead, under-low, under-high}
+use Rattle.walk.specs.Rows.{frontOf}
+use Rattle.writing.specs.Numbers.{led, underLead, under-low, under-high}
 use Rattle.write_text.specs.Adds.{Counts, retold, _then_, first-counts, then-counts}
 use borrow.Author.Needs.{needs}
-use Rattle.write_text.proofs.Parts.{clause-text}
+use Rattle.write_text.proofs.Parts.{alone-text}
 use Rattle.write_text.proofs.comparisons.add_comparison.Statement.{statement}
 use Rattle.write_text.proofs.comparisons.add_comparison.Tie as tie
 
 -- where the constant is below the least sum, and where it is not
-below : (h : tie.Then1) → let a = h .before .before .before .before .before .args in entries (underLead (a .lead) (a .c)) ≡ entries (leadOf (a .lead)) ++ entry (pos 0)
+below : (h : tie.Then1) → let a = h .before .before .before .before .before .args in entries (underLead (a .lead) (a .c)) ≡ entries (frontOf (a .lead)) ++ entry (pos 0)
 below h =
     let s = h .before .before .before .before .before in
     let k : SFits w32 (s .args .c .constant) = abs-fits (omega (arith, s .pre .0 .near)) in
     let l = h .before .before .before .least in
     let f : SFits w32 (l .result) = record { sfits = l .ok } in
     let low : s .args .c .constant <ℤ leastOf (s .args .c) = omega (whole, back k, back f, l .ensures) in
-    ap entries (under-low (s .args .lead) (s .args .c) low) ∙ clause-text (leadOf (s .args .lead))
+    ap entries (under-low (s .args .lead) (s .args .c) low) ∙ alone-text (s .args .lead)
 
 within : (h : tie.Else1) → let a = h .before .before .before .before .before .args in entries (underLead (a .lead) (a .c)) ≡ entries (led (a .lead) (literalsOf (a .c)))
 within h =
@@ -45,15 +45,13 @@ add-lead-requires : tie.Need-add-lead-requires
 add-lead-requires c κs =
     let s = c .before .before .before .before .before .before in
     let a = s .args in
-    let f = s .fits .lead in
-    simp toZ-ofZ (first-counts (a .at) (s .pre .1) (entries (leadOf (a .lead))) (entry (pos 0)) (below (c .before)))
+    first-counts (a .at) (s .pre .1) (entries (frontOf (a .lead))) (entry (pos 0)) (below (c .before))
 
 add-entry-requires : tie.Need-add-entry-requires
 add-entry-requires c κs =
     let s = c .before .before .before .before .before .before .before .before .before .before in
     let a = s .args in
-    let f = s .fits .lead in
-    then-counts (a .at) (s .pre .1) (entries (leadOf (a .lead))) (entry (pos 0)) (below (c .before .before .before .before .before)) (simp toZ-ofZ at (c .before .before .before .add-lead .ensures))
+    then-counts (a .at) (s .pre .1) (entries (frontOf (a .lead))) (entry (pos 0)) (below (c .before .before .before .before .before)) (c .before .before .before .add-lead .ensures)
 
 same-length : tie.Need-same-length
 same-length c =
@@ -62,15 +60,13 @@ same-length c =
 returns : tie.Need-returns
 returns c =
     let s = c .before .before .before .before .before .before .before .before .before .before .before .before .before in
-    let f = s .fits .lead in
-    retold (sym (below (c .before .before .before .before .before .before .before .before))) ((simp toZ-ofZ at (c .before .before .before .before .before .before .add-lead .ensures)) then (c .before .before .add-entry .ensures))
+    retold (sym (below (c .before .before .before .before .before .before .before .before))) ((c .before .before .before .before .before .before .add-lead .ensures) then (c .before .before .add-entry .ensures))
 
 add-tuples-requires : tie.Need-add-tuples-requires
 add-tuples-requires c κs =
     let s = c .before .before .before .before .before .before in
-    let f = s .fits .lead in
     let p : Counts (s .args .at) (entries (led (s .args .lead) (literalsOf (s .args .c)))) = omega (arith, s .pre .1, ap length (within (c .before))) in
-    simp toZ-ofZ (s .pre .0, p)
+    (s .pre .0, p)
 
 same-length-2 : tie.Need-same-length-2
 same-length-2 c = c .before .before .add-tuples .ensures .long
@@ -78,8 +74,7 @@ same-length-2 c = c .before .before .add-tuples .ensures .long
 returns-2 : tie.Need-returns-2
 returns-2 c =
     let s = c .before .before .before .before .before .before .before .before .before in
-    let f = s .fits .lead in
-    retold (sym (within (c .before .before .before .before))) (simp toZ-ofZ at (c .before .before .add-tuples .ensures))
+    retold (sym (within (c .before .before .before .before))) (c .before .before .add-tuples .ensures)
 
 pub add-comparison-spec : {M : Type 1} → statement M
 add-comparison-spec =

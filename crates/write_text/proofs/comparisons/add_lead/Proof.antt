@@ -1,46 +1,43 @@
 -- `write_text::comparisons::add_lead` meets its contract.
-use mathlib.Core.Path.{_≡_, sym, ap, _∙_}
+use borrow.Author.Needs.{needs}
+use mathlib.Core.Path.{sym, ap, _∙_, subst}
 use native.Mathlib.Omega.{arith}
 use lib.ListN.{length}
-use lib.IntN.{pos}
-use lib.Signed.{_<ℤ_, _≤ℤ_}
 use mir.Facts.{toZ-ofZ}
 use Rattle.definitions.specs.Dimacs.{entry}
-use Rattle.laws.specs.Whole.{whole, back}
 use Rattle.text.specs.Entries.{entries}
-use Rattle.writing.specs.Numbers.{leadOf, lead-some, lead-none}
-use Rattle.write_text.specs.Adds.{nothing, retold}
+use Rattle.walk.specs.Rows.{frontOf}
+use Rattle.write_text.specs.Adds.{Counts, nothing, retold}
 use Rattle.write_text.proofs.Parts.{entries-one, entries-empty}
 use Rattle.write_text.proofs.comparisons.add_lead.Statement.{statement}
 use Rattle.write_text.proofs.comparisons.add_lead.Tie as tie
 
+enum-known-lead : tie.Need-enum-known-lead
+enum-known-lead c = search needs
+
+enum-told : tie.Need-enum-told
+enum-told c = search needs
+
+returns : tie.Need-returns
+returns c =
+    let a = c .before .before .before .args in
+    rw (c .enum-told .given .1) (retold (sym entries-empty) (nothing (a .at) (a .out .now)))
+
 add-entry-requires : tie.Need-add-entry-requires
 add-entry-requires c κs =
-    let s = c .before .before .before in
-    let z = s .args .lead in
-    let f = s .fits .lead in
-    let n : z <ℤ pos 0 = omega (whole, back f) in
-    let e : entry z ≡ entries (leadOf z) = entries-one z ∙ ap entries (sym (lead-some z n)) in
-    simp toZ-ofZ (omega (arith, ap length e, s .pre))
+    let p = c .before .before in
+    let s = p .before .before .before in
+    let l = p .lead .given .0 .0 in
+    let h = subst (λ f. Counts (s .args .at) (entries (frontOf f))) (p .lead .given .1) (s .pre) in
+    rw (toZ-ofZ (record { sfits = c .before .known-told .given .0 .1 })) (omega (arith, ap length (entries-one l), h))
 
 same-length : tie.Need-same-length
 same-length c = c .before .before .add-entry .ensures .long
 
-returns : tie.Need-returns
-returns c =
-    let s = c .before .before .before .before .before .before in
-    let z = s .args .lead in
-    let f = s .fits .lead in
-    let n : z <ℤ pos 0 = omega (whole, back f) in
-    let e : entry z ≡ entries (leadOf z) = entries-one z ∙ ap entries (sym (lead-some z n)) in
-    retold e (simp toZ-ofZ at (c .before .before .add-entry .ensures))
-
 returns-2 : tie.Need-returns-2
 returns-2 c =
-    let s = c .before .before in
-    let z = s .args .lead in
-    let n : pos 0 ≤ℤ z = omega (whole, back (s .fits .lead)) in
-    retold (sym (ap entries (lead-none z n) ∙ entries-empty)) (nothing (s .args .at) (s .args .out .now))
+    let p = c .before .before .before .before .before in
+    rw (p .lead .given .1) (retold (ap entry (toZ-ofZ (record { sfits = c .before .before .before .before .known-told .given .0 .1 })) ∙ entries-one (p .lead .given .0 .0)) (c .before .before .add-entry .ensures))
 
 pub add-lead-spec : {M : Type 1} → statement M
-add-lead-spec = tie.close (tie.spec add-entry-requires same-length returns returns-2)
+add-lead-spec = tie.close (tie.spec enum-known-lead enum-told returns add-entry-requires same-length returns-2)

@@ -26,17 +26,17 @@ abbrev μ-loop : tie.MeasureT-loop
 μ-loop c w at out₀ i₀ place₀ out i place = c .n - i
 
 -- the literal at i comes next
-next-is : (h : tie.After-literal-at Inv-loop μ-loop) → let i = h .before .before .before .loop .i in let a = h .before .before .before .before .before .args in let ls = present (a .c) (a .w) in
-    entries (drop i ls) ++ entry (pos 0) ≡ entry (toZ w32 (ofZ w32 (h .literal-at .result))) ++ (entries (drop (i + 1) ls) ++ entry (pos 0))
+next-is : (h : tie.After-tuple-literal Inv-loop μ-loop) → let i = h .before .before .before .loop .i in let a = h .before .before .before .before .before .args in let ls = present (a .c) (a .w) in
+    entries (drop i ls) ++ entry (pos 0) ≡ entry (toZ w32 (ofZ w32 (h .tuple-literal .result))) ++ (entries (drop (i + 1) ls) ++ entry (pos 0))
 next-is h =
     let s = h .before .before .before .before .before in
     let i = h .before .before .before .loop .i in
     let ls = present (s .args .c) (s .args .w) in
-    let f : SFits w32 (h .literal-at .result) = record { sfits = h .literal-at .ok } in
+    let f : SFits w32 (h .tuple-literal .result) = record { sfits = h .tuple-literal .ok } in
     ap (λ t. t ++ entry (pos 0))
     (entries-more ls i (pos 0) (omega (arith, present-length (s .args .c) (s .args .w) (s .pre .0), h .before .if1 .taken))
-    ∙ ap (λ z. entry z ++ entries (drop (i + 1) ls)) (sym (toZ-ofZ f ∙ h .literal-at .ensures)))
-    ∙ append-assoc (entry (toZ w32 (ofZ w32 (h .literal-at .result)))) (entries (drop (i + 1) ls)) (entry (pos 0))
+    ∙ ap (λ z. entry z ++ entries (drop (i + 1) ls)) (sym (toZ-ofZ f ∙ h .tuple-literal .ensures)))
+    ∙ append-assoc (entry (toZ w32 (ofZ w32 (h .tuple-literal .result)))) (entries (drop (i + 1) ls)) (entry (pos 0))
 
 -- behind the last literal
 all-but-end : (h : tie.Else1 Inv-loop μ-loop) → let l = h .before .before .loop in let a = h .before .before .before .before .args in
@@ -52,8 +52,8 @@ loop-holds c =
     let a = c .before .args in
     (begin _ _ (sym (clause-text (present (a .c) (a .w)))), omega arith)
 
-literal-at-requires : tie.Need-literal-at-requires Inv-loop μ-loop
-literal-at-requires c κs =
+tuple-literal-requires : tie.Need-tuple-literal-requires Inv-loop μ-loop
+tuple-literal-requires c κs =
     let s = c .before .before .before .before in
     (s .pre .0, s .pre .1, c .if1 .taken)
 
@@ -63,7 +63,7 @@ add-entry-requires c κs =
     let h = c .before in
     let a = s .args in
     let l = c .before .before .before .before .loop in
-    counts-first (l .inv .0) (entry (toZ w32 (ofZ w32 (c .before .literal-at .result)))) (entries (drop (l .i + 1) (present (a .c) (a .w))) ++ entry (pos 0)) (next-is h) (s .pre .2)
+    counts-first (l .inv .0) (entry (toZ w32 (ofZ w32 (c .before .tuple-literal .result)))) (entries (drop (l .i + 1) (present (a .c) (a .w))) ++ entry (pos 0)) (next-is h) (s .pre .2)
 
 add-i : tie.Need-add-i Inv-loop μ-loop
 add-i c = search needs
@@ -95,7 +95,7 @@ add-literals-spec =
     Inv-loop
     μ-loop
     loop-holds
-    literal-at-requires
+    tuple-literal-requires
     add-entry-requires
     add-i
     loop-less

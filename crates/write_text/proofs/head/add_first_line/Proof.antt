@@ -11,17 +11,17 @@ use Rattle.write_text.proofs.head.add_first_line.Statement.{statement}
 use Rattle.write_text.proofs.head.add_first_line.Tie as tie
 
 -- the line stands in the local bytes
-line-put : (h : tie.After-put-line) → let a = h .before .before .before .before .args in take (h .put-line .result) (h .put-line .last .1 .1 .1 .0) ≡ line (ascii "p cnf ") (a .n) (a .m)
-line-put h = put-text (line (ascii "p cnf ") (h .before .before .before .before .args .n) (h .before .before .before .before .args .m)) _ (h .put-line .result) _ (h .put-line .ensures)
+line-put : (h : tie.After-put-text-line) → let a = h .before .before .before .before .args in take (h .put-text-line .result) (h .put-text-line .last .1 .1 .1 .0) ≡ line (ascii "p cnf ") (a .n) (a .m)
+line-put h = put-text (line (ascii "p cnf ") (h .before .before .before .before .args .n) (h .before .before .before .before .args .m)) _ (h .put-text-line .result) _ (h .put-text-line .ensures)
 
-slice-aggregate-put-line : tie.Need-slice-aggregate-put-line
-slice-aggregate-put-line c = search needs
+slice-aggregate-put-text-line : tie.Need-slice-aggregate-put-text-line
+slice-aggregate-put-text-line c = search needs
 
-slice-aggregate-put-line-2 : tie.Need-slice-aggregate-put-line-2
-slice-aggregate-put-line-2 c = search needs
+slice-aggregate-put-text-line-2 : tie.Need-slice-aggregate-put-text-line-2
+slice-aggregate-put-text-line-2 c = search needs
 
-put-line-requires : tie.Need-put-line-requires
-put-line-requires c κs =
+put-text-line-requires : tie.Need-put-text-line-requires
+put-text-line-requires c κs =
     let s = c .before .before .before in
     omega (arith, line-length (ascii "p cnf ") (s .args .n) (s .args .m))
 
@@ -32,7 +32,7 @@ add-bytes-requires : tie.Need-add-bytes-requires
 add-bytes-requires c κs =
     let s = c .before .before .before .before .before .before .before in
     let h = c .before .before .before in
-    (omega (arith, c .before .before .before .put-line .ensures .0, line-length (ascii "p cnf ") (s .args .n) (s .args .m), c .before .before .before .put-line .kept .1 .1 .1 .0), omega (arith, ap length (line-put h), s .pre))
+    (omega (arith, c .before .before .before .put-text-line .ensures .0, line-length (ascii "p cnf ") (s .args .n) (s .args .m), c .before .before .before .put-text-line .kept .1 .1 .1 .0), omega (arith, ap length (line-put h), s .pre))
 
 same-length : tie.Need-same-length
 same-length c = c .before .before .add-bytes .ensures .long
@@ -45,9 +45,9 @@ pub add-first-line-spec : {M : Type 1} → statement M
 add-first-line-spec =
     tie.close
     (tie.spec
-    slice-aggregate-put-line
-    slice-aggregate-put-line-2
-    put-line-requires
+    slice-aggregate-put-text-line
+    slice-aggregate-put-text-line-2
+    put-text-line-requires
     slice-aggregate-add-bytes
     add-bytes-requires
     same-length

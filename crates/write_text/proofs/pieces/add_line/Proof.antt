@@ -2,8 +2,7 @@
 use mathlib.Core.Path.{_≡_, ap}
 use native.Mathlib.Omega.{arith}
 use lib.ListN.{length, take}
-use Rattle.laws.specs.Ahead.{literalsAt}
-use Rattle.reader.specs.Said.{contextOf}
+use Rattle.laws.specs.Again.{literalsAt}
 use Rattle.text.specs.Entries.{entries}
 use Rattle.writing.specs.Lines.{lineNumbers}
 use Rattle.write_text.specs.Adds.{retold}
@@ -14,10 +13,10 @@ use Rattle.write_text.proofs.pieces.add_line.Tie as tie
 
 -- the line stands in the local list
 line-put : (h : tie.After-put-line) → let a = h .before .before .before .before .args in
-    take (h .put-line .result) (h .put-line .last .1 .1 .1 .1 .1 .0) ≡ lineNumbers (a .selector) (literalsAt (contextOf (a .known)) (a .rules .now) (a .n) (a .place) .value)
+    take (h .put-line .result) (h .put-line .last .1 .1 .1 .1 .0) ≡ lineNumbers (a .selector) (literalsAt (a .rules .now) (a .n) (a .place) .value)
 line-put h =
     let a = h .before .before .before .before .args in
-    taken (lineNumbers (a .selector) (literalsAt (contextOf (a .known)) (a .rules .now) (a .n) (a .place) .value)) _ _ (h .put-line .result) (h .put-line .ensures .0) (h .put-line .ensures .1)
+    taken (lineNumbers (a .selector) (literalsAt (a .rules .now) (a .n) (a .place) .value)) _ _ (h .put-line .result) (h .put-line .ensures .0) (h .put-line .ensures .1)
 
 slice-aggregate-put-line : tie.Need-slice-aggregate-put-line
 slice-aggregate-put-line c = search needs
@@ -26,7 +25,7 @@ put-line-requires : tie.Need-put-line-requires
 put-line-requires c κs =
     let s = c .before .before .before in
     let p = s .pre in
-    (p .0, p .1, p .2, omega (arith, p .3))
+    (p .0, p .1, omega (arith, p .2))
 
 slice-aggregate-add-first : tie.Need-slice-aggregate-add-first
 slice-aggregate-add-first c = search needs
@@ -35,7 +34,7 @@ add-first-requires : tie.Need-add-first-requires
 add-first-requires c κs =
     let s = c .before .before .before .before .before .before .before in
     let h = c .before .before .before in
-    (omega (arith, c .before .before .before .put-line .ensures .0, s .pre .3, c .before .before .before .put-line .kept .1 .1 .1 .1 .1 .0), omega (arith, ap (λ l. length (entries l)) (line-put h), s .pre .4))
+    (omega (arith, c .before .before .before .put-line .ensures .0, s .pre .2, c .before .before .before .put-line .kept .1 .1 .1 .1 .0), omega (arith, ap (λ l. length (entries l)) (line-put h), s .pre .3))
 
 same-length : tie.Need-same-length
 same-length c = c .before .before .add-first .ensures .long
