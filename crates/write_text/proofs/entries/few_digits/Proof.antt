@@ -1,0 +1,35 @@
+-- `write_text::entries::few_digits` meets its contract.
+use mathlib.Core.Path.{sym, ap}
+use lib.ListN.{length}
+use Rattle.text.specs.Decimals.{decimal-one}
+use native.Mathlib.Omega.{arith}
+use Rattle.write_text.specs.Lengths.{decimal-length}
+use Rattle.write_text.proofs.entries.few_digits.Statement.{statement}
+use Rattle.write_text.proofs.entries.few_digits.Tie as tie
+
+returns : tie.Need-returns
+returns c =
+    sym (ap length (decimal-one (c .before .args .n) (omega arith)))
+
+returns-2 : tie.Need-returns-2
+returns-2 c =
+    let s = c .before .before in
+    sym (decimal-length 1 (s .args .n) (s .fits .n .fits) (omega arith) (omega arith))
+
+returns-3 : tie.Need-returns-3
+returns-3 c =
+    let s = c .before .before .before in
+    sym (decimal-length 2 (s .args .n) (s .fits .n .fits) (omega arith) (omega arith))
+
+returns-4 : tie.Need-returns-4
+returns-4 c =
+    let s = c .before .before .before .before in
+    sym (decimal-length 3 (s .args .n) (s .fits .n .fits) (omega arith) (omega arith))
+
+returns-5 : tie.Need-returns-5
+returns-5 c =
+    let s = c .before .before .before .before in
+    sym (decimal-length 4 (s .args .n) (s .fits .n .fits) (omega arith) (omega (arith, s .pre)))
+
+pub few-digits-spec : {M : Type 1} → statement M
+few-digits-spec = tie.close (tie.spec returns returns-2 returns-3 returns-4 returns-5)

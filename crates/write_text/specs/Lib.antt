@@ -1,0 +1,3 @@
+pub mod Adds
+pub mod Lengths
+pub mod Outcome
