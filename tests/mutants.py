@@ -27,8 +27,8 @@ MUTANTS = [
          "            if 0 < selector {\n                return 0;\n            }\n            let number = selectors + selector as u32;")]),
     ("the selector left off a single-term comparison", [
         ("compile/src/pieces.rt",
-         "                -(number as i32),",
-         "                if ready(bytes, firsts, rules, place, constant).n == 1 { 0 } else { -(number as i32) },")]),
+         "                Front::Literal(negated),",
+         "                if ready(bytes, firsts, rules, place, constant).n == 1 { Front::Nothing } else { Front::Literal(negated) },")]),
     ("one selector for a whole clause", [
         ("writing/src/lines.rt", "number += selectors_of(literal);", ""),
         ("rules/src/lib.rt", "after(c, next, c.selector + 1)", "after(c, next, c.selector)")]),
