@@ -24,6 +24,8 @@ pub fn number_of(r: Refusal) -> u64
         Refusal::VariableUnknown { place: _ } => 15,
         Refusal::VariableRepeated { place: _ } => 16,
         Refusal::ConstantWrong { place: _ } => 17,
+        Refusal::TextWrong { place: _ } => 18,
+        Refusal::VariableNotOnce { number: _ } => 19,
         Refusal::NoVariable { number: _ } => 22,
         Refusal::RepliesLeft { count: _ } => 23,
     }
@@ -50,6 +52,8 @@ pub fn detail_of(r: Refusal) -> u64
         Refusal::VariableUnknown { place } => place as u64,
         Refusal::VariableRepeated { place } => place as u64,
         Refusal::ConstantWrong { place } => place as u64,
+        Refusal::TextWrong { place } => place as u64,
+        Refusal::VariableNotOnce { number } => number as u64,
         Refusal::NoVariable { number } => number as u64,
         Refusal::RepliesLeft { count } => count as u64,
     }

@@ -1,4 +1,5 @@
 -- The four numbers of an answer, and Closing's three hours, as a C caller is given them (include/basmuthar.h). Assumes nothing.
+use mathlib.Core.Bool.{Bool, true, false}
 use mathlib.Core.List.{List, [], _∷_}
 use Prim.Native.Nat.{ℕ}
 use lib.IntN.{ℤ}
@@ -6,7 +7,7 @@ use Rattle.definitions.specs.Result.{Result, done, refused}
 use Rattle.definitions.specs.Operations.{Sizes}
 use Rattle.definitions.specs.Closing.{Earliest, found, none, unfinished}
 
--- Size and Compile: 0, N, M and K
+-- Size, Compile and the reader of text: 0, N, M and K
 abbrev pub sizesWritten : Result Sizes → List ℕ
 sizesWritten (done z) = 0 ∷ z .n ∷ z .m ∷ z .k ∷ []
 sizesWritten (refused number detail) = number ∷ detail ∷ 0 ∷ 0 ∷ []
@@ -29,3 +30,14 @@ hoursWritten (done (found v)) hours = v ∷ v ∷ v ∷ []
 hoursWritten (done none) hours = hours
 hoursWritten (done (unfinished r question)) hours = r .lo ∷ r .hi ∷ question ∷ []
 hoursWritten (refused number detail) hours = hours
+
+-- the writer of text: 0, and the length
+abbrev pub lengthWritten : Result ℕ → List ℕ
+lengthWritten (done n) = 0 ∷ n ∷ 0 ∷ 0 ∷ []
+lengthWritten (refused number detail) = number ∷ detail ∷ 0 ∷ 0 ∷ []
+
+-- the reader of a reply: 0, and then 0 a model, 1 none
+abbrev pub replyWritten : Result Bool → List ℕ
+replyWritten (done true) = 0 ∷ 0 ∷ 0 ∷ 0 ∷ []
+replyWritten (done false) = 0 ∷ 1 ∷ 0 ∷ 0 ∷ []
+replyWritten (refused number detail) = number ∷ detail ∷ 0 ∷ 0 ∷ []

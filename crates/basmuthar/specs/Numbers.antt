@@ -1,6 +1,6 @@
 -- Nothing of an operation's answer is lost in the four numbers: they tell which answer it was. Assumes nothing.
 use mathlib.Core.Path.{_≡_, refl, sym, ap, ap₂, _∙_}
-use mathlib.Core.Bool.{false}
+use mathlib.Core.Bool.{Bool, true, false}
 use mathlib.Core.List.{List}
 use Prim.Native.Nat.{ℕ, zero, suc}
 use lib.IntN.{ℤ, pos}
@@ -10,13 +10,15 @@ use Rattle.definitions.specs.Tools.{if_then_else_}
 use Rattle.definitions.specs.Result.{Result, done, refused}
 use Rattle.definitions.specs.Operations.{Sizes}
 use Rattle.definitions.specs.Closing.{Earliest, found, none, unfinished}
-use Rattle.definitions.specs.Answers.{said, saidSizing, saidVerdict, saidHour}
+use Rattle.definitions.specs.Answers.{said, saidSizing, saidVerdict, saidHour, saidTexted, saidReplied}
 use Rattle.definitions.specs.declared.Refusal.{Refusal}
 use Rattle.definitions.specs.declared.Sizing.{Sizing}
 use Rattle.definitions.specs.declared.Verdict.{Verdict}
 use Rattle.definitions.specs.declared.Hour.{Hour}
-use Rattle.laws.specs.Outcomes.{one-sizing, one-verdict, one-hour}
-use Rattle.basmuthar.specs.Interface.{sizesWritten, verdictWritten, hourWritten, hoursWritten}
+use Rattle.definitions.specs.declared.Texted.{Texted}
+use Rattle.definitions.specs.declared.Replied.{Replied}
+use Rattle.laws.specs.Outcomes.{one-sizing, one-verdict, one-hour, one-text, one-reply}
+use Rattle.basmuthar.specs.Interface.{sizesWritten, verdictWritten, hourWritten, hoursWritten, lengthWritten, replyWritten}
 
 -- no refusal has the number 0
 not-zero : (r : Refusal) → eqb (said r .0) 0 ≡ false
@@ -37,6 +39,8 @@ not-zero (Refusal.ValueOutside index) = refl
 not-zero (Refusal.VariableUnknown place) = refl
 not-zero (Refusal.VariableRepeated place) = refl
 not-zero (Refusal.ConstantWrong place) = refl
+not-zero (Refusal.TextWrong place) = refl
+not-zero (Refusal.VariableNotOnce number) = refl
 not-zero (Refusal.NoVariable number) = refl
 not-zero (Refusal.RepliesLeft count) = refl
 
@@ -78,3 +82,24 @@ hour-told h h′ hours e f = one-hour h h′ (sym (is h) ∙ ap₂ back e f ∙ 
     is Hour.None = refl
     is (Hour.Unfinished low high question) = refl
     is (Hour.Refused r) = rw (not-zero r)
+
+pub text-told : (t t′ : Texted) → lengthWritten (saidTexted t) ≡ lengthWritten (saidTexted t′) → t ≡ t′
+text-told t t′ h = one-text t t′ (sym (is t) ∙ ap back h ∙ is t′)
+  where
+    back : List ℕ → Result ℕ
+    back numbers = readAs (getD numbers 1 0) numbers
+
+    is : (t : Texted) → back (lengthWritten (saidTexted t)) ≡ saidTexted t
+    is (Texted.Length n) = refl
+    is (Texted.Refused r) = rw (not-zero r)
+
+pub reply-told : (r r′ : Replied) → replyWritten (saidReplied r) ≡ replyWritten (saidReplied r′) → r ≡ r′
+reply-told r r′ h = one-reply r r′ (sym (is r) ∙ ap back h ∙ is r′)
+  where
+    back : List ℕ → Result Bool
+    back numbers = readAs (eqb (getD numbers 1 0) 0) numbers
+
+    is : (r : Replied) → back (replyWritten (saidReplied r)) ≡ saidReplied r
+    is Replied.Model = refl
+    is Replied.None = refl
+    is (Replied.Refused r) = rw (not-zero r)

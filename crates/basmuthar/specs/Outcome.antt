@@ -5,7 +5,8 @@ use Prim.Native.Nat.{ℕ}
 use lib.IntN.{ℤ}
 use Rattle.definitions.specs.Operations.{Size, Compile, Decode, Judge, Image}
 use Rattle.definitions.specs.Closing.{Closing}
-use Rattle.basmuthar.specs.Interface.{sizesWritten, verdictWritten, hourWritten, hoursWritten}
+use Rattle.definitions.specs.TextOperations.{WriteText, ReadText, ReadReply}
+use Rattle.basmuthar.specs.Interface.{sizesWritten, verdictWritten, hourWritten, hoursWritten, lengthWritten, replyWritten}
 
 one : {A : Type 0} {x y z : A} → x ≡ z → y ≡ z → x ≡ y
 one h k = h ∙ sym k
@@ -32,6 +33,16 @@ module _ (s : List ℕ) where
   abbrev pub ClosingLeaves : ℕ → List ℕ → List ℤ → List ℕ → List ℤ → Type 0
   ClosingLeaves x replies hours answer left = (answer ≡ hourWritten (Closing s x replies)) × (left ≡ hoursWritten (Closing s x replies) hours)
 
+  abbrev pub WriteTextLeaves : List ℕ → List ℕ → List ℕ → Type 0
+  WriteTextLeaves text answer left = (answer ≡ lengthWritten (WriteText s text .answer)) × (left ≡ WriteText s text .left)
+
+  -- here s is the text that is read
+  abbrev pub ReadTextLeaves : List ℤ → List ℕ → List ℤ → Type 0
+  ReadTextLeaves list answer left = (answer ≡ sizesWritten (ReadText s list .answer)) × (left ≡ ReadText s list .left)
+
+  abbrev pub ReadReplyLeaves : ℕ → List ℕ → List ℕ → List ℕ → Type 0
+  ReadReplyLeaves n model answer left = (answer ≡ replyWritten (ReadReply n s model .answer)) × (left ≡ ReadReply n s model .left)
+
   module _ (a a′ : List ℕ) where
     pub one-size : SizeLeaves a → SizeLeaves a′ → a ≡ a′
     one-size = one
@@ -51,3 +62,12 @@ module _ (s : List ℕ) where
 
     pub one-closing : (x : ℕ) (replies : List ℕ) (hours l l′ : List ℤ) → ClosingLeaves x replies hours a l → ClosingLeaves x replies hours a′ l′ → (a ≡ a′) × (l ≡ l′)
     one-closing x replies hours l l′ h k = (one (h .0) (k .0), one (h .1) (k .1))
+
+    pub one-write-text : (text l l′ : List ℕ) → WriteTextLeaves text a l → WriteTextLeaves text a′ l′ → (a ≡ a′) × (l ≡ l′)
+    one-write-text text l l′ h k = (one (h .0) (k .0), one (h .1) (k .1))
+
+    pub one-read-text : (list l l′ : List ℤ) → ReadTextLeaves list a l → ReadTextLeaves list a′ l′ → (a ≡ a′) × (l ≡ l′)
+    one-read-text list l l′ h k = (one (h .0) (k .0), one (h .1) (k .1))
+
+    pub one-read-reply : (n : ℕ) (model l l′ : List ℕ) → ReadReplyLeaves n model a l → ReadReplyLeaves n model a′ l′ → (a ≡ a′) × (l ≡ l′)
+    one-read-reply n model l l′ h k = (one (h .0) (k .0), one (h .1) (k .1))

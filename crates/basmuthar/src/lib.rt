@@ -7,15 +7,19 @@ pub use compile::compile;
 pub use decode::decode;
 pub use definitions::Hour;
 pub use definitions::Refusal;
+pub use definitions::Replied;
 pub use definitions::Sizing;
+pub use definitions::Texted;
 pub use definitions::Verdict;
 pub use image::image;
 pub use judge::judge;
+pub use replies::lists::read_text;
 pub use size::size;
+pub use write_text::write_text;
 ghost use mathlib.Core.Path.{_≡_};
-ghost use Rattle.definitions.specs.Answers.{refusal, saidHour, saidSizing, saidVerdict};
-ghost use Rattle.basmuthar.specs.Interface.{hourWritten, hoursWritten, sizesWritten, verdictWritten};
-ghost use Rattle.basmuthar.specs.Outcome.{ClosingLeaves, CompileLeaves, DecodeLeaves, ImageLeaves, JudgeLeaves, SizeLeaves};
+ghost use Rattle.definitions.specs.Answers.{refusal, saidHour, saidReplied, saidSizing, saidTexted, saidVerdict};
+ghost use Rattle.basmuthar.specs.Interface.{hourWritten, hoursWritten, lengthWritten, replyWritten, sizesWritten, verdictWritten};
+ghost use Rattle.basmuthar.specs.Outcome.{ClosingLeaves, CompileLeaves, DecodeLeaves, ImageLeaves, JudgeLeaves, ReadReplyLeaves, ReadTextLeaves, SizeLeaves, WriteTextLeaves};
 
 fn refusal_written(r: Refusal) -> [u64; 4]
     ensures { λ a. ⌜ a ≡ verdictWritten (refusal r) ⌝ }
@@ -71,6 +75,15 @@ fn hours_written(hour: Hour, hours: [i32; 3]) -> [i32; 3]
         } => [low, high, question],
         Hour::None => hours,
         Hour::Refused(_) => hours,
+    }
+}
+
+fn length_written(texted: Texted) -> [u64; 4]
+    ensures { λ a. ⌜ a ≡ lengthWritten (saidTexted texted) ⌝ }
+{
+    match texted {
+        Texted::Length(n) => [0, n as u64, 0, 0],
+        Texted::Refused(r) => refusal_written(r),
     }
 }
 
@@ -139,4 +152,18 @@ pub extern "C" fn basmuthar_closing(
     let hour = closing(bytes, variable, replies);
     *answer = hour_written(hour);
     *hours = hours_written(hour, *hours);
+}
+
+#[no_mangle]
+pub extern "C" fn basmuthar_write_text(bytes: &[u8], text: &mut [u8], answer: &mut [u64; 4])
+    ensures { λ _. ⌜ WriteTextLeaves (now (bytes .entry)) (now (text .entry)) (now (answer .exit)) (now (text .exit)) ⌝ }
+{
+    *answer = length_written(write_text(bytes, text));
+}
+
+#[no_mangle]
+pub extern "C" fn basmuthar_read_text(text: &[u8], list: &mut [i32], answer: &mut [u64; 4])
+    ensures { λ _. ⌜ ReadTextLeaves (now (text .entry)) (now (list .entry)) (now (answer .exit)) (now (list .exit)) ⌝ }
+{
+    *answer = sizes_written(read_text(text, list));
 }

@@ -22,4 +22,13 @@ pub mod Questions
 pub mod Earliest
 pub mod OneList
 pub mod Tried
+pub mod Reached
+pub mod GoodTexts
+pub mod GoodReplies
+pub mod Places
+pub mod Lives
+pub mod Details
+pub mod Pinned
+pub mod TextWritten
+pub mod ReplyModels
 pub mod Demands

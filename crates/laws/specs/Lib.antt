@@ -33,3 +33,5 @@ pub mod Ahead
 pub mod Refusals
 pub mod Explained
 pub mod Boards
+pub mod Decimals
+pub mod Stepping

@@ -1,5 +1,6 @@
 -- Two answers of the code's own types that say the same (01's number and values) are one answer.
 use mathlib.Core.Path.{_≡_, refl, sym, ap, _∙_}
+use mathlib.Core.Bool.{Bool, true, false}
 use mathlib.Core.List.{[], _∷_, _++_}
 use Prim.Native.Nat.{ℕ, _-_}
 use lib.ListN.{getD, replicate}
@@ -7,12 +8,14 @@ use Rattle.definitions.specs.declared.Refusal.{Refusal}
 use Rattle.definitions.specs.declared.Sizing.{Sizing}
 use Rattle.definitions.specs.declared.Verdict.{Verdict}
 use Rattle.definitions.specs.declared.Hour.{Hour}
+use Rattle.definitions.specs.declared.Texted.{Texted}
+use Rattle.definitions.specs.declared.Replied.{Replied}
 use Rattle.definitions.specs.Result.{Result, done, refused}
 use Rattle.definitions.specs.Operations.{Sizes}
 use Rattle.definitions.specs.Closing.{Earliest, found, none, unfinished}
-use Rattle.definitions.specs.Answers.{said, saidVerdict, saidSizing, saidHour}
+use Rattle.definitions.specs.Answers.{said, saidVerdict, saidSizing, saidHour, saidTexted, saidReplied}
 
--- a refusal's number and detail tell which it is; 18 to 21 are not given yet
+-- a refusal's number and detail tell which it is; 20 and 21 are not given yet
 pub unsaid : ℕ × ℕ → Refusal
 unsaid p =
     let d = p .1 in
@@ -21,7 +24,8 @@ unsaid p =
     Refusal.LiteralWrong d ∷ Refusal.CoefficientWrong d ∷ Refusal.EndWrong d ∷ Refusal.ListTooLong ∷ Refusal.ListTooShort d ∷
     Refusal.LentWrong d ∷ Refusal.ByteWrong d ∷ Refusal.ClauseFails d ∷ Refusal.ValueOutside d ∷
     Refusal.VariableUnknown d ∷ Refusal.VariableRepeated d ∷ Refusal.ConstantWrong d ∷
-    (replicate 4 Refusal.RecordTooLong ++ (Refusal.NoVariable d ∷ Refusal.RepliesLeft d ∷ [])))
+    Refusal.TextWrong d ∷ Refusal.VariableNotOnce d ∷
+    (replicate 2 Refusal.RecordTooLong ++ (Refusal.NoVariable d ∷ Refusal.RepliesLeft d ∷ [])))
     (p .0 - 1) Refusal.RecordTooLong
 
 pub unsaid-said : (r : Refusal) → unsaid (said r) ≡ r
@@ -43,6 +47,8 @@ unsaid-said (Refusal.ValueOutside d) = refl
 unsaid-said (Refusal.VariableUnknown d) = refl
 unsaid-said (Refusal.VariableRepeated d) = refl
 unsaid-said (Refusal.ConstantWrong d) = refl
+unsaid-said (Refusal.TextWrong d) = refl
+unsaid-said (Refusal.VariableNotOnce d) = refl
 unsaid-said (Refusal.NoVariable d) = refl
 unsaid-said (Refusal.RepliesLeft d) = refl
 
@@ -86,3 +92,27 @@ one-hour = told saidHour back is
     is Hour.None = refl
     is (Hour.Unfinished low high question) = refl
     is (Hour.Refused r) = ap Hour.Refused (unsaid-said r)
+
+pub one-text : (r r′ : Texted) → saidTexted r ≡ saidTexted r′ → r ≡ r′
+one-text = told saidTexted back is
+  where
+    back : Result ℕ → Texted
+    back (done n) = Texted.Length n
+    back (refused n d) = Texted.Refused (unsaid (n, d))
+
+    is : (r : Texted) → back (saidTexted r) ≡ r
+    is (Texted.Length n) = refl
+    is (Texted.Refused r) = ap Texted.Refused (unsaid-said r)
+
+pub one-reply : (r r′ : Replied) → saidReplied r ≡ saidReplied r′ → r ≡ r′
+one-reply = told saidReplied back is
+  where
+    back : Result Bool → Replied
+    back (done true) = Replied.Model
+    back (done false) = Replied.None
+    back (refused n d) = Replied.Refused (unsaid (n, d))
+
+    is : (r : Replied) → back (saidReplied r) ≡ r
+    is Replied.Model = refl
+    is Replied.None = refl
+    is (Replied.Refused r) = ap Replied.Refused (unsaid-said r)

@@ -4,3 +4,4 @@ pub mod Bytes
 pub mod Texts
 pub mod Replied
 pub mod Lists
+pub mod Outcome

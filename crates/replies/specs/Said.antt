@@ -2,8 +2,8 @@
 use Rattle.definitions.specs.Tools.{ℕ, _≤_, _≡_, Bool, List, drop, length}
 use Prim.Native.Nat.{_<_}
 use Rattle.definitions.specs.Result.{Result, done, refused}
-use Rattle.next.specs.Reading.{Number, valueOf}
-use Rattle.next.specs.Stepping.{num}
+use Rattle.definitions.specs.TextReading.{Number, valueOf}
+use Rattle.laws.specs.Stepping.{num}
 use Rattle.definitions.specs.Operations.{Sizes}
 use Rattle.replies.specs.Parts.{Found, ends, holds, sizes, Taken, last, more, Summary, without, literals}
 use Rattle.replies.specs.declared.Word.{Word}
@@ -17,7 +17,6 @@ use Rattle.replies.specs.declared.Checked.{Checked}
 use Rattle.replies.specs.declared.Value.{Value}
 use Rattle.replies.specs.declared.Listed.{Listed}
 use Rattle.replies.specs.declared.Heard.{Heard}
-use Rattle.replies.specs.declared.TakenText.{TakenText}
 
 abbrev pub saidWord : List ℕ → Word → Result (ℕ × List ℕ)
 saidWord t (Word.Past next) = done (next, drop next t)
@@ -91,8 +90,3 @@ abbrev pub saidHeard : Heard → Result Summary
 saidHeard Heard.Nothing = done without
 saidHeard (Heard.Literals from count rising) = done (literals count rising)
 saidHeard (Heard.Bad d) = refused 18 d
-
-abbrev pub saidTaken : TakenText → Result Sizes
-saidTaken (TakenText.Sizes n m k) = done (sizes n m k)
-saidTaken (TakenText.Bad d) = refused 18 d
-saidTaken (TakenText.Short k) = refused 10 k

@@ -82,10 +82,3 @@ pub enum Heard {
     },
     Bad(usize),
 }
-
-// Text read into a list: N, M and K; the detail of 18; or, where the list is shorter, the K that is wanted.
-pub enum TakenText {
-    Sizes { n: u32, m: u32, k: usize },
-    Bad(usize),
-    Short(usize),
-}

@@ -2,21 +2,20 @@
 ghost use mathlib.Core.Path.{_≡_};
 ghost use Prim.Native.Nat.{_≤_, _<_};
 ghost use lib.ListN.{length};
-ghost use Rattle.definitions.specs.Operations.{_leaves_};
 ghost use Rattle.laws.specs.Written.{written};
-ghost use Rattle.next.specs.Reading.{valueOf};
-ghost use Rattle.next.specs.Stepping.{num};
-ghost use Rattle.next.specs.Operations.{ReadText};
+ghost use Rattle.definitions.specs.TextReading.{valueOf};
+ghost use Rattle.laws.specs.Stepping.{num};
 ghost use Rattle.replies.specs.Lists.{numbersFrom, Fits};
-ghost use Rattle.replies.specs.Said.{saidTaken};
+ghost use Rattle.replies.specs.Outcome.{TextAllowed};
 use super::Counted;
 use super::Head;
 use super::Next;
-use super::TakenText;
 use super::clauses::clauses_after;
 use super::clauses::count_numbers;
 use super::clauses::next_number;
 use super::line::first_line;
+use definitions::Refusal;
+use definitions::Sizing;
 
 fn signed_of(minus: bool, size: u32) -> i32
     requires { ⌜ size < 2147483648 ⌝ }
@@ -59,21 +58,25 @@ fn put_numbers(text: &[u8], n: u32, m: u32, from: usize, list: &mut [i32]) -> us
     }
 }
 
-// N, M and K, and the list; or the detail of 18, or the K that is wanted.
-pub fn read_text(text: &[u8], list: &mut [i32]) -> TakenText
-    ensures { λ r. ⌜ (saidTaken r leaves now (list .exit)) ≡ ReadText (now (text .entry)) (now (list .entry)) ⌝ }
+// ReadText: N, M and K, and the list.
+pub fn read_text(text: &[u8], list: &mut [i32]) -> Sizing
+    ensures { λ r. ⌜ TextAllowed (now (text .entry)) (now (list .entry)) r (now (list .exit)) ⌝ }
 {
     match first_line(text) {
         Head::Sizes { n, m, next } => match count_numbers(text, n, m, next) {
             Counted::Numbers(k) => {
                 if list.len() < k {
-                    return TakenText::Short(k);
+                    return Sizing::Unsized(Refusal::ListTooShort { wanted: k });
                 }
                 put_numbers(text, n, m, next, list);
-                TakenText::Sizes { n, m, k }
+                Sizing::Sizes {
+                    n: n as usize,
+                    m: m as usize,
+                    k,
+                }
             }
-            Counted::Bad(d) => TakenText::Bad(d),
+            Counted::Bad(d) => Sizing::Unsized(Refusal::TextWrong { place: d }),
         },
-        Head::Bad(d) => TakenText::Bad(d),
+        Head::Bad(d) => Sizing::Unsized(Refusal::TextWrong { place: d }),
     }
 }

@@ -1,59 +1,25 @@
--- Decimal digits: the last one after the others, and how many there are. Assumes nothing.
+-- Decimal digits put into a buffer, the last one after the others. Assumes nothing.
 use mathlib.Core.Path.{_≡_, sym, ap, _∙_}
-use mathlib.Core.Bool.{Bool, true, false}
 use mathlib.Core.List.{List, [], _∷_, _++_}
-use Prim.Native.Nat.{ℕ, zero, suc, _+_, _/_, _%_, _^_, _≤_, _<_}
-use borrow.Author.Tests.{lt-ltb, le-ltb}
+use Prim.Native.Nat.{ℕ, _+_, _/_, _%_, _^_, _≤_, _<_}
 use native.Mathlib.Omega.{arith}
-use lib.Dec.{ltb}
-use lib.ListN.{length, set, length-append}
-use Rattle.definitions.specs.Tools.{if_then_else_}
-use Rattle.definitions.specs.Dimacs.{digits, decimal}
+use lib.ListN.{length, set}
+use Rattle.definitions.specs.Dimacs.{decimal}
+use Rattle.laws.specs.Decimals.{decimal-one, decimal-more, shorter}
 use Rattle.laws.specs.Written.{written, written-one, written-snoc}
 use Rattle.text.specs.Puts.{Put}
 
--- room for a digit more changes nothing where there is room for all
-more-room : (f n : ℕ) → n < 10 ^ suc f → digits (suc f) n ≡ digits f n
-unfolding digits
-more-room zero n h =
-    let e : n % 10 ≡ n = omega arith in
-    rw (lt-ltb n 10 (omega arith), e)
-more-room (suc f) n h = ap (λ z. if ltb n 10 then (48 + n) ∷ [] else z ++ ((48 + n % 10) ∷ [])) (more-room f (n / 10) (omega arith))
-
-pub decimal-one : (n : ℕ) → n < 10 → decimal n ≡ (48 + n) ∷ []
-unfolding digits
-decimal-one n h = rw (lt-ltb n 10 h)
-
-pub decimal-more : (n : ℕ) → n < 2 ^ 64 → 10 ≤ n → decimal n ≡ decimal (n / 10) ++ ((48 + n % 10) ∷ [])
-unfolding digits
-decimal-more n f h =
-    ap (λ (t : Bool). if t then (48 + n) ∷ [] else digits 18 (n / 10) ++ ((48 + n % 10) ∷ [])) (le-ltb n 10 h)
-    ∙ ap (λ z. z ++ ((48 + n % 10) ∷ [])) (sym (more-room 18 (n / 10) (omega arith)))
-
-pub digits-length : (f n : ℕ) → length (digits f n) ≤ suc f
-unfolding digits
-digits-length zero n = omega arith
-digits-length (suc f) n = go (ltb n 10) (digits-length f (n / 10))
-  where
-    go : (t : Bool) → length (digits f (n / 10)) ≤ suc f → length (if t then (48 + n) ∷ [] else digits f (n / 10) ++ ((48 + n % 10) ∷ [])) ≤ suc (suc f)
-    go true h = omega arith
-    go false h = omega (arith, length-append (digits f (n / 10)) ((48 + n % 10) ∷ []))
-
--- ---- digits put into a buffer
 pub first-digit : (n : ℕ) (out : List ℕ) → n < 10 → length (decimal n) ≤ length out → Put (decimal n) out 1 (set out 0 (48 + n))
 first-digit n out small fit =
     let e = decimal-one n small in
     (sym (ap length e), written-one out (48 + n) (omega (arith, ap length e)) ∙ ap (λ z. written z out) (sym e))
 
 module _ (n : ℕ) (f : n < 2 ^ 64) (h : 10 ≤ n) where
-  pub shorter : length (decimal n) ≡ length (decimal (n / 10)) + 1
-  shorter = ap length (decimal-more n f h) ∙ length-append (decimal (n / 10)) ((48 + n % 10) ∷ [])
-
   pub last-digit : (out : List ℕ) → length (decimal n) ≤ length out → (at : ℕ) (now : List ℕ) → Put (decimal (n / 10)) out at now
       → Put (decimal n) out (at + 1) (set now at (48 + n % 10))
   last-digit out fit at now p = (
-    omega (arith, p .0, shorter),
+    omega (arith, p .0, shorter n f h),
     ap (λ z. set z at (48 + n % 10)) (p .1)
-        ∙ written-snoc (decimal (n / 10)) out (48 + n % 10) at (sym (p .0)) (omega (arith, p .0, shorter))
+        ∙ written-snoc (decimal (n / 10)) out (48 + n % 10) at (sym (p .0)) (omega (arith, p .0, shorter n f h))
         ∙ ap (λ z. written z out) (sym (decimal-more n f h)),
   )

@@ -8,13 +8,14 @@ ghost use Rattle.opening.specs.Headers.{Opened};
 ghost use Rattle.measure.specs.Said.{totalsOf};
 ghost use Rattle.text.specs.Entries.{entries};
 ghost use Rattle.compile.specs.Lists.{piecesNumbers};
-ghost use Rattle.next.specs.Operations.{textOf};
+ghost use Rattle.definitions.specs.TextOperations.{textOf};
 ghost use Rattle.write_text.specs.Adds.{Adds, Counts};
 ghost use Rattle.write_text.specs.Outcome.{Allowed};
 use crate::axioms::add_variables;
 use crate::head::add_first_line;
 use crate::pieces::add_pieces;
 use definitions::Refusal;
+use definitions::Texted;
 use measure::Measured;
 use measure::Totals;
 use measure::measure;
@@ -28,12 +29,6 @@ pub mod comparisons; // comparisons.rt: a comparison's clauses
 pub mod entries; // entries.rt: numbers of the clause list
 pub mod head; // head.rt: the first line
 pub mod pieces; // pieces.rt: the clauses of the rules, piece by piece
-
-// The text's length, or why there is none.
-pub enum Texted {
-    Length(usize),
-    Refused(Refusal),
-}
 
 // The clauses of the rules, which stand in the record's tail.
 fn add_rules(bytes: &[u8], header: Header, at: usize, out: &mut [u8]) -> usize

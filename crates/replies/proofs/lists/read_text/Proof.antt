@@ -2,6 +2,7 @@
 use native.Mathlib.Omega.{arith}
 use Rattle.replies.specs.Said.{saidHead, saidCounted}
 use Rattle.replies.specs.Bytes.{told}
+use Rattle.replies.specs.Outcome.{apart}
 use Rattle.replies.specs.Texts.{text-bad, numbers-bad}
 use Rattle.replies.specs.Lists.{line-small, taken-bad, taken-short, taken-fits, taken-all}
 use borrow.Author.Needs.{needs}
@@ -29,7 +30,7 @@ returns c =
     let n = c .before .before .before .before .before .before .n in
     let count-numbers = c .before .before .before .before .count-numbers in
     let k = c .before .before .k in
-    taken-short (args .text .now) (args .list .now) (told (saidHead (args .text .now)) (first-line .ensures .0) (n .given .1)) (told (saidCounted _ _) (count-numbers .ensures) (k .given .1)) (c .if1 .taken)
+    apart (taken-short (args .text .now) (args .list .now) (told (saidHead (args .text .now)) (first-line .ensures .0) (n .given .1)) (told (saidCounted _ _) (count-numbers .ensures) (k .given .1)) (c .if1 .taken))
 
 put-numbers-requires : tie.Need-put-numbers-requires
 put-numbers-requires c κs =
@@ -40,6 +41,12 @@ put-numbers-requires c κs =
     let k = c .before .before .before .k in
     let line = told (saidHead (args .text .now)) (first-line .ensures .0) (n .given .1) in
     (omega (arith, line-small (args .text .now) line), rw (n .given .1) at (first-line .ensures .1), taken-fits (args .text .now) (args .list .now) line (told (saidCounted _ _) (count-numbers .ensures) (k .given .1)) (omega (arith, c .before .if1 .left)))
+
+cast-t13 : tie.Need-cast-t13
+cast-t13 c = search needs
+
+cast-t18 : tie.Need-cast-t18
+cast-t18 c = search needs
 
 enum-known-d : tie.Need-enum-known-d
 enum-known-d c = search needs
@@ -58,7 +65,7 @@ returns-2 c =
     let count-numbers = c .before .before .before .before .before .before .before .count-numbers in
     let k = c .before .before .before .before .before .k in
     let if1 = c .before .before .before .if1 in
-    taken-all (args .text .now) (args .list .now) (told (saidHead (args .text .now)) (first-line .ensures .0) (n .given .1)) (told (saidCounted _ _) (count-numbers .ensures) (k .given .1)) _ (omega (arith, if1 .left)) (c .before .put-numbers .ensures)
+    apart (taken-all (args .text .now) (args .list .now) (told (saidHead (args .text .now)) (first-line .ensures .0) (n .given .1)) (told (saidCounted _ _) (count-numbers .ensures) (k .given .1)) _ (omega (arith, if1 .left)) (c .before .put-numbers .ensures))
 
 returns-3 : tie.Need-returns-3
 returns-3 c =
@@ -66,13 +73,13 @@ returns-3 c =
     let first-line = c .before .before .before .before .before .before .before .first-line in
     let n = c .before .before .before .before .before .n in
     let count-numbers = c .before .before .before .count-numbers in
-    taken-bad (args .text .now) (args .list .now) (numbers-bad (args .text .now) (told (saidHead (args .text .now)) (first-line .ensures .0) (n .given .1)) (told (saidCounted _ _) (count-numbers .ensures) (c .before .d .given .1)))
+    apart (taken-bad (args .text .now) (args .list .now) (numbers-bad (args .text .now) (told (saidHead (args .text .now)) (first-line .ensures .0) (n .given .1)) (told (saidCounted _ _) (count-numbers .ensures) (c .before .d .given .1))))
 
 returns-4 : tie.Need-returns-4
 returns-4 c =
     let args = c .before .before .before .before .before .args in
     let first-line = c .before .before .before .first-line in
-    taken-bad (args .text .now) (args .list .now) (text-bad (args .text .now) (told (saidHead (args .text .now)) (first-line .ensures .0) (c .before .d2 .given .1)))
+    apart (taken-bad (args .text .now) (args .list .now) (text-bad (args .text .now) (told (saidHead (args .text .now)) (first-line .ensures .0) (c .before .d2 .given .1))))
 
 pub read-text-spec : {M : Type 1} → statement M
 read-text-spec =
@@ -84,6 +91,8 @@ read-text-spec =
     enum-known-k
     returns
     put-numbers-requires
+    cast-t13
+    cast-t18
     enum-known-d
     enum-known-d-2
     same-length

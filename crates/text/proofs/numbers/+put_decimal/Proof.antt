@@ -6,7 +6,8 @@ use borrow.Author.Needs.{needs}
 use borrow.Fn.Kinds.{In}
 use borrow.Fn.PlainCycle.{Measures, is, falls, and}
 use lib.ListN.{length, length-set}
-use Rattle.text.specs.Decimals.{decimal-one, digits-length, first-digit, shorter, last-digit}
+use Rattle.laws.specs.Decimals.{decimal-one, digits-length, shorter}
+use Rattle.text.specs.Decimals.{first-digit, last-digit}
 use Rattle.text.proofs.numbers.put_decimal.Reads as reads
 use Rattle.text.proofs.numbers.put_decimal.Kinds as kinds
 use Rattle.text.proofs.numbers.+put_decimal.Lts-put_decimal as lts

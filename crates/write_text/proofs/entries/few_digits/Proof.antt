@@ -1,7 +1,7 @@
 -- `write_text::entries::few_digits` meets its contract.
 use mathlib.Core.Path.{sym, ap}
 use lib.ListN.{length}
-use Rattle.text.specs.Decimals.{decimal-one}
+use Rattle.laws.specs.Decimals.{decimal-one}
 use native.Mathlib.Omega.{arith}
 use Rattle.write_text.specs.Lengths.{decimal-length}
 use Rattle.write_text.proofs.entries.few_digits.Statement.{statement}
