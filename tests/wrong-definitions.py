@@ -2,7 +2,7 @@
 """Wrong definitions that the theorems must refuse by themselves.
 
 Each edit changes crate `definitions` in a copy of the repository. Of crates `laws` and `demands` the copy keeps just what
-the third demand's theorems rest on (demands, Pairing), and nothing of the starred table. They are proved again over the wrong
+the third demand's theorems (demands, Pairing) and those of text and replies (Pinned) rest on, and nothing of the tables. They are proved again over the wrong
 definition; a theorem has to fail, and the first that does is printed.
 """
 import pathlib
@@ -31,6 +31,15 @@ EDITS = [
     ("Plain that lets a comparison hold without its selector", "Meaning.antt",
      "All (λ j. T (inModel B model (selector j)) ↔ T (compares a (selection B j)))",
      "All (λ j. T (inModel B model (selector j)) → T (compares a (selection B j)))"),
+    ("good text with numbers beyond N", "Texts.antt",
+     "  pub known : All (λ n. natAbs n ≤ N) ns",
+     "  pub known : All (λ n. natAbs n ≤ most) ns"),
+    ("a good reply with 0 among its literals", "Texts.antt",
+     "  pub literals : All (λ n. (1 ≤ natAbs n) × (natAbs n ≤ N)) ns",
+     "  pub literals : All (λ n. (0 ≤ natAbs n) × (natAbs n ≤ N)) ns"),
+    ("18 at the last byte of a number beyond N", "TextReading.antt",
+     "(need 18 (p .start) (leb",
+     "(need 18 at (leb"),
 ]
 
 
@@ -45,9 +54,11 @@ def rests_on(crates, crate, module, kept):
 
 
 def prune(crates):
-    (crates / "definitions/specs/Examples.antt").unlink()
+    for table in ("Examples", "TextExamples"):
+        (crates / f"definitions/specs/{table}.antt").unlink()
     kept = set()
-    rests_on(crates, "demands", "Pairing", kept)
+    for theorems in ("Pairing", "Pinned"):
+        rests_on(crates, "demands", theorems, kept)
     for crate in ("laws", "demands"):
         for file in (crates / crate / "specs").glob("*.antt"):
             if file.stem != "Lib" and (crate, file.stem) not in kept:

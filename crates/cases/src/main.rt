@@ -11,8 +11,8 @@ use compile::compile;
 use decode::decode;
 use image::image;
 use judge::judge;
+use printing::put_bytes;
 use printing::put_list;
-use printing::put_model;
 use printing::put_sizing;
 use printing::put_verdict;
 use size::size;
@@ -136,7 +136,7 @@ fn imaged(name: &[u8], value: i32, byte: u8) {
         name,
         image(&BOOLEAN_OR_EARLY, &[value], &[byte], &mut model),
     );
-    put_model(&model);
+    put_bytes(&model);
 }
 
 fn plain_models() {

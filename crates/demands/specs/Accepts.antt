@@ -19,7 +19,7 @@ use Rattle.laws.specs.Readings.{same}
 use Rattle.demands.specs.Passed.{needed, of-length, for-each, and-then, made-of, lending-then, lending-made-of}
 
 -- ---- 10, 12, 14 and 13
-room : (n : ℕ) (list : List ℤ) → (need 10 n (leb n (length list)) ≡ done tt) ↔ (n ≤ length list)
+pub room : {A : Type 0} (n : ℕ) (list : List A) → (need 10 n (leb n (length list)) ≡ done tt) ↔ (n ≤ length list)
 room n list = needed 10 n (leb n (length list)) (at-most n (length list))
 
 pub bytes : (l : List ℕ) → (bits l ≡ done tt) ↔ All (λ b. b ≤ 1) l

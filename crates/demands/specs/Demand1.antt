@@ -47,7 +47,7 @@ module _ (s : List ℕ) (bytes : All (λ b. b < 256) s) where
   accepts-exactly-what-01-admits B = accepted-exactly s B bytes
 
   -- an answer that is refused with the record, and is otherwise given exactly where P holds of its board
-  exactly : {A : Type 0} {a : A} (r : Result A) (P : Board → Type 0) → ((n d : ℕ) → accepted s ≡ refused n d → r ≡ refused n d)
+  pub exactly : {A : Type 0} {a : A} (r : Result A) (P : Board → Type 0) → ((n d : ℕ) → accepted s ≡ refused n d → r ≡ refused n d)
       → ((B : Board) → accepted s ≡ done B → (r ≡ done a) ↔ P B) → (r ≡ done a) ↔ ((B : Board) × Admits s B × P B)
   exactly {A} {a} r P none some = (to (accepted s) refl, λ h. some (h .0) (accepts-exactly-what-01-admits (h .0) .1 (h .1)) .1 (h .2))
     where

@@ -36,20 +36,23 @@ pub use Rattle.demands.specs.OneList.{one-list-serves, the-list-answers-
 -- what a driver does, with every function that replies truly; and there is one
 pub use Rattle.demands.specs.Earliest.{a-driver-asks-14-questions-at-most, a-driver-finds-the-least}
 pub use Rattle.demands.specs.Tried.{isSolved-decides, trying-all-finds-the-least}
--- ---- text and replies (02, P2), for all bytes, and for every N of 32 bits that a reply is read for
--- "the first line as printed, .. then numbers parted by runs of spaces or newlines": text is read exactly if it is good
-pub use Rattle.demands.specs.GoodTexts.{text-is-read-exactly-if-good}
+-- ---- text and replies (02, P2): for all bytes, and for every N of 32 bits that a reply is read for
 -- "a writer of an accepted record's DIMACS CNF text, as the program prints it"
 pub use Rattle.demands.specs.TextWritten.{the-writer-writes-it, the-program-prints-it, what-is-written-is-good}
+-- "a reader of such text": it is read as N, M and a list exactly if it is good text of them
+pub use Rattle.demands.specs.GoodTexts.{text-is-read-exactly-if-good}
+-- "a reader of a reply", "the line `s UNSATISFIABLE` alone is answered 'none'": it is read exactly if it is good
+pub use Rattle.demands.specs.GoodReplies.{a-reply-is-read-exactly-if-good}
+-- the first demand: what is accepted, whose refusals are passed on, and that a refusal changes nothing
+pub use Rattle.demands.specs.TextDemand1.{write-text-accepts-exactly, read-text-accepts-exactly, a-model-is-answered-exactly, none-is-answered-exactly}
+pub use Rattle.demands.specs.TextDemand1.{write-text-passes-it-on, read-text-passes-it-on, read-reply-passes-it-on}
+pub use Rattle.demands.specs.TextDemand1.{write-text-refusal-changes-nothing, read-text-refusal-changes-nothing, read-reply-refusal-changes-nothing}
 -- "Reading what was written gives the list again."
 pub use Rattle.demands.specs.TextWritten.{reading-what-was-written-gives-the-list, reading-what-was-written-is-compiling}
--- "the line `s SATISFIABLE`, then lines of `v` ..", "`s UNSATISFIABLE` alone is answered 'none', without 19 or 11"
-pub use Rattle.demands.specs.GoodReplies.{a-reply-is-read-exactly-if-good}
-pub use Rattle.demands.specs.ReplyModels.{none-is-none}
 -- "18 bad text, detail the offset of the first number beyond N or past clause M, or of an earlier byte that no good text has there, else the text's length"
 pub use Rattle.demands.specs.Pinned.{bad-text-is-pinned, a-bad-reply-is-pinned}
--- "then 19, a variable missing or present twice, detail the least such number"; "11 for the model"
-pub use Rattle.demands.specs.ReplyModels.{all-once-or-one-is-least, refused-with-19-at-the-least, refused-with-11-for-its-length, a-model-is-read}
+-- "'none', without 19 or 11"; "then 19, a variable missing or present twice, detail the least such number"; "11 for the model"
+pub use Rattle.demands.specs.ReplyModels.{none-is-none, all-once-or-one-is-least, refused-with-19-at-the-least, refused-with-11-for-its-length, a-model-is-read}
 -- a model has exactly the reply's literals
 pub use Rattle.demands.specs.ReplyModels.{the-model-has-exactly-the-literals, the-model-has-N-bytes}
 -- ---- the paper's own statements

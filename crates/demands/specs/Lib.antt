@@ -31,4 +31,5 @@ pub mod Details
 pub mod Pinned
 pub mod TextWritten
 pub mod ReplyModels
+pub mod TextDemand1
 pub mod Demands

@@ -33,5 +33,6 @@ pub mod Ahead
 pub mod Refusals
 pub mod Explained
 pub mod Boards
+pub mod Signs
 pub mod Decimals
 pub mod Stepping

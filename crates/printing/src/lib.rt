@@ -3,7 +3,9 @@ use answers::detail_of;
 use answers::number_of;
 use definitions::Hour;
 use definitions::Refusal;
+use definitions::Replied;
 use definitions::Sizing;
+use definitions::Texted;
 use definitions::Verdict;
 use libc::STDOUT_FILENO;
 
@@ -48,6 +50,43 @@ pub fn put_verdict(name: &[u8], verdict: Verdict) {
             put_refusal(r);
         }
     }
+    put(b"\n");
+}
+
+// What the writer of text answers.
+pub fn put_texted(name: &[u8], texted: Texted) {
+    put(name);
+    match texted {
+        Texted::Length(n) => {
+            put_size(b": length ", n);
+        }
+        Texted::Refused(r) => {
+            put_refusal(r);
+        }
+    }
+    put(b"\n");
+}
+
+// What the reader of a reply answers.
+pub fn put_replied(name: &[u8], replied: Replied) {
+    put(name);
+    match replied {
+        Replied::Model => {
+            put(b": a model");
+        }
+        Replied::None => {
+            put(b": none");
+        }
+        Replied::Refused(r) => {
+            put_refusal(r);
+        }
+    }
+    put(b"\n");
+}
+
+// Bytes as text, and a line's end.
+pub fn put_text(text: &[u8]) {
+    put(text);
     put(b"\n");
 }
 
@@ -114,15 +153,13 @@ fn put_byte(byte: u8) {
     put_size(b" ", byte as usize);
 }
 
-// A model as it was left.
-pub fn put_model(model: &[u8; 7]) {
+// Bytes as they were left: all of them in one line.
+pub fn put_bytes(bytes: &[u8]) {
     put(b"left:");
-    put_byte(model[0]);
-    put_byte(model[1]);
-    put_byte(model[2]);
-    put_byte(model[3]);
-    put_byte(model[4]);
-    put_byte(model[5]);
-    put_byte(model[6]);
+    let mut i: usize = 0;
+    while i < bytes.len() {
+        put_byte(bytes[i]);
+        i += 1;
+    }
     put(b"\n");
 }

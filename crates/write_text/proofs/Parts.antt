@@ -31,7 +31,7 @@ use Rattle.walk.specs.declared.At.the-variants.{Tuple, End}
 use Rattle.walk.specs.Walks.{placesOf, seen, tuplesLeft, Over}
 use Rattle.walk.specs.Comparisons.{Walking, literalsAt, present, toCome, none-left}
 use Rattle.walk.specs.Rows.{frontOf}
-use Rattle.writing.specs.Signs.{plus-is, minus-is}
+use Rattle.laws.specs.Signs.{plus-is, minus-is}
 use Rattle.writing.specs.Axioms.{stepsFrom, axiomNumbers, steps-more}
 use Rattle.writing.specs.Numbers.{numbersOf, clause, led, led-none, led-more}
 

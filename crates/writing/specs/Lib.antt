@@ -1,4 +1,3 @@
-pub mod Signs
 pub mod Numbers
 pub mod Axioms
 pub mod Lines
