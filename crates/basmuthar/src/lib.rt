@@ -14,6 +14,7 @@ pub use definitions::Verdict;
 pub use image::image;
 pub use judge::judge;
 pub use replies::lists::read_text;
+pub use replies::models::read_reply;
 pub use size::size;
 pub use write_text::write_text;
 ghost use mathlib.Core.Path.{_≡_};
@@ -84,6 +85,16 @@ fn length_written(texted: Texted) -> [u64; 4]
     match texted {
         Texted::Length(n) => [0, n as u64, 0, 0],
         Texted::Refused(r) => refusal_written(r),
+    }
+}
+
+fn reply_written(replied: Replied) -> [u64; 4]
+    ensures { λ a. ⌜ a ≡ replyWritten (saidReplied replied) ⌝ }
+{
+    match replied {
+        Replied::Model => [0, 0, 0, 0],
+        Replied::None => [0, 1, 0, 0],
+        Replied::Refused(r) => refusal_written(r),
     }
 }
 
@@ -166,4 +177,11 @@ pub extern "C" fn basmuthar_read_text(text: &[u8], list: &mut [i32], answer: &mu
     ensures { λ _. ⌜ ReadTextLeaves (now (text .entry)) (now (list .entry)) (now (answer .exit)) (now (list .exit)) ⌝ }
 {
     *answer = sizes_written(read_text(text, list));
+}
+
+#[no_mangle]
+pub extern "C" fn basmuthar_read_reply(n: u32, text: &[u8], model: &mut [u8], answer: &mut [u64; 4])
+    ensures { λ _. ⌜ ReadReplyLeaves (now (text .entry)) n (now (model .entry)) (now (answer .exit)) (now (model .exit)) ⌝ }
+{
+    *answer = reply_written(read_reply(n, text, model));
 }

@@ -41,7 +41,7 @@ above i v = elim (cases (eqb i v)) [
 ]
 
 module _ (f : ℕ → Bool) where
-  every-passes : (i n : ℕ) → Every f i n → each 19 i (map f (countUp i n)) ≡ done tt
+  pub every-passes : (i n : ℕ) → Every f i n → each 19 i (map f (countUp i n)) ≡ done tt
   every-passes i zero h = refl
   every-passes i (suc n) h = rw (h i (omega arith) (omega arith)) (every-passes (suc i) n (λ v l m. h v (omega arith) (omega arith)))
 

@@ -4,4 +4,6 @@ pub mod Bytes
 pub mod Texts
 pub mod Replied
 pub mod Lists
+pub mod Marks
+pub mod Models
 pub mod Outcome

@@ -1,6 +1,6 @@
 -- Text and replies read part by part. Each part answers its value, the place after it and the bytes from there on.
 use lib.IntN.{natAbs}
-use Rattle.definitions.specs.Tools.{ℕ, suc, _+_, _*_, _-_, Bool, true, ℤ, List, [], _∷_, length, if_then_else_, ltb, leb, eqb, _&&_}
+use Rattle.definitions.specs.Tools.{ℕ, suc, _+_, _*_, _-_, _≤_, _≡_, Bool, true, ℤ, List, [], _∷_, length, drop, if_then_else_, ltb, leb, eqb, _&&_}
 use Rattle.definitions.specs.Result.{Result, _>>=_, _>>_, need, done, refused}
 use Rattle.definitions.specs.Operations.{Sizes}
 use Rattle.definitions.specs.Dimacs.{ascii}
@@ -132,3 +132,16 @@ noneAt at t = wordAt (ascii "UNSATISFIABLE\n") at t >>= λ p. nothing none (p .0
 
 abbrev pub modelAt : ℕ → ℕ → List ℕ → Result Reply
 modelAt N at t = wordAt (ascii "SATISFIABLE\n") at t >>= λ p. replyFrom (lines N) (p .0) (p .1)
+
+-- the literals that are read from a place on, and that there a model is read
+abbrev pub literalsOf : Result Reply → List ℤ
+literalsOf (done (model ns)) = ns
+literalsOf (done none) = []
+literalsOf (refused n d) = []
+
+abbrev pub literalsFrom : ℕ → ℕ → List ℕ → List ℤ
+literalsFrom N from t = literalsOf (replyFrom (lines N) from (drop from t))
+
+pub record HasModel (N from : ℕ) (t : List ℕ) : Type 0 where
+  pub inside : from ≤ length t
+  pub is : replyFrom (lines N) from (drop from t) ≡ done (model (literalsFrom N from t))

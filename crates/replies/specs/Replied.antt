@@ -15,6 +15,7 @@ use borrow.Author.Tests.{eq-eqb, ne-eqb, eqb-true, eqb-false, ltb-true, ltb-fals
 use Rattle.definitions.specs.Tools.{if_then_else_}
 use Rattle.definitions.specs.Result.{Result, _>>=_, _>>_, need, done, refused}
 use Rattle.definitions.specs.Dimacs.{ascii}
+use Rattle.laws.specs.Readings.{never}
 use Rattle.definitions.specs.Texts.{blank}
 use Rattle.definitions.specs.TextReading.{Number, valueOf, whole, begun, grown, reply, Reply, model, none, State, verdict, number, within, over, awaits, stops, fed, endReply, readReply}
 use Rattle.definitions.specs.TextOperations.{often}
@@ -22,8 +23,9 @@ use Rattle.laws.specs.Stepping.{num, cases}
 use Rattle.demands.specs.Reached.{value-size}
 use Rattle.demands.specs.ReplyModels.{AllOnce}
 use Rattle.replies.specs.declared.Value.{Value}
-use Rattle.replies.specs.Parts.{wordAt, numberFrom, numberAt, replyFrom, nothing, Taken, last, more, afterNumber, numberOn, valueAt, wanted, lines, inOrder, Summary, without, literals, summed, noneAt, modelAt}
-use Rattle.replies.specs.Said.{valueIn}
+use Rattle.replies.specs.declared.Heard.{Heard}
+use Rattle.replies.specs.Parts.{wordAt, numberFrom, numberAt, replyFrom, nothing, Taken, last, more, afterNumber, numberOn, valueAt, wanted, lines, inOrder, Summary, without, literals, summed, noneAt, modelAt, literalsOf, literalsFrom, HasModel}
+use Rattle.replies.specs.Said.{valueIn, saidHeard, heardIn}
 use Rattle.replies.specs.Bytes.{nothing-left, first-of, second-of}
 use Rattle.replies.specs.Texts.{from-step, word-parts}
 
@@ -149,7 +151,7 @@ module _ (N : ℕ) (ns : List ℤ) where
       go (refused n d) = refl
 
   module _ (line : Bool) (at : ℕ) (t : List ℕ) where
-    taken-is : {f : Taken} → valueAt N line at t ≡ done f → replyFrom (wanted N ns line) at t ≡ onTaken f
+    pub taken-is : {f : Taken} → valueAt N line at t ≡ done f → replyFrom (wanted N ns line) at t ≡ onTaken f
     taken-is h = values-go line at t ∙ ap (λ m. m >>= onTaken) h
 
     taken-bad : {n d : ℕ} → valueAt N line at t ≡ refused n d → replyFrom (wanted N ns line) at t ≡ refused n d
@@ -172,49 +174,103 @@ order-snoc k (n ∷ ns) z =
     go false b c = refl
 
 -- what is read so far of a reply's literals
-pub record Literals (N from : ℕ) (line : Bool) (count : ℕ) (rising : Bool) (at : ℕ) (t : List ℕ) : Type 0 where
+pub record Passed (N from : ℕ) (line : Bool) (at : ℕ) (t : List ℕ) : Type 0 where
   pub ns : List ℤ
-  pub long : length ns ≡ count
-  pub order : inOrder 1 ns ≡ rising
-  pub short : count ≤ at
   pub inside : at ≤ length t
   pub goes : replyFrom (wanted N ns line) at (drop at t) ≡ replyFrom (lines N) from (drop from t)
 
 module _ (N from : ℕ) (t : List ℕ) where
+  unfoldable pub passed-none : from ≤ length t → Passed N from true from t
+  passed-none h = record { ns = []; inside = h; goes = refl }
+
+  module _ {line : Bool} {at : ℕ} (k : Passed N from line at t) where
+    unfoldable pub passed-more : {z : ℤ} {begins : Bool} {next : ℕ} → valueAt N line at (drop at t) ≡ done (more z begins next (drop next t)) → next ≤ length t → Passed N from begins next t
+    passed-more {z} f m = record { ns = k .ns ++ (z ∷ []); inside = m; goes = sym (taken-is N (k .ns) line at (drop at t) f) ∙ k .goes }
+
+    pub passed-all : valueAt N line at (drop at t) ≡ done last → replyFrom (lines N) from (drop from t) ≡ done (model (k .ns))
+    passed-all f = sym (k .goes) ∙ taken-is N (k .ns) line at (drop at t) f
+
+    pub passed-bad : {n d : ℕ} → valueAt N line at (drop at t) ≡ refused n d → replyFrom (lines N) from (drop from t) ≡ refused n d
+    passed-bad f = sym (k .goes) ∙ taken-bad N (k .ns) line at (drop at t) f
+
+-- ---- what is counted of them
+pub record Literals (N from : ℕ) (line : Bool) (count : ℕ) (rising : Bool) (at : ℕ) (t : List ℕ) : Type 0 where
+  pub passed : Passed N from line at t
+  pub long : length (passed .ns) ≡ count
+  pub order : inOrder 1 (passed .ns) ≡ rising
+  pub short : count ≤ at
+
+module _ (N from : ℕ) (t : List ℕ) where
   pub literals-none : from ≤ length t → Literals N from true 0 true from t
-  literals-none h = record { ns = []; long = refl; order = refl; short = omega arith; inside = h; goes = refl }
+  unfolding passed-none
+  literals-none h = record { passed = passed-none N from t h; long = refl; order = refl; short = omega arith }
 
   module _ {line : Bool} {count : ℕ} {rising : Bool} {at : ℕ} (k : Literals N from line count rising at t) where
     pub literals-more : (minus : Bool) (size : ℕ) (begins : Bool) (next : ℕ) (rises : Bool)
         → valueAt N line at (drop at t) ≡ done (more (valueOf (num 0 minus size)) begins next (drop next t)) → at < next → next ≤ length t
         → rises ≡ (rising && eqb size (count + 1)) → Literals N from begins (count + 1) rises next t
+    unfolding passed-more
     literals-more minus size begins next rises f l m r =
         let z = valueOf (num 0 minus size) in
-        let e : 1 + length (k .ns) ≡ count + 1 = omega (arith, k .long) in
+        let ns = k .passed .ns in
+        let e : 1 + length ns ≡ count + 1 = omega (arith, k .long) in
         record {
-          ns = k .ns ++ (z ∷ []);
-          long = omega (arith, length-append (k .ns) (z ∷ []), k .long);
-          order = order-snoc 1 (k .ns) z
-              ∙ ap (λ a. a && eqb (natAbs z) (1 + length (k .ns))) (k .order)
-              ∙ ap (λ a. rising && eqb a (1 + length (k .ns))) (value-size (num 0 minus size))
+          passed = passed-more N from t (k .passed) f m;
+          long = omega (arith, length-append ns (z ∷ []), k .long);
+          order = order-snoc 1 ns z
+              ∙ ap (λ a. a && eqb (natAbs z) (1 + length ns)) (k .order)
+              ∙ ap (λ a. rising && eqb a (1 + length ns)) (value-size (num 0 minus size))
               ∙ ap (λ a. rising && eqb size a) e
               ∙ sym r;
           short = omega (arith, k .short);
-          inside = m;
-          goes = sym (taken-is N (k .ns) line at (drop at t) f) ∙ k .goes;
         }
 
     pub literals-all : valueAt N line at (drop at t) ≡ done last → done (literals count rising) ≡ summed (replyFrom (lines N) from (drop from t))
     literals-all f =
         ap (λ c. done (literals c rising)) (sym (k .long))
-        ∙ ap (λ b. done (literals (length (k .ns)) b)) (sym (k .order))
-        ∙ ap summed (sym (taken-is N (k .ns) line at (drop at t) f) ∙ k .goes)
+        ∙ ap (λ b. done (literals (length (k .passed .ns)) b)) (sym (k .order))
+        ∙ ap summed (sym (passed-all N from t (k .passed) f))
 
     pub literals-bad : (d : ℕ) → valueAt N line at (drop at t) ≡ refused 18 d → refused 18 d ≡ summed (replyFrom (lines N) from (drop from t))
-    literals-bad d f = ap summed (sym (taken-bad N (k .ns) line at (drop at t) f) ∙ k .goes)
+    literals-bad d f = ap summed (sym (passed-bad N from t (k .passed) f))
+
+-- ---- what is made of them: of the literals read so far, and at the end of all
+pub record Passing {A : Type 0} (f : List ℤ → A) (N from : ℕ) (line : Bool) (at : ℕ) (t : List ℕ) (now : A) : Type 0 where
+  pub passed : Passed N from line at t
+  pub held : now ≡ f (passed .ns)
+
+module _ {A : Type 0} (f : List ℤ → A) (N from : ℕ) (t : List ℕ) where
+  pub passing-none : {now : A} → from ≤ length t → now ≡ f [] → Passing f N from true from t now
+  unfolding passed-none
+  passing-none h e = record { passed = passed-none N from t h; held = e }
+
+  module _ {line : Bool} {at : ℕ} {now : A} (k : Passing f N from line at t now) where
+    pub passing-more : {z : ℤ} {begins : Bool} {next : ℕ} {after : A} → valueAt N line at (drop at t) ≡ done (more z begins next (drop next t)) → next ≤ length t
+        → ((ns : List ℤ) → now ≡ f ns → after ≡ f (ns ++ (z ∷ []))) → Passing f N from begins next t after
+    unfolding passed-more
+    passing-more h m e = record { passed = passed-more N from t (k .passed) h m; held = e (k .passed .ns) (k .held) }
+
+    pub passing-all : valueAt N line at (drop at t) ≡ done last → now ≡ f (literalsFrom N from t)
+    passing-all h = k .held ∙ ap (λ m. f (literalsOf m)) (sym (passed-all N from t (k .passed) h))
+
+    pub passing-bad : HasModel N from t → {n d : ℕ} → valueAt N line at (drop at t) ≡ refused n d → now ≡ f (literalsFrom N from t)
+    passing-bad g h = never (sym (passed-bad N from t (k .passed) h) ∙ g .is)
 
 -- ---- a whole reply
+no-literals : {B : Type 0} {count : ℕ} {rising : Bool} (w : Result (ℕ × List ℕ)) → done (literals count rising) ≡ summed (w >>= λ p. nothing none (p .0) (p .1)) → B
+no-literals (refused n d) e = never (sym e)
+no-literals {B} {count} {rising} (done p) e = go (p .1) e
+  where
+    go : (u : List ℕ) → done (literals count rising) ≡ summed (nothing none (p .0) u) → B
+    go [] e = absurd (let z : _≡_ {A = ℕ} 0 1 = cc in omega arith)
+    go (b ∷ u) e = never (sym e)
+
 module _ (at : ℕ) (t : List ℕ) where
+  pub none-in : (N : ℕ) (s : List ℕ) (m : Result Reply) (r : Heard) → saidHeard r ≡ summed (noneAt at t) → heardIn N s m r
+  none-in N s m Heard.Nothing e = tt
+  none-in N s m (Heard.Literals from count rising) e = no-literals (wordAt (ascii "UNSATISFIABLE\n") at t) e
+  none-in N s m (Heard.Bad d) e = tt
+
   pub none-wrong : {n d : ℕ} → wordAt (ascii "UNSATISFIABLE\n") at t ≡ refused n d → refused n d ≡ summed (noneAt at t)
   none-wrong h = sym (ap summed (ap (λ m. m >>= λ p. nothing none (p .0) (p .1)) h))
 
@@ -236,11 +292,14 @@ module _ (at : ℕ) (t : List ℕ) where
     model-wrong h = sym (ap summed (ap (λ m. m >>= onLines) h))
 
     module _ {next : ℕ} {u : List ℕ} (h : wordAt (ascii "SATISFIABLE\n") at t ≡ done (next, u)) where
+      pub model-from : modelAt N at t ≡ replyFrom (lines N) next u
+      model-from = ap (λ m. m >>= onLines) h
+
       pub model-is : {z : Summary} → summed (replyFrom (lines N) next u) ≡ done z → done z ≡ summed (modelAt N at t)
-      model-is e = sym (ap summed (ap (λ m. m >>= onLines) h) ∙ e)
+      model-is e = sym (ap summed model-from ∙ e)
 
       pub model-bad : {n d : ℕ} → summed (replyFrom (lines N) next u) ≡ refused n d → refused n d ≡ summed (modelAt N at t)
-      model-bad e = sym (ap summed (ap (λ m. m >>= onLines) h) ∙ e)
+      model-bad e = sym (ap summed model-from ∙ e)
 
 module _ (N : ℕ) where
   abbrev judged : ℕ → List ℕ → Result Reply
@@ -288,10 +347,10 @@ module _ (N : ℕ) (t : List ℕ) where
         let is : drop next t ≡ 85 ∷ drop (suc next) t = drop-cons t next 0 l ∙ ap (λ b. b ∷ drop (suc next) t) e in
         ap summed (ap (noneAt next) is ∙ sym (judged-none N next (drop (suc next) t)) ∙ ap (judged N next) (sym is) ∙ sym reply-on)
 
-    pub reply-model : next < length t → (getD t next 0 ≡ 85 → ⊥) → summed (modelAt N next (drop next t)) ≡ summed (readReply N t)
+    pub reply-model : next < length t → (getD t next 0 ≡ 85 → ⊥) → modelAt N next (drop next t) ≡ readReply N t
     reply-model l e =
         let is = drop-cons t next 0 l in
-        ap summed (ap (modelAt N next) is ∙ sym (judged-model N next (getD t next 0) (drop (suc next) t) e) ∙ ap (judged N next) (sym is) ∙ sym reply-on)
+        ap (modelAt N next) is ∙ sym (judged-model N next (getD t next 0) (drop (suc next) t) e) ∙ ap (judged N next) (sym is) ∙ sym reply-on
 
 -- ---- literals of 1, 2, .. in order: each variable stands there once
 often-before : (k v : ℕ) (ns : List ℤ) → inOrder k ns ≡ true → v < k → often v ns ≡ 0
@@ -300,7 +359,7 @@ often-before k v (n ∷ ns) h l =
     let e = eqb-true (natAbs n) k (first-of (eqb (natAbs n) k) (inOrder (suc k) ns) h) in
     rw (ne-eqb (natAbs n) v (λ z. omega (arith, e, z))) (often-before (suc k) v ns (second-of (eqb (natAbs n) k) (inOrder (suc k) ns) h) (omega arith))
 
-often-once : (k v : ℕ) (ns : List ℤ) → inOrder k ns ≡ true → k ≤ v → v < k + length ns → often v ns ≡ 1
+pub often-once : (k v : ℕ) (ns : List ℤ) → inOrder k ns ≡ true → k ≤ v → v < k + length ns → often v ns ≡ 1
 often-once k v [] h l m = absurd (omega arith)
 often-once k v (n ∷ ns) h l m = elim (cases (eqb (natAbs n) v)) [
   | inl f ↦ (let y = eqb-true (natAbs n) v f in rw f (ap suc (often-before (suc k) v ns (second-of (eqb (natAbs n) k) (inOrder (suc k) ns) h) (omega (arith, e, y)))))

@@ -1,11 +1,11 @@
 -- What the parts of the reader answer, as Parts.antt has it, and where: not before `from`, nor past the text's end.
-use Rattle.definitions.specs.Tools.{ℕ, _≤_, _≡_, Bool, List, drop, length}
+use Rattle.definitions.specs.Tools.{ℕ, _≤_, _≡_, Bool, true, false, List, drop, length}
 use Prim.Native.Nat.{_<_}
 use Rattle.definitions.specs.Result.{Result, done, refused}
-use Rattle.definitions.specs.TextReading.{Number, valueOf}
+use Rattle.definitions.specs.TextReading.{Number, valueOf, Reply}
 use Rattle.laws.specs.Stepping.{num}
 use Rattle.definitions.specs.Operations.{Sizes}
-use Rattle.replies.specs.Parts.{Found, ends, holds, sizes, Taken, last, more, Summary, without, literals}
+use Rattle.replies.specs.Parts.{Found, ends, holds, sizes, replyFrom, lines, Taken, last, more, Summary, without, literals}
 use Rattle.replies.specs.declared.Word.{Word}
 use Rattle.replies.specs.declared.Count.{Count}
 use Rattle.replies.specs.declared.Grown.{Grown}
@@ -90,3 +90,9 @@ abbrev pub saidHeard : Heard → Result Summary
 saidHeard Heard.Nothing = done without
 saidHeard (Heard.Literals from count rising) = done (literals count rising)
 saidHeard (Heard.Bad d) = refused 18 d
+
+-- the lines of a model begin there
+abbrev pub heardIn : ℕ → List ℕ → Result Reply → Heard → Type 0
+heardIn N t m Heard.Nothing = Unit {0}
+heardIn N t m (Heard.Literals from count rising) = (from ≤ length t) × (m ≡ replyFrom (lines N) from (drop from t))
+heardIn N t m (Heard.Bad d) = Unit {0}

@@ -6,6 +6,8 @@ pub mod values; // values.rt: the numbers of a reply
 pub mod reply; // reply.rt: a whole reply
 pub mod line; // line.rt: the first line, and the check of a whole text
 pub mod lists; // lists.rt: text read into a lent list
+pub mod marks; // marks.rt: a variable that does not stand in a reply exactly once
+pub mod models; // models.rt: a reply read into a lent model
 
 pub enum Word {
     Past(usize),

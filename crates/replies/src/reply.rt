@@ -4,7 +4,7 @@ ghost use Prim.Native.Nat.{_≤_};
 ghost use lib.ListN.{length, drop};
 ghost use Rattle.definitions.specs.TextReading.{readReply};
 ghost use Rattle.replies.specs.Parts.{summed, noneAt, modelAt};
-ghost use Rattle.replies.specs.Said.{saidHeard};
+ghost use Rattle.replies.specs.Said.{saidHeard, heardIn};
 use super::Heard;
 use super::Listed;
 use super::Word;
@@ -28,7 +28,7 @@ fn no_model(text: &[u8], from: usize) -> Heard
 
 fn a_model(text: &[u8], n: u32, from: usize) -> Heard
     requires { ⌜ from ≤ length (now text) ⌝ }
-    ensures { λ r. ⌜ saidHeard r ≡ summed (modelAt n from (drop from (now (text .entry)))) ⌝ }
+    ensures { λ r. ⌜ (saidHeard r ≡ summed (modelAt n from (drop from (now (text .entry))))) × heardIn n (now (text .entry)) (modelAt n from (drop from (now (text .entry)))) r ⌝ }
 {
     match word_at(text, b"SATISFIABLE\n", from) {
         Word::Past(next) => match count_values(text, n, next) {
@@ -45,7 +45,7 @@ fn a_model(text: &[u8], n: u32, from: usize) -> Heard
 
 // 'None', or the count of literals and whether they are in order, or the detail of 18.
 pub fn check_reply(text: &[u8], n: u32) -> Heard
-    ensures { λ r. ⌜ saidHeard r ≡ summed (readReply n (now (text .entry))) ⌝ }
+    ensures { λ r. ⌜ (saidHeard r ≡ summed (readReply n (now (text .entry)))) × heardIn n (now (text .entry)) (readReply n (now (text .entry))) r ⌝ }
 {
     match word_at(text, b"s ", 0) {
         Word::Past(next) => {

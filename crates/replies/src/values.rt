@@ -53,7 +53,7 @@ fn number_on(text: &[u8], n: u32, from: usize) -> Value
 }
 
 // The next number, at a line's beginning or in it.
-fn value_at(text: &[u8], n: u32, line: bool, from: usize) -> Value
+pub fn value_at(text: &[u8], n: u32, line: bool, from: usize) -> Value
     requires { ⌜ from ≤ length (now text) ⌝ }
     ensures { λ r. ⌜ (saidValue (now (text .entry)) r ≡ valueAt n line from (drop from (now (text .entry)))) × valueIn from (now (text .entry)) r ⌝ }
 {

@@ -1,8 +1,10 @@
 -- `replies::reply::check_reply` meets its contract.
-use mathlib.Core.Path.{_∙_}
-use Rattle.replies.specs.Said.{saidWord}
+use mathlib.Core.Path.{ap, _∙_, subst}
+use lib.ListN.{drop}
+use Rattle.replies.specs.Said.{saidWord, heardIn}
+use Rattle.replies.specs.Parts.{summed}
 use Rattle.replies.specs.Bytes.{told}
-use Rattle.replies.specs.Replied.{reply-wrong, reply-ends, reply-none, reply-model}
+use Rattle.replies.specs.Replied.{none-in, reply-wrong, reply-ends, reply-none, reply-model}
 use borrow.Author.Needs.{needs}
 use Rattle.replies.proofs.reply.check_reply.Statement.{statement}
 use Rattle.replies.proofs.reply.check_reply.Tie as tie
@@ -21,7 +23,7 @@ returns c =
     let args = c .before .before .before .before .before .before .before .args in
     let word-at = c .before .before .before .before .word-at in
     let next = c .before .before .next in
-    reply-ends (args .n) (args .text .now) (told (saidWord (args .text .now)) (word-at .ensures .0) (next .given .1)) (c .if1 .taken)
+    (reply-ends (args .n) (args .text .now) (told (saidWord (args .text .now)) (word-at .ensures .0) (next .given .1)) (c .if1 .taken), tt)
 
 shared-slice-read-if2 : tie.Need-shared-slice-read-if2
 shared-slice-read-if2 c = search needs
@@ -35,7 +37,7 @@ returns-2 c =
     let word-at = c .before .before .before .before .before .before .before .word-at in
     let next = c .before .before .before .before .before .next in
     let if1 = c .before .before .before .if1 in
-    c .no-model .ensures ∙ reply-none (args .n) (args .text .now) (told (saidWord (args .text .now)) (word-at .ensures .0) (next .given .1)) (if1 .left) (c .before .if2 .taken)
+    (c .no-model .ensures ∙ reply-none (args .n) (args .text .now) (told (saidWord (args .text .now)) (word-at .ensures .0) (next .given .1)) (if1 .left) (c .before .if2 .taken), none-in (next .given .0 .0) (drop (next .given .0 .0) (args .text .now)) (args .n) (args .text .now) _ (c .no-model .result) (c .no-model .ensures))
 
 a-model-requires : tie.Need-a-model-requires
 a-model-requires c κs = search needs
@@ -49,13 +51,14 @@ returns-3 c =
     let word-at = c .before .before .before .before .before .before .before .word-at in
     let next = c .before .before .before .before .before .next in
     let if1 = c .before .before .before .if1 in
-    c .a-model .ensures ∙ reply-model (args .n) (args .text .now) (told (saidWord (args .text .now)) (word-at .ensures .0) (next .given .1)) (if1 .left) (c .before .if2 .left)
+    let whole = reply-model (args .n) (args .text .now) (told (saidWord (args .text .now)) (word-at .ensures .0) (next .given .1)) (if1 .left) (c .before .if2 .left) in
+    (c .a-model .ensures .0 ∙ ap summed whole, subst (λ m. heardIn (args .n) (args .text .now) m (c .a-model .result)) whole (c .a-model .ensures .1))
 
 returns-4 : tie.Need-returns-4
 returns-4 c =
     let args = c .before .before .before .before .before .before .args in
     let word-at = c .before .before .before .word-at in
-    reply-wrong (args .n) (args .text .now) (told (saidWord (args .text .now)) (word-at .ensures .0) (c .before .d .given .1))
+    (reply-wrong (args .n) (args .text .now) (told (saidWord (args .text .now)) (word-at .ensures .0) (c .before .d .given .1)), tt)
 
 pub check-reply-spec : {M : Type 1} → statement M
 check-reply-spec =
