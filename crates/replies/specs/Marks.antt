@@ -15,7 +15,6 @@ use Rattle.definitions.specs.Tools.{if_then_else_, countUp}
 use Rattle.definitions.specs.Result.{Result, _>>_, done, refused, each}
 use Rattle.laws.specs.Lists.{counted-at, length-countUp, countUp-append, all-countUp, map-same}
 use Rattle.laws.specs.Readings.{never}
-use Rattle.laws.specs.Refusals.{refusal-is}
 use Rattle.laws.specs.Search.{seek-append}
 use Rattle.definitions.specs.TextReading.{valueOf}
 use Rattle.definitions.specs.TextOperations.{often}
