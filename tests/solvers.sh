@@ -4,9 +4,10 @@
 #
 #     tests/solvers.sh [HOW MANY BOARDS TO DRAW, 100 IF NOT SAID]
 #
-# The text of every board has to read as Compile's list. All solvers have to say the same of every board, every model has to decode to values that Judge accepts, and where a
-# board is small, trying all values has to say the same as the solvers: whether there is a solution, and which value of each
-# number is the least. The rules that board why names have no solution together, and without any one of them they have.
+# The text of every board has to read as Compile's list. All solvers have to say the same of every board, every model has to
+# decode to values that Judge accepts, also through examples/reply.c where the reply is in the library's form, and where a board is
+# small, trying all values has to say the same as the solvers: whether there is a solution, and which value of each number is the
+# least. The rules that board why names have no solution together, and without any one of them they have.
 # BASMUTHAR_LIB_DIR is as for the crate.
 set -euo pipefail
 cd "$(dirname "$0")/.."
@@ -54,6 +55,21 @@ verdict() {
         "$board" show "$file" "$values" >"$work/shown" || fail "$solver's values do not hold: $file"
     done
     echo SATISFIABLE
+}
+
+# The same reply through the example in C, which takes it only in the library's own form.
+in_c() {
+    local solver=$1 verdict=$2 status=0
+    case $solver in cadical | picosat) ;; *) return ;; esac
+    "$work/in_c" "$work/record" <"$work/reply" >"$work/values" 2>"$work/trouble" || status=$?
+    case $verdict$status in
+    UNSATISFIABLE3) ;;
+    SATISFIABLE0)
+        "$board" text "$work/record" >"$work/text.board"
+        "$board" show "$work/text.board" "$work/values" >"$work/shown" || fail "examples/reply.c: $solver's values do not hold"
+        ;;
+    *) fail "examples/reply.c ends with $status where $solver says $verdict: $(cat "$work/trouble")" ;;
+    esac
 }
 
 # The least value of a number by a solver, or `none`; what is printed has to read as a solution with that value.
@@ -131,6 +147,7 @@ through() {
         said=$(verdict "$solver" "$file")
         [ "$said" = "${first:-$said}" ] || fail "$solver says $said, ${solvers[0]} says $first: $file"
         first=$said
+        in_c "$solver" "$said"
     done
     tried=$("$try_all" "$work/record")
     if [ "$tried" != LARGE ]; then
@@ -164,6 +181,8 @@ built=${CARGO_TARGET_DIR:-rust/target}/release
 board=$built/board
 try_all=$built/examples/try_all
 same_list=$built/examples/same_list
+cc -std=c99 -O1 -Wall -Wextra -Wconversion -Wshadow -pedantic -Werror -Iinclude examples/reply.c \
+    "${BASMUTHAR_LIB_DIR:-target/staticlib}/libbasmuthar.a" -o "$work/in_c"
 
 small=0 satisfiable=0 unsatisfiable=0 found=0 none=0 clashes=0
 for file in boards/*.board; do through "$file"; done
