@@ -58,11 +58,15 @@ pub fn formed(printed: &str, variables: usize) -> Formed<'_> {
     formed
 }
 
-/// The lines that are not skipped. Where minisat says `SAT`, lines of numbers have no `v`.
+/// The lines that are not skipped. After minisat's `SAT`, lines of numbers have no `v`.
 fn lines_of(printed: &str) -> Vec<Line<'_>> {
-    let has_bare_numbers = printed.lines().any(|line| line.trim_end() == "SAT");
-    let numbered = printed.lines().zip(1..);
-    numbered.filter_map(|(line, number)| line_of(line, number, has_bare_numbers)).collect()
+    let mut has_bare_numbers = false;
+    let mut lines = Vec::new();
+    for (line, number) in printed.lines().zip(1..) {
+        lines.extend(line_of(line, number, has_bare_numbers));
+        has_bare_numbers |= line.trim_end() == "SAT";
+    }
+    lines
 }
 
 /// A line without the blanks and the carriage return at its end, unless it is blank or a comment.
@@ -215,6 +219,7 @@ mod tests {
             "s SATISFIABLE\nv -1 -2\n1 -2 0\n",
             "no `SAT`"
         );
+        assert_eq!(text("1 0\nSAT\n", 1), "s SATISFIABLE\nv -1\n1 0\n", "numbers come after `SAT`");
     }
 
     #[test]
