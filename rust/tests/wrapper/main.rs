@@ -3,6 +3,7 @@
 mod cases;
 mod closing;
 mod lent;
+mod page;
 mod pairing;
 mod refusals;
 mod replies;
