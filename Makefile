@@ -53,7 +53,7 @@ $(PROGRAM): $(SOURCES)
 	$(RT) check dimacs
 	touch $@
 
-# Nothing but the six functions is seen from outside, and nothing has to be moved when it is loaded.
+# Nothing but the nine functions is seen from outside, and nothing has to be moved when it is loaded.
 $(SHARED): $(LIBRARY) Makefile rust/Cargo.toml
 	$(CC) -shared -o $@ -Wl,-soname,$(SONAME) -Wl,-z,defs -Wl,-z,text -Wl,-z,relro -Wl,-z,now \
 	    -Wl,--whole-archive $(LIBRARY) -Wl,--no-whole-archive

@@ -1,8 +1,9 @@
-/* basmuthar.h: six operations on board records, for programs in C and C++.
+/* basmuthar.h: nine operations on board records, their text and solvers' replies, for programs in C and C++.
  *
  * A board record has bounded integer variables, Boolean variables and clauses. Basmuthar writes it as CNF by the
- * order encoding and reads models back. The library is linked as libbasmuthar.a, or where it is installed as
- * libbasmuthar.so. It keeps nothing between calls: every list is lent by the caller.
+ * order encoding, as a list or as text, and reads models and solvers' replies back. The library is linked as
+ * libbasmuthar.a, or where it is installed as libbasmuthar.so. It keeps nothing between calls: every list is lent by the
+ * caller.
  *
  * THE RECORD
  *   All numbers are big-endian, signed ones in two's complement.
@@ -24,19 +25,30 @@
  *   So p(x,c) has the number m + w + (c - lower + 2), where lower is x's own lower bound and w adds up, over the integer
  *   variables before x, upper - lower + 2.
  *
+ * THE TEXT
+ *   Clause text is DIMACS CNF: the line `p cnf N M`, then the numbers of M clauses, each clause its literals and then 0.
+ *   Write text gives each clause a line, its numbers parted by one space. Read text wants the first line just so, with its
+ *   newline, N and M at most 2,147,483,647; after it numbers are parted by runs of spaces or newlines, which may also stand
+ *   before and after them. There is no comment, tab, carriage return, plus or leading zero.
+ *   A reply is the line `s SATISFIABLE`, then lines of `v` and one or more numbers, each after one space, with one 0, the
+ *   last number; or it is the line `s UNSATISFIABLE` alone. Every line ends with a newline, also the last.
+ *   Text is bad exactly if it departs from its form, holds a number beyond N, or has more or fewer clauses than M.
+ *
  * WHAT A CALLER OWES
  *   Every pointer points to as many places as the length beside it says, `answer` to four, and `hours` to three. A list
  *   of length 0 may be NULL, as data() of an empty C++ vector may be: nothing is read or written through it. That is
  *   tested, not proved: no contract speaks of NULL. `answer` and `hours` are never NULL. `answer` overlaps nothing, and
- *   a list that is written no other list of the call; `hours` is such a list.
+ *   a list that is written no other list of the call; `hours` is such a list. A text is a list of bytes.
  *   What the lists hold is free: every content has an answer.
  *
  * THE ANSWER
  *   answer[0] is 0 where the call was accepted, and otherwise the number of the refusal.
- *     accepted, Size and Compile:          { 0, N, M, K }
- *     accepted, Decode, Judge and Image:   { 0, 0, 0, 0 }
- *     accepted, Closing:                   { 0, found 0 or none 1 or unfinished 2, 0, 0 }
- *     refused:                             { number, detail, 0, 0 }
+ *     accepted, Size, Compile and Read text:   { 0, N, M, K }
+ *     accepted, Decode, Judge and Image:       { 0, 0, 0, 0 }
+ *     accepted, Closing:                       { 0, found 0 or none 1 or unfinished 2, 0, 0 }
+ *     accepted, Write text:                    { 0, the text's length in bytes, 0, 0 }
+ *     accepted, Read reply:                    { 0, a model 0 or none 1, 0, 0 }
+ *     refused:                                 { number, detail, 0, 0 }
  *   N is how many SAT variables there are, M how many clauses, K how many numbers the clause list has.
  *   All four places are written by every call; what they held before does not matter.
  *
@@ -55,7 +67,7 @@
  *        7  a coefficient is 0 or outside -64 to 64                                      place
  *        8  a field runs past the end, or bytes remain after the last clause             place
  *        9  K is above 2,000,000,000                                                     0
- *       10  the lent clause list is shorter than K                                       K
+ *       10  the lent clause list or text is too short                                    length wanted
  *       11  another lent list has the wrong length                                       length wanted
  *       12  a model, Boolean or reply byte is not 0 or 1                                 index
  *       13  a clause does not hold                                                       its number from 0
@@ -63,11 +75,15 @@
  *       15  a term's variable is unknown: the record does not have so many               place
  *       16  a term's variable stands in an earlier term of its comparison                place
  *       17  a comparison's constant is outside -1,000,000 to 1,000,000                   place
+ *       18  clause text or a reply is bad                                                place in the text
+ *       19  a reply lacks a variable, or has it more than once, with either sign         the least such number
  *       22  the record has no integer variable of this number                            its number
  *       23  replies are left over after the last question                                how many
  *   m is how many Boolean variables the record has. A place is the offset in the record of the first byte of the field
- *   that is wrong (the upper's, where it is below its lower), or of the first byte left over.
- *   All operations look at the record first, in this order: 1; fewer than 5 bytes (2); 3; the stated length (2); the
+ *   that is wrong (the upper's, where it is below its lower), or of the first byte left over. A place in the text is the
+ *   offset of the first number beyond N or past clause M (of its minus, where it has one), or of an earlier byte that no
+ *   good text has there; where there is none, something is missing, and it is the text's length.
+ *   All operations on a record look at it first, in this order: 1; fewer than 5 bytes (2); 3; the stated length (2); the
  *   body from left to right with 4 to 8 and 15 to 17, a field's missing bytes (8) before its value; bytes left over (8); 9. The
  *   first condition that is met is the refusal given. What each operation tests after that stands with it.
  */
@@ -95,6 +111,9 @@ extern "C" {
 
 /* The greatest number of replies that Closing asks for. */
 #define BASMUTHAR_MOST_REPLIES 14
+
+/* What Read reply answers: answer[1], this or BASMUTHAR_NONE. */
+#define BASMUTHAR_MODEL 0
 
 /* Size: the three numbers of a record.
  *
@@ -177,6 +196,42 @@ void basmuthar_image(const uint8_t *record, size_t record_len, const int32_t *va
  */
 void basmuthar_closing(const uint8_t *record, size_t record_len, size_t variable, const uint8_t *replies,
                        size_t replies_len, int32_t hours[3], uint64_t answer[4]);
+
+/* Write text: the clause list of a record as text, for a solver that is a program of its own.
+ *
+ *   Reads    record.
+ *   Writes   the first bytes of text, as many as answer[1] says: what the program `basmuthar` prints. Later bytes stay.
+ *   Refuses  with 1 to 9; then with 10 and the length wanted where text_len is below it. Longer text is welcome.
+ *
+ *   To learn the length, lend none (NULL, 0): every text has a first line, so 10 tells it. It can be above 2^32.
+ */
+void basmuthar_write_text(const uint8_t *record, size_t record_len, uint8_t *text, size_t text_len, uint64_t answer[4]);
+
+/* Read text: clause text as a clause list.
+ *
+ *   Reads    text, which need not come from Write text.
+ *   Writes   list[0] to list[K - 1], the numbers of the text behind its first line. Later places keep their numbers. The
+ *            answer is { 0, N, M, K }: N and M as the first line says, K how many numbers there are, zeros among them.
+ *   Refuses  with 18; then with 10 and detail K where list_len is below K. A longer list is welcome. There is no limit to
+ *            K as 9 is one.
+ *
+ *   Of what Write text wrote, it gives Compile's list and answer.
+ */
+void basmuthar_read_text(const uint8_t *text, size_t text_len, int32_t *list, size_t list_len, uint64_t answer[4]);
+
+/* Read reply: a solver's reply as a model, or that there is none.
+ *
+ *   Reads    text, the reply; n is how many SAT variables there are, N of Size or Compile, and any number is taken.
+ *   Writes   all of model, n bytes, each 0 or 1, where the reply is a model: byte i is 1 exactly if the reply has i + 1
+ *            without a minus. The answer is
+ *              { 0, BASMUTHAR_MODEL, 0, 0 }   the reply says yes, and model is written
+ *              { 0, BASMUTHAR_NONE, 0, 0 }    it says no; model may have any length, and keeps its bytes
+ *   Refuses  with 18; then, where the reply says yes, with 19, and then with 11 where model_len is not n.
+ *
+ *   What solvers print besides, such as comments, has to be taken out before. Whether the model is one, Decode says.
+ */
+void basmuthar_read_reply(uint32_t n, const uint8_t *text, size_t text_len, uint8_t *model, size_t model_len,
+                          uint64_t answer[4]);
 
 #ifdef __cplusplus
 }

@@ -1,4 +1,5 @@
-/* Calls the six functions as a C or C++ program does: cases 12, 13 and 14 of 01, a driver of Closing, some refusals, and no lists. */
+/* Calls the nine functions as a C or C++ program does: cases 12, 13 and 14 of 01, a driver of Closing, text and replies, some refusals, and
+ * no lists. */
 
 #include "basmuthar.h"
 
@@ -110,6 +111,53 @@ static void closing_ends(void) {
     expect("and all of them leave the hours", hours[0] == 77 && hours[1] == 78 && hours[2] == 79);
 }
 
+/* The text's length, the text, and Compile's list read from it. */
+static void text_written_and_read(void) {
+    uint64_t answer[4] = {7, 7, 7, 7};
+    uint8_t text[200];
+    int32_t compiled[53], list[54];
+    size_t length;
+    memset(text, 77, sizeof text);
+    list[53] = 77;
+    basmuthar_write_text(RECORD, sizeof RECORD, text, 9, answer);
+    length = (size_t)answer[1];
+    expect("text of 9 bytes is refused with 10 and the length", answers(answer, 10, 142, 0, 0));
+    expect("and is left", text[0] == 77 && text[8] == 77);
+    basmuthar_write_text(RECORD, sizeof RECORD, text, sizeof text, answer);
+    expect("longer text is accepted", answers(answer, 0, 142, 0, 0));
+    expect("its first line is 01's", memcmp(text, "p cnf 10 17\n-1 0\n", 17) == 0);
+    expect("and its later bytes are left", text[141] == '\n' && text[142] == 77);
+    basmuthar_read_text(text, length, list, 52, answer);
+    expect("a list of 52 is refused with 10, 53", answers(answer, 10, 53, 0, 0));
+    basmuthar_read_text(text, length, list, 54, answer);
+    expect("a list of 54 is accepted", answers(answer, 0, 10, 17, 53) && list[53] == 77);
+    basmuthar_compile(RECORD, sizeof RECORD, compiled, 53, answer);
+    expect("and is Compile's", memcmp(compiled, list, sizeof compiled) == 0);
+    basmuthar_read_text(text, length - 2, list, 54, answer);
+    expect("text without its last 0 is refused with 18 at its end", answers(answer, 18, 140, 0, 0));
+}
+
+static void read_reply(uint32_t n, const char *reply, uint8_t *model, size_t model_len, uint64_t answer[4]) {
+    basmuthar_read_reply(n, (const uint8_t *)reply, strlen(reply), model, model_len, answer);
+}
+
+static void replies_read(void) {
+    uint64_t answer[4] = {7, 7, 7, 7};
+    uint8_t model[10] = {77, 77, 77, 77, 77, 77, 77, 77, 77, 77};
+    read_reply(10, "s UNSATISFIABLE\n", model, 3, answer);
+    expect("a no is none, with any model", answers(answer, 0, BASMUTHAR_NONE, 0, 0));
+    read_reply(10, "s SATISFIABLE\nv 11 0\n", model, 3, answer);
+    expect("a number beyond N is refused with 18 at its place", answers(answer, 18, 16, 0, 0));
+    read_reply(10, "s SATISFIABLE\nv 1 2 -2 0\n", model, 3, answer);
+    expect("both signs are refused with 19", answers(answer, 19, 2, 0, 0));
+    read_reply(10, "s SATISFIABLE\nv -1 2 3 4 -5 -6\nv 7 8 9 -10 0\n", model, 3, answer);
+    expect("a model of another length is refused with 11", answers(answer, 11, 10, 0, 0));
+    expect("and all of them leave the model", model[0] == 77 && model[2] == 77);
+    read_reply(10, "s SATISFIABLE\nv -1 2 3 4 -5 -6\nv 7 8 9 -10 0\n", model, 10, answer);
+    expect("the reply is a model", answers(answer, 0, BASMUTHAR_MODEL, 0, 0));
+    expect("that of case 14", memcmp(model, MODEL, 10) == 0);
+}
+
 /* A list of length 0 may be NULL: refused with the record, refused for its length, and accepted. */
 static void nothing_lent(void) {
     static const uint8_t EMPTY[11] = {1, 0, 0, 0, 6, 0, 0, 0, 0, 0, 0};
@@ -145,11 +193,30 @@ static void nothing_lent(void) {
     expect("closing: no reply is unfinished", answers(answer, 0, BASMUTHAR_UNFINISHED, 0, 0) && hours[2] == 3);
 }
 
+static void no_text_lent(void) {
+    uint64_t answer[4] = {7, 7, 7, 7};
+    basmuthar_write_text(NULL, 0, NULL, 0, answer);
+    expect("write text: no record is refused with 2", answers(answer, 2, 0, 0, 0));
+    basmuthar_write_text(RECORD, sizeof RECORD, NULL, 0, answer);
+    expect("write text: no text is refused with 10, 142", answers(answer, 10, 142, 0, 0));
+    basmuthar_read_text(NULL, 0, NULL, 0, answer);
+    expect("read text: no text is refused with 18", answers(answer, 18, 0, 0, 0));
+    basmuthar_read_text((const uint8_t *)"p cnf 3 0\n", 10, NULL, 0, answer);
+    expect("read text: no list is enough for no clause", answers(answer, 0, 3, 0, 0));
+    basmuthar_read_reply(0, NULL, 0, NULL, 0, answer);
+    expect("read reply: no reply is refused with 18", answers(answer, 18, 0, 0, 0));
+    read_reply(0, "s SATISFIABLE\nv 0\n", NULL, 0, answer);
+    expect("read reply: no model is enough for no variable", answers(answer, 0, BASMUTHAR_MODEL, 0, 0));
+}
+
 int main(void) {
     size_and_compile();
     decode_judge_and_image();
     closing_driven();
     closing_ends();
+    text_written_and_read();
+    replies_read();
     nothing_lent();
+    no_text_lent();
     return failures != 0;
 }

@@ -1,5 +1,5 @@
 #!/usr/bin/env bash
-# The header in C99 and C++11 with every warning an error, and a program in both that calls the six functions.
+# The header in C99 and C++11 with every warning an error, and a program in both that calls the nine functions.
 #
 #     tests/header.sh
 #

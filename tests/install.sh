@@ -65,7 +65,7 @@ same "$(files "$prefix" | grep -v '^./share/doc/')" "./bin/basmuthar
 ./share/man/man1/board.1" "the files installed"
 cmp -s include/basmuthar.h "$prefix/include/basmuthar.h" || fail "the header is another"
 ! grep -rl '@[A-Z]*@' "$prefix/lib/pkgconfig" "$prefix/share/man" || fail "something was not filled in"
-declared=$(sed -n 's/^void \(basmuthar_[a-z]*\)(.*/\1/p' include/basmuthar.h | LC_ALL=C sort)
+declared=$(sed -n 's/^void \(basmuthar_[a-z_]*\)(.*/\1/p' include/basmuthar.h | LC_ALL=C sort)
 same "$(nm -D --defined-only "$prefix/lib/libbasmuthar.so" | awk '{ print $3 }' | LC_ALL=C sort)" "$declared" "what the shared library shows"
 
 # ---- the programs, without the project and its tools

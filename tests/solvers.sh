@@ -1,12 +1,13 @@
 #!/usr/bin/env bash
-# Boards through real solvers and back: board cnf, then cadical and minisat, then board model and board show; board place;
-# board earliest for every number; and board why where there is no solution.
+# Boards through real solvers and back: board cnf, then cadical, minisat and picosat, then board model and board show; board
+# place; board earliest for every number; and board why where there is no solution.
 #
 #     tests/solvers.sh [HOW MANY BOARDS TO DRAW, 100 IF NOT SAID]
 #
-# Both solvers have to say the same of every board, every model has to decode to values that Judge accepts, and where a
-# board is small, trying all values has to say the same as the solvers: whether there is a solution, and which value of each
-# number is the least. The rules that board why names have no solution together, and without any one of them they have.
+# The text of every board has to read as Compile's list. All solvers have to say the same of every board, every model has to
+# decode to values that Judge accepts, also through examples/reply.c where the reply is in the library's form, and where a board is
+# small, trying all values has to say the same as the solvers: whether there is a solution, and which value of each number is the
+# least. The rules that board why names have no solution together, and without any one of them they have.
 # BASMUTHAR_LIB_DIR is as for the crate.
 set -euo pipefail
 cd "$(dirname "$0")/.."
@@ -33,6 +34,7 @@ ask() {
     case $solver in
     cadical) cadical -q "$cnf" >"$work/reply" || status=$? ;;
     minisat) minisat -verb=0 "$cnf" "$work/reply" >"$work/log" 2>&1 || status=$? ;;
+    picosat) picosat "$cnf" >"$work/reply" || status=$? ;;
     esac
     [ "$status" = 10 ] || [ "$status" = 20 ] || fail "$solver ended with status $status on $cnf"
 }
@@ -53,6 +55,21 @@ verdict() {
         "$board" show "$file" "$values" >"$work/shown" || fail "$solver's values do not hold: $file"
     done
     echo SATISFIABLE
+}
+
+# The same reply through the example in C, which takes it only in the library's own form.
+in_c() {
+    local solver=$1 verdict=$2 status=0
+    case $solver in cadical | picosat) ;; *) return ;; esac
+    "$work/in_c" "$work/record" <"$work/reply" >"$work/values" 2>"$work/trouble" || status=$?
+    case $verdict$status in
+    UNSATISFIABLE3) ;;
+    SATISFIABLE0)
+        "$board" text "$work/record" >"$work/text.board"
+        "$board" show "$work/text.board" "$work/values" >"$work/shown" || fail "examples/reply.c: $solver's values do not hold"
+        ;;
+    *) fail "examples/reply.c ends with $status where $solver says $verdict: $(cat "$work/trouble")" ;;
+    esac
 }
 
 # The least value of a number by a solver, or `none`; what is printed has to read as a solution with that value.
@@ -124,12 +141,14 @@ least() {
 through() {
     local file=$1 first="" said solver tried
     "$board" cnf "$file" >"$work/cnf" || fail "no clause list: $file"
+    "$board" record "$file" >"$work/record"
+    "$same_list" "$work/record" <"$work/cnf" >"$work/same" || fail "the text is not Compile's list: $file"
     for solver in "${solvers[@]}"; do
         said=$(verdict "$solver" "$file")
         [ "$said" = "${first:-$said}" ] || fail "$solver says $said, ${solvers[0]} says $first: $file"
         first=$said
+        in_c "$solver" "$said"
     done
-    "$board" record "$file" >"$work/record"
     tried=$("$try_all" "$work/record")
     if [ "$tried" != LARGE ]; then
         [ "${tried%% *}" = "$first" ] || fail "all values tried say $tried, the solvers say $first: $file"
@@ -148,7 +167,7 @@ through() {
 }
 
 solvers=()
-for solver in cadical minisat; do
+for solver in cadical minisat picosat; do
     if find_solver "$solver"; then
         solvers+=("$solver")
     else
@@ -157,10 +176,13 @@ for solver in cadical minisat; do
 done
 [ ${#solvers[@]} -gt 0 ] || exit 0
 
-cargo build --release --quiet --manifest-path rust/Cargo.toml --bin board --example try_all
+cargo build --release --quiet --manifest-path rust/Cargo.toml --bin board --example try_all --example same_list
 built=${CARGO_TARGET_DIR:-rust/target}/release
 board=$built/board
 try_all=$built/examples/try_all
+same_list=$built/examples/same_list
+cc -std=c99 -O1 -Wall -Wextra -Wconversion -Wshadow -pedantic -Werror -Iinclude examples/reply.c \
+    "${BASMUTHAR_LIB_DIR:-target/staticlib}/libbasmuthar.a" -o "$work/in_c"
 
 small=0 satisfiable=0 unsatisfiable=0 found=0 none=0 clashes=0
 for file in boards/*.board; do through "$file"; done
@@ -171,5 +193,6 @@ done
 [ "$satisfiable" -gt 0 ] && [ "$unsatisfiable" -gt 0 ] || fail "only one kind of verdict was met"
 [ "$found" -gt 0 ] && [ "$none" -gt 0 ] || fail "least values were met always or never"
 echo "${solvers[*]}: $satisfiable boards satisfiable, $unsatisfiable not; all values tried on $small of them; all agree."
+echo "The text of each of them reads as Compile's list."
 echo "Rules at odds by board why: $clashes times, none of them too many."
 echo "Least values by board earliest: $found found, $none times none; all agree."

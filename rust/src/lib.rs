@@ -1,6 +1,7 @@
 //! Board records to CNF by the order encoding, and models back: a safe wrapper of the proved library.
 //!
-//! A record has bounded integer variables, Boolean variables and clauses. Six operations stand over it:
+//! A record has bounded integer variables, Boolean variables and clauses. Nine operations stand over it, its text and
+//! solvers' replies:
 //!
 //! | operation | from | gives |
 //! |---|---|---|
@@ -10,6 +11,9 @@
 //! | [`judge`] | a record, values and Boolean bytes | whether they are a solution |
 //! | [`image`] | a record, values and Boolean bytes | the plain model of that solution |
 //! | [`closing`] | a record, a variable and a solver's replies | its least value over all solutions, or the next question ([`Hour`]) |
+//! | [`write_text`] | a record | its clause list as DIMACS CNF, written to lent bytes ([`text`] gives them) |
+//! | [`read_text`] | such text | the clause list, written to a lent list, and N, M and K |
+//! | [`read_reply`] | N and a solver's reply in text | the model, or that there is none ([`Reply`]) |
 //!
 //! [`earliest`] puts the questions of [`closing`] one after another. A [`Builder`] puts a board together and writes its
 //! record.
@@ -38,8 +42,15 @@
 //! basmuthar::compile(&record, &mut list)?;
 //! assert_eq!(list[..4], [-1, 0, 4, 0]);
 //!
-//! // A solver's model, read back.
-//! let model = [0, 1, 1, 1, 0, 0, 1, 1, 1, 0];
+//! // The same as text, for a solver that reads files.
+//! let text = basmuthar::text(&record)?;
+//! assert!(text.starts_with(b"p cnf 10 17\n-1 0\n4 0\n"));
+//!
+//! // A solver's reply, and its model read back.
+//! let reply = b"s SATISFIABLE\nv -1 2 3 4 -5 -6\nv 7 8 9 -10 0\n";
+//! let mut model = [0; 10];
+//! assert_eq!(basmuthar::read_reply(10, reply, &mut model)?, basmuthar::Reply::Model);
+//! assert_eq!(model, [0, 1, 1, 1, 0, 0, 1, 1, 1, 0]);
 //! let (mut values, mut booleans) = ([0; 2], []);
 //! basmuthar::decode(&record, &model, &mut values, &mut booleans)?;
 //! assert_eq!(values, [0, 1]);
@@ -75,9 +86,11 @@ mod fields;
 mod library;
 mod operations;
 mod refusal;
+mod texts;
 
 pub use builder::{Builder, Comparison, Literal, Term};
 pub use closing::{closing, earliest, Hour, Stopped};
 pub use fields::{Field, Part};
 pub use operations::{compile, decode, image, judge, size, Sizes};
 pub use refusal::Refusal;
+pub use texts::{read_reply, read_text, text, text_length, write_text, Reply};

@@ -1,4 +1,4 @@
-//! Five operations on slices: Size, Compile, Decode, Judge and Image. The sixth stands in closing.rs.
+//! Five operations on slices: Size, Compile, Decode, Judge and Image. Closing and those on text have files of their own.
 //!
 //! In every call below, each pointer comes from a slice and goes with that slice's own length; the borrow rules keep a
 //! list that is written apart from all others. That is all the library asks for.
@@ -115,8 +115,8 @@ pub fn image(
     accepted(answer)
 }
 
-/// N is below 2^24, and M and K are at most 2,000,000,000: all three fit.
-fn sizes(answer: Answer) -> Result<Sizes, Refusal> {
+/// N, M and K of a record are at most 2,000,000,000, and of a text N and M are below 2^31 and K below its length: all fit.
+pub fn sizes(answer: Answer) -> Result<Sizes, Refusal> {
     accepted(answer)?;
     let [_, variables, clauses, numbers] = answer.map(|number| number as usize);
     Ok(Sizes { variables, clauses, numbers })

@@ -16,7 +16,7 @@ use std::fmt;
 /// | 7 | a coefficient is 0 or out of range | place |
 /// | 8 | a field runs past the end, or bytes are left over after the last clause | place |
 /// | 9 | the clause list would have more than 2,000,000,000 numbers | 0 |
-/// | 10 | the lent clause list is too short | how many numbers there are |
+/// | 10 | the lent clause list or text is too short | the length wanted |
 /// | 11 | another lent list has the wrong length | the length wanted |
 /// | 12 | a model byte, Boolean byte or reply byte is not 0 or 1 | index |
 /// | 13 | a clause does not hold | its number from 0 |
@@ -24,10 +24,12 @@ use std::fmt;
 /// | 15 | a term's variable is unknown: the record does not have so many | place |
 /// | 16 | a term's variable stands in an earlier term of its comparison | place |
 /// | 17 | a comparison's constant is out of range | place |
+/// | 18 | clause text or a reply departs from its form, holds a number beyond N, or has not M clauses | place in the text |
+/// | 19 | a reply lacks a variable, or has it more than once | the least such SAT variable |
 /// | 22 | the record does not have that integer variable | its number from 0 |
 /// | 23 | replies are left over after the last question | how many |
 ///
-/// A place is an offset in the record.
+/// A place is an offset in the record. A place in the text is an offset too; where something is missing, it is the text's length.
 #[derive(Clone, Copy, PartialEq, Eq)]
 pub struct Refusal {
     /// The number of the refusal, from 1.
@@ -44,6 +46,8 @@ enum Detail {
     Length,
     Index,
     Clause,
+    TextPlace,
+    SatVariable,
     Variable,
     Count,
 }
@@ -58,7 +62,7 @@ const fn row(number: u64, words: &'static str, detail: Detail) -> Row {
     Row { number, words, detail }
 }
 
-const ROWS: [Row; 19] = [
+const ROWS: [Row; 21] = [
     row(1, "a record above 65,536 bytes", Detail::Nothing),
     row(
         2,
@@ -76,7 +80,7 @@ const ROWS: [Row; 19] = [
         Detail::Place,
     ),
     row(9, "a clause list of more than 2,000,000,000 numbers", Detail::Nothing),
-    row(10, "a lent clause list that is too short", Detail::Length),
+    row(10, "a lent clause list or text that is too short", Detail::Length),
     row(11, "a lent list of the wrong length", Detail::Length),
     row(12, "a model, Boolean or reply byte that is not 0 or 1", Detail::Index),
     row(13, "a clause does not hold", Detail::Clause),
@@ -84,6 +88,12 @@ const ROWS: [Row; 19] = [
     row(15, "a term's variable that the record does not have", Detail::Place),
     row(16, "a variable for the second time in a comparison", Detail::Place),
     row(17, "a constant out of range", Detail::Place),
+    row(
+        18,
+        "text that departs from its form, holds a number beyond N, or has not M clauses",
+        Detail::TextPlace,
+    ),
+    row(19, "a reply that lacks a variable, or has it more than once", Detail::SatVariable),
     row(22, "an integer variable that the record does not have", Detail::Variable),
     row(23, "replies left over after the last question", Detail::Count),
 ];
@@ -119,6 +129,13 @@ impl fmt::Display for Refusal {
             Detail::Length => write!(out, ", length {detail} is wanted"),
             Detail::Index => write!(out, ", at index {detail} counted from 0"),
             Detail::Clause => write!(out, ", clause {detail} counted from 0"),
+            Detail::TextPlace => write!(
+                out,
+                ", at byte {detail} of the text: change that, or add what is missing if the text ends there"
+            ),
+            Detail::SatVariable => {
+                write!(out, ", SAT variable {detail}: let the solver tell each of them once")
+            }
             Detail::Variable => write!(out, ", variable {detail} counted from 0"),
             Detail::Count => write!(out, ", {detail} of them"),
         }
@@ -135,7 +152,7 @@ mod tests {
     fn every_number_has_its_sentence() {
         let rows: Vec<u64> = ROWS.iter().map(|row| row.number).collect();
         assert!(rows.is_sorted_by(|one, next| one < next), "numbers rise: {rows:?}");
-        for number in (1..=17).chain([22, 23]) {
+        for number in (1..=19).chain([22, 23]) {
             let sentence = Refusal { number, detail: 5 }.to_string();
             assert!(sentence.starts_with(&format!("refusal {number}: ")), "{sentence}");
         }
@@ -158,6 +175,25 @@ mod tests {
         assert_eq!(sentence(22), format!("refusal 22: {unknown}"));
         let left_over = "replies left over after the last question, 3 of them";
         assert_eq!(sentence(23), format!("refusal 23: {left_over}"));
+    }
+
+    #[test]
+    fn a_sentence_about_text_names_the_place_and_what_to_do() {
+        let sentence = |number| Refusal { number, detail: 15 }.to_string();
+        assert_eq!(
+            sentence(18),
+            "refusal 18: text that departs from its form, holds a number beyond N, or has not M clauses, at byte 15 of \
+             the text: change that, or add what is missing if the text ends there"
+        );
+        assert_eq!(
+            sentence(19),
+            "refusal 19: a reply that lacks a variable, or has it more than once, SAT variable 15: let the solver tell \
+             each of them once"
+        );
+        assert!(
+            !Refusal { number: 18, detail: 15 }.has_place(),
+            "the place is not one in a record"
+        );
     }
 
     #[test]

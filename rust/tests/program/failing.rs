@@ -25,7 +25,7 @@ fn a_solver_that_gives_up_or_says_nothing_is_4() {
     ends("", "x at most 7", 4, "its reply is empty");
     ends("exit 20", "x at most 7", 4, "its reply is empty");
     ends("echo c thinking", "x at most 7", 4, "expected a line `s SATISFIABLE`");
-    ends("echo no idea", "x at most 7", 4, "its reply, line 1, column 1: expected a line of `c`");
+    ends("echo no idea", "x at most 7", 4, "line 1, column 1: refusal 18: expected a line of `c`");
     ends("echo s UNSATISFIABLE; echo or not", "x at most 7", 4, "its reply, line 2, column 1");
     ends("printf '\\377\\n'", "x at most 7", 4, "its reply, line 1, column 1");
 }
@@ -122,7 +122,9 @@ fn a_yes_that_its_model_does_not_bear_out_is_6() {
     ends(&says("0"), "x at most 7", 6, "line 1, column 8: refusal 13: a clause does not hold");
     ends("echo s SATISFIABLE", "x at most 7", 6, "its model cannot be read");
     ends(&says("1 2"), "x at most 7", 6, "with a 0 at their end");
-    ends(&says("99 0"), "x at most 7", 6, "expected a number from -10 to 10, found `99`");
+    ends(&says("99 0"), "x at most 7", 6, "18: expected a number from -10 to 10, found `99`");
+    let both_signs = model(3).replace(" 0", " 3 0");
+    ends(&says(&both_signs), "x at most 7", 6, "19: expected each variable once, found `3` again");
     ends(&yes(4), "x at most 3", 6, "says yes, and its model has x = 4");
 }
 

@@ -8,6 +8,7 @@ mod fake;
 mod join;
 mod output;
 mod place;
+mod replies;
 mod run;
 mod sheet;
 mod show;

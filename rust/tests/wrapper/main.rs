@@ -1,10 +1,13 @@
-//! Tests of the wrapper: the six operations, called as a user of the crate calls them.
+//! Tests of the wrapper: the nine operations, called as a user of the crate calls them.
 
 mod cases;
 mod closing;
 mod lent;
+mod page;
 mod pairing;
 mod refusals;
+mod replies;
+mod texts;
 mod trial;
 
 use basmuthar::Refusal;

@@ -75,6 +75,7 @@ fn every_record_gets_the_refusal_of_its_note() {
     }
 }
 
+/// 18 and 19 are of text and replies: texts.rs and replies.rs have them.
 #[test]
 fn there_is_a_record_for_every_refusal() {
     let notes = note_files().into_iter().map(|file| read_note(&file));

@@ -1,4 +1,4 @@
-//! A board's clause list: compiled by the library, and written as DIMACS CNF.
+//! A board's clause list as DIMACS CNF: the text is the library's, and a question is added to it.
 
 use crate::board::Board;
 use crate::opened::Opened;
@@ -6,39 +6,46 @@ use basmuthar::Sizes;
 use std::io::{self, Write};
 
 pub struct Clauses {
-    list: Vec<i32>,
+    text: Vec<u8>,
     pub sizes: Sizes,
 }
 
 impl Clauses {
     /// The clause list of a board, of any size that there is memory for.
     pub fn of(opened: &Opened) -> Result<Clauses, String> {
-        let mut list = room_for(opened.sizes.numbers)?;
-        let sizes = basmuthar::compile(&opened.record, &mut list)
-            .map_err(|refusal| opened.refused(refusal, None))?;
-        Ok(Clauses { list, sizes })
+        let refused = |refusal| opened.refused(refusal, None);
+        let mut text = room_for(basmuthar::text_length(&opened.record).map_err(refused)?)?;
+        basmuthar::write_text(&opened.record, &mut text).map_err(refused)?;
+        Ok(Clauses { text, sizes: opened.sizes })
     }
 
-    /// Writes the list, and these literals after it as clauses of their own.
+    /// Writes the text as it is, or with these literals behind it as clauses of their own, which its first line counts.
     pub fn write(&self, out: &mut dyn Write, added: &[i32]) -> io::Result<()> {
-        writeln!(out, "p cnf {} {}", self.sizes.variables, self.sizes.clauses + added.len())?;
-        for number in &self.list {
-            let end = if *number == 0 { '\n' } else { ' ' };
-            write!(out, "{number}{end}")?;
+        if added.is_empty() {
+            out.write_all(&self.text)?;
+        } else {
+            let Sizes { variables, clauses, .. } = self.sizes;
+            writeln!(out, "p cnf {variables} {}", clauses + added.len())?;
+            out.write_all(self.after_first_line())?;
         }
         for literal in added {
             writeln!(out, "{literal} 0")?;
         }
         out.flush()
     }
+
+    fn after_first_line(&self) -> &[u8] {
+        let first = self.text.iter().take_while(|byte| **byte != b'\n').count();
+        &self.text[first + 1..]
+    }
 }
 
-fn room_for(numbers: usize) -> Result<Vec<i32>, String> {
-    let mut list = Vec::new();
-    list.try_reserve_exact(numbers)
-        .map_err(|_| format!("no memory for a clause list of {numbers} numbers"))?;
-    list.resize(numbers, 0);
-    Ok(list)
+fn room_for(length: usize) -> Result<Vec<u8>, String> {
+    let mut text = Vec::new();
+    text.try_reserve_exact(length)
+        .map_err(|_| format!("no memory for a clause list of {length} bytes"))?;
+    text.resize(length, 0);
+    Ok(text)
 }
 
 /// The SAT variable that says that a number, counted from 0, is at most an hour within its bounds.
@@ -80,9 +87,13 @@ mod tests {
     #[test]
     fn added_literals_are_counted_and_written_last() {
         let sizes = Sizes { variables: 3, clauses: 2, numbers: 5 };
-        let clauses = Clauses { list: vec![1, -2, 0, 3, 0], sizes };
-        let mut text = Vec::new();
-        clauses.write(&mut text, &[-3]).unwrap();
-        assert_eq!(String::from_utf8(text).unwrap(), "p cnf 3 3\n1 -2 0\n3 0\n-3 0\n");
+        let clauses = Clauses { text: b"p cnf 3 2\n1 -2 0\n3 0\n".to_vec(), sizes };
+        let written = |added: &[i32]| {
+            let mut text = Vec::new();
+            clauses.write(&mut text, added).unwrap();
+            String::from_utf8(text).unwrap()
+        };
+        assert_eq!(written(&[]), "p cnf 3 2\n1 -2 0\n3 0\n");
+        assert_eq!(written(&[-3]), "p cnf 3 3\n1 -2 0\n3 0\n-3 0\n");
     }
 }

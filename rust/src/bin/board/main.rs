@@ -24,6 +24,7 @@ mod page;
 mod placement;
 mod progress;
 mod reading;
+mod replies;
 mod reply;
 mod rules;
 mod sha256;

@@ -1,8 +1,14 @@
-//! A solver's reply: lines of `s`, `v` and `c` as solvers' competitions have them, or minisat's result file.
+//! A solver's reply: read by the library, and what it refuses said in words, at the place in what the solver printed.
 //!
-//! Every line has to be understood. A "no" is taken on the solver's word, so a reply of which a part is not is no reply.
+//! What solvers print beside the library's form is seen to by replies.rs. A "no" is taken on the solver's word, so a reply of which
+//! a part is not understood is no reply.
 
 use crate::complaint::{Complaint, Spot};
+use crate::replies::{formed, variable_of, Formed, Kind, Piece, Verdict};
+use basmuthar::Refusal;
+
+/// The refusal of a reply with a variable missing or present twice; those that are missing are false before that.
+const TWICE: u64 = 19;
 
 #[derive(Debug, PartialEq, Eq)]
 pub enum Reply {
@@ -29,125 +35,72 @@ pub enum Fault {
     NoModel,
 }
 
-#[derive(Debug, Clone, Copy, PartialEq, Eq)]
-enum Verdict {
-    Yes,
-    No,
-    Unknown,
-}
-
-/// What the lines of a reply have said so far.
-struct Heard {
-    verdict: Option<Verdict>,
-    /// Minisat's `SAT`: lines of numbers follow, without `v`.
-    has_bare_numbers: bool,
-    model: Vec<Option<u8>>,
-    is_ended: bool,
-}
-
 /// Reads a reply about so many SAT variables. A variable that it leaves out is taken as false.
-pub fn read_reply(text: &str, variables: usize) -> Result<Reply, Unread> {
-    let mut heard = Heard {
-        verdict: None,
-        has_bare_numbers: false,
-        model: vec![None; variables],
-        is_ended: false,
+pub fn read_reply(printed: &str, variables: usize) -> Result<Reply, Unread> {
+    let formed = formed(printed, variables);
+    if formed.verdicts() == [Verdict::Unknown] {
+        return Ok(Reply::Unknown);
+    }
+    let mut model = vec![0; variables];
+    // No record has more than 2^24 SAT variables.
+    match basmuthar::read_reply(variables as u32, formed.text.as_bytes(), &mut model) {
+        Ok(basmuthar::Reply::Model) => Ok(Reply::Model(model)),
+        Ok(basmuthar::Reply::None) => Ok(Reply::NoSolution),
+        Err(refusal) => {
+            let end = Spot { line: printed.lines().count().max(1), column: 1 };
+            Err(unread(&formed, variables, refusal, end))
+        }
+    }
+}
+
+/// A refusal in words, at the piece that it belongs to, or at the end where something is missing.
+fn unread(formed: &Formed, variables: usize, refusal: Refusal, end: Spot) -> Unread {
+    let piece = match refusal.number {
+        TWICE => second_of(formed, refusal.detail),
+        _ => formed.piece_at(refusal.detail as usize),
     };
-    for (index, line) in text.lines().enumerate() {
-        heard.line(line, index + 1)?;
-    }
-    let end = Spot { line: text.lines().count().max(1), column: 1 };
-    match (heard.verdict, heard.is_ended) {
-        (Some(Verdict::No), _) => Ok(Reply::NoSolution),
-        (Some(Verdict::Unknown), _) => Ok(Reply::Unknown),
-        (Some(Verdict::Yes), true) => {
-            let model = heard.model.into_iter();
-            Ok(Reply::Model(model.map(|byte| byte.unwrap_or(0)).collect()))
+    let (fault, words) = match (&formed.verdicts()[..], piece) {
+        ([_, _, ..], _) => (Fault::TwoVerdicts, "expected one verdict only".to_string()),
+        (_, Some(piece)) if piece.kind == Kind::Other => {
+            let words = "expected a line of `c` or `v`, or the one line of `s`";
+            (Fault::NoVerdict, words.to_string())
         }
-        (Some(Verdict::Yes), false) => {
-            Err(unread(Fault::NoModel, end, "expected lines of `v`, with a 0 at their end"))
+        ([Verdict::Yes], Some(piece)) => {
+            (Fault::NoModel, number_words(formed, piece, variables, refusal))
         }
-        (None, _) => {
+        ([Verdict::Yes], None) => {
+            (Fault::NoModel, "expected lines of `v`, with a 0 at their end".to_string())
+        }
+        ([], _) => {
             let words = "expected a line `s SATISFIABLE` or `s UNSATISFIABLE`";
-            Err(unread(Fault::NoVerdict, end, words))
+            (Fault::NoVerdict, words.to_string())
         }
+        _ => (Fault::NoVerdict, "expected no numbers beside a no".to_string()),
+    };
+    let spot = piece.map_or(end, |piece| piece.spot);
+    Unread {
+        fault,
+        complaint: Complaint::new(spot, format!("refusal {}: {words}", refusal.number)),
     }
 }
 
-fn unread(fault: Fault, spot: Spot, words: impl Into<String>) -> Unread {
-    Unread { fault, complaint: Complaint::new(spot, words) }
+/// The second word that speaks of a variable.
+fn second_of<'a, 'b>(formed: &'b Formed<'a>, variable: u64) -> Option<&'b Piece<'a>> {
+    let speaks_of_it =
+        |piece: &&Piece| piece.kind == Kind::Numbers && variable_of(piece.word) == Some(variable);
+    formed.pieces.iter().filter(speaks_of_it).nth(1)
 }
 
-fn verdict_in(line: &str) -> Option<Verdict> {
-    match line {
-        "s SATISFIABLE" | "SAT" => Some(Verdict::Yes),
-        "s UNSATISFIABLE" | "UNSAT" => Some(Verdict::No),
-        "s UNKNOWN" | "INDET" => Some(Verdict::Unknown),
-        _ => None,
-    }
-}
-
-fn begins_with_a_number(line: &str) -> bool {
-    line.trim_start().starts_with(|first: char| first.is_ascii_digit() || first == '-')
-}
-
-impl Heard {
-    fn line(&mut self, line: &str, number: usize) -> Result<(), Unread> {
-        let (line, start) = (line.trim_end(), Spot { line: number, column: 1 });
-        if let Some(verdict) = verdict_in(line) {
-            self.has_bare_numbers = line == "SAT";
-            return match self.verdict.replace(verdict) {
-                None => Ok(()),
-                Some(_) => Err(unread(Fault::TwoVerdicts, start, "expected one verdict only")),
-            };
-        }
-        match line.split_once(' ').unwrap_or((line, "")) {
-            ("c", _) => Ok(()),
-            ("v", numbers) => self.numbers(numbers, Spot { column: 3, ..start }),
-            _ if line.is_empty() => Ok(()),
-            _ if self.has_bare_numbers && begins_with_a_number(line) => self.numbers(line, start),
-            _ => {
-                let words = "expected a line of `c` or `v`, or the one line of `s`";
-                Err(unread(Fault::NoVerdict, start, words))
-            }
-        }
-    }
-
-    /// Notes numbers parted by blanks, the first of them at this spot.
-    fn numbers(&mut self, numbers: &str, mut spot: Spot) -> Result<(), Unread> {
-        let fault = match self.verdict {
-            Some(Verdict::Yes) => Fault::NoModel,
-            _ => Fault::NoVerdict,
-        };
-        for word in numbers.split(' ') {
-            self.number(word).map_err(|words| unread(fault, spot, words))?;
-            spot.column += word.chars().count() + 1;
-        }
-        Ok(())
-    }
-
-    /// Notes a number of a model, or says what is wrong with it.
-    fn number(&mut self, word: &str) -> Result<(), String> {
-        if word.is_empty() {
-            return Ok(());
-        }
-        let most = self.model.len();
-        let number = match word.parse::<i64>() {
-            Ok(number) if number.unsigned_abs() <= most as u64 => number,
-            _ => return Err(format!("expected a number from -{most} to {most}, found `{word}`")),
-        };
-        if self.is_ended {
-            return Err(format!("expected nothing after the 0, found `{word}`"));
-        }
-        if number == 0 {
-            self.is_ended = true;
-            return Ok(());
-        }
-        let byte = &mut self.model[number.unsigned_abs() as usize - 1];
-        match byte.replace(u8::from(number > 0)) {
-            None => Ok(()),
-            Some(_) => Err(format!("expected each variable once, found `{word}` again")),
-        }
+/// What is wrong with a number of a yes.
+fn number_words(formed: &Formed, piece: &Piece, most: usize, refusal: Refusal) -> String {
+    let word = piece.word;
+    let mut before = formed.pieces.iter().take_while(|other| other.at < piece.at);
+    if refusal.number == TWICE {
+        format!("expected each variable once, found `{word}` again")
+    } else if before.any(|other| other.kind == Kind::Numbers && other.word == "0") {
+        format!("expected nothing after the 0, found `{word}`")
+    } else {
+        format!("expected a number from -{most} to {most}, found `{word}`")
     }
 }
 
@@ -175,40 +128,35 @@ mod tests {
     #[test]
     fn a_reply_that_is_not_one_is_complained_about() {
         use Fault::{NoModel, NoVerdict, TwoVerdicts};
-        let verdict = "expected a line `s SATISFIABLE` or `s UNSATISFIABLE`";
-        let line = "expected a line of `c` or `v`, or the one line of `s`";
-        let end = "expected lines of `v`, with a 0 at their end";
+        let verdict = "18: expected a line `s SATISFIABLE` or `s UNSATISFIABLE`";
+        let line = "18: expected a line of `c` or `v`, or the one line of `s`";
+        let two = "18: expected one verdict only";
+        let end = "18: expected lines of `v`, with a 0 at their end";
+        let beyond = "18: expected a number from -5 to 5, found `6`";
+        let no_number = "18: expected a number from -5 to 5, found `x`";
+        let after = "18: expected nothing after the 0, found `2`";
+        let again = "19: expected each variable once, found `-1` again";
         let rows = [
             ("", NoVerdict, 1, 1, verdict),
             ("c UNKNOWN\n", NoVerdict, 1, 1, verdict),
-            ("c\nv 1 2 0\n", NoVerdict, 2, 1, verdict),
-            ("v 1 6 0\n", NoVerdict, 1, 5, "expected a number from -5 to 5, found `6`"),
+            ("c\nv 1 2 0\n", NoVerdict, 2, 3, verdict),
             ("SATISFIABLE\n", NoVerdict, 1, 1, line),
             ("s UNSATISFIABLE\ncalculated\n", NoVerdict, 2, 1, line),
+            ("s UNSATISFIABLE\nv 1 0\n", NoVerdict, 2, 3, "18: expected no numbers beside a no"),
             ("s SATISFIABLE\n1 -2 0\n", NoVerdict, 2, 1, line),
-            ("s SATISFIABLE\ns SATISFIABLE\n", TwoVerdicts, 2, 1, "expected one verdict only"),
-            ("SAT\n1 0\ns UNSATISFIABLE\n", TwoVerdicts, 3, 1, "expected one verdict only"),
+            ("s SATISFIABLE\ns SATISFIABLE\n", TwoVerdicts, 2, 1, two),
+            ("SAT\n1 0\ns UNSATISFIABLE\n", TwoVerdicts, 3, 1, two),
             ("s SATISFIABLE\nv 1 -2\n", NoModel, 2, 1, end),
             ("SAT\n", NoModel, 1, 1, end),
-            (
-                "s SATISFIABLE\nv 1 6 0\n",
-                NoModel,
-                2,
-                5,
-                "expected a number from -5 to 5, found `6`",
-            ),
-            ("SAT\n1 x 0\n", NoModel, 2, 3, "expected a number from -5 to 5, found `x`"),
-            (
-                "s SATISFIABLE\nv 1 -1 0\n",
-                NoModel,
-                2,
-                5,
-                "expected each variable once, found `-1` again",
-            ),
-            ("s SATISFIABLE\nv 1 0 2\n", NoModel, 2, 7, "expected nothing after the 0, found `2`"),
+            ("s SATISFIABLE\nv 1 6 0\n", NoModel, 2, 5, beyond),
+            ("SAT\n1 x 0\n", NoModel, 2, 3, no_number),
+            ("s SATISFIABLE\nv 1 -1 0\n", NoModel, 2, 5, again),
+            ("s SATISFIABLE\nv 3 1\nv -1 2 -3 0\n", NoModel, 3, 3, again),
+            ("s SATISFIABLE\nv 1 0 2\n", NoModel, 2, 7, after),
+            ("s SATISFIABLE\nv 1 0\nv 2 0\n", NoModel, 3, 3, after),
         ];
         for (text, fault, line, column, words) in rows {
-            let complaint = Complaint::new(Spot { line, column }, words);
+            let complaint = Complaint::new(Spot { line, column }, format!("refusal {words}"));
             assert_eq!(read_reply(text, 5), Err(Unread { fault, complaint }), "{text}");
         }
     }
