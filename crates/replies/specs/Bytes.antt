@@ -10,6 +10,8 @@ use lib.ListN.{length, drop, getD, length-drop}
 use lib.Seq.{drop-cons}
 use borrow.Author.Tests.{eq-eqb, ne-eqb, le-leb, lt-leb}
 use Rattle.definitions.specs.Result.{Result, _>>=_, _>>_, done, refused}
+use Rattle.laws.specs.Readings.{same, never}
+use Rattle.laws.specs.Refusals.{refusal-is}
 use Rattle.definitions.specs.Texts.{blank, most}
 use Rattle.definitions.specs.TextReading.{digit, Number, whole, begun, grown}
 use Rattle.laws.specs.Stepping.{num}
@@ -143,6 +145,20 @@ module _ (t : List ℕ) (at : ℕ) (h : length t ≤ at) where
 -- what a call ensures of its result, where a match has told which case the result is
 pub told : {A B : Type 0} (f : A → B) {x y : A} {z : B} → f x ≡ z → x ≡ y → z ≡ f y
 told f p q = sym p ∙ ap f q
+
+-- what a value was made of, and where there was none
+pub record Made {A B : Type 0} (f : A → B) (m : Result A) (b : B) : Type 0 where
+  pub from : A
+  pub is : m ≡ done from
+  pub makes : f from ≡ b
+
+pub made-by : {A B : Type 0} (f : A → B) (m : Result A) {b : B} → (m >>= λ a. done (f a)) ≡ done b → Made f m b
+made-by f (done a) e = record { from = a; is = refl; makes = same e }
+made-by f (refused n d) e = never e
+
+pub made-not : {A B : Type 0} (f : A → B) (m : Result A) {n d : ℕ} → (m >>= λ a. done (f a)) ≡ refused n d → m ≡ refused n d
+made-not f (done a) e = never (sym e)
+made-not f (refused n d) {n = n′} e = let r = refusal-is e in ap (λ x. refused x d) (r .0) ∙ ap (refused n′) (r .1)
 
 pub count-sooner : (from : ℕ) (t : List ℕ) (r : Count) → countIn (from + 1) t r → countIn from t r
 count-sooner from t (Count.Value v next) h = (omega (arith, h .0), h .1)

@@ -13,14 +13,14 @@ use Rattle.definitions.specs.Result.{Result, _>>=_, _>>_, need, done, refused}
 use Rattle.definitions.specs.Operations.{Sizes, _leaves_}
 use Rattle.definitions.specs.Dimacs.{ascii}
 use Rattle.laws.specs.Readings.{same, never}
-use Rattle.laws.specs.Refusals.{refusal-is}
 use Rattle.laws.specs.Written.{written, written-none, written-snoc, written-length}
 use Rattle.definitions.specs.Texts.{blank, zeros, most}
 use Rattle.definitions.specs.TextReading.{digit, Number, valueOf, whole, begun, further, longer, grown, text, State, number, within, step, Read, endText, readText}
 use Rattle.definitions.specs.TextOperations.{ReadText}
 use Rattle.laws.specs.Stepping.{num}
 use Rattle.demands.specs.Reached.{passed, both, digit-is}
-use Rattle.replies.specs.Parts.{wordAt, countFrom, countAt, wordCount, endAt, restAt, lineAt, numberFrom, numberAt, Found, ends, holds, foundFrom, started, listFrom, sizes, sized}
+use Rattle.replies.specs.Parts.{wordAt, countFrom, countAt, wordCount, endAt, restAt, lineAt, numberFrom, numberAt, Found, ends, holds, foundFrom, started, listFrom, sizes, sizesRead, sized}
+use Rattle.replies.specs.Bytes.{Made, made-by, made-not}
 use Rattle.replies.specs.Texts.{list-step, Counts, counts-none, counts-more, next-is, next-bad, text-read}
 
 -- the numbers that are read from a place on, and a list that has room for them
@@ -218,32 +218,19 @@ module _ (N M from : ℕ) (t : List ℕ) (old : List ℤ) where
     writes-bad d h = never (sym (next-bad N M soFar at (drop at t) (w .counts .ended) h) ∙ goes)
 
 -- ---- the whole text
-unsized : (m : Result Read) {n d : ℕ} → refused n d ≡ sized m → m ≡ refused n d
-unsized (done r) e = never e
-unsized (refused n d) {n = n′} e = let r = refusal-is e in ap (λ x. refused x d) (sym (r .0)) ∙ ap (refused n′) (sym (r .1))
-
-record Sized (m : Result Read) (z : Sizes) : Type 0 where
-  read : Read
-  is : m ≡ done read
-  sizes : sizes (read .n) (read .m) (length (read .list)) ≡ z
-
-sized-by : (m : Result Read) {z : Sizes} → sized m ≡ done z → Sized m z
-sized-by (done r) e = record { read = r; is = refl; sizes = same e }
-sized-by (refused n d) e = never e
-
 module _ (t : List ℕ) (list : List ℤ) where
   pub taken-bad : {n d : ℕ} → refused n d ≡ sized (readText t) → (refused n d leaves list) ≡ ReadText t list
   unfolding ReadText
-  taken-bad e = rw (unsized (readText t) e)
+  taken-bad e = rw (made-not sizesRead (readText t) (sym e))
 
   module _ {N M next : ℕ} (h : lineAt t ≡ done (N, M, next, drop next t)) {k : ℕ} (e : sized (listFrom (started N M) next (drop next t)) ≡ done (sizes N M k)) where
-    by : Sized (listFrom (started N M) next (drop next t)) (sizes N M k)
-    by = sized-by (listFrom (started N M) next (drop next t)) e
+    by : Made sizesRead (listFrom (started N M) next (drop next t)) (sizes N M k)
+    by = made-by sizesRead (listFrom (started N M) next (drop next t)) e
 
-    long : length (by .read .list) ≡ k
-    long = ap (λ (z : Sizes). z .k) (by .sizes)
+    long : length (by .from .list) ≡ k
+    long = ap (λ (z : Sizes). z .k) (by .makes)
 
-    read : readText t ≡ done (by .read)
+    read : readText t ≡ done (by .from)
     read = text-read t h ∙ by .is
 
     pub taken-short : length list < k → (refused 10 k leaves list) ≡ ReadText t list
@@ -251,12 +238,12 @@ module _ (t : List ℕ) (list : List ℤ) where
     taken-short l = rw (read, long, lt-leb k (length list) l)
 
     pub taken-fits : k ≤ length list → Fits N M next t list
-    taken-fits l = record { read = by .read; is = by .is; fits = omega (arith, long) }
+    taken-fits l = record { read = by .from; is = by .is; fits = omega (arith, long) }
 
     pub taken-all : (out : List ℤ) → k ≤ length list → out ≡ written (numbersFrom N M next t) list → (done (sizes N M k) leaves out) ≡ ReadText t list
     unfolding ReadText written
     taken-all out l w =
-        let m = le-leb (length (by .read .list)) (length list) (omega (arith, long)) in
+        let m = le-leb (length (by .from .list)) (length list) (omega (arith, long)) in
         ap (λ o. done (sizes N M k) leaves o) (w ∙ ap (λ m. written (numbersOf m) list) (by .is))
-        ∙ ap (λ z. done z leaves (written (by .read .list) list)) (sym (by .sizes))
+        ∙ ap (λ z. done z leaves (written (by .from .list) list)) (sym (by .makes))
         ∙ rw (read, m)

@@ -1,25 +1,25 @@
 -- A reply's model: its bytes, literal by literal, and what is answered with them. Assumes nothing.
 use mathlib.Core.Path.{_≡_, refl, sym, ap, _∙_}
+use mathlib.Core.Logic.{inl, inr}
 use mathlib.Core.Bool.{Bool, true, false, _||_}
 use mathlib.Core.List.{List, [], _∷_, _++_}
 use Prim.Native.Nat.{ℕ, zero, suc, _+_, _-_, _≤_, _<_}
 use native.Mathlib.Omega.{arith}
-use lib.Dec.{T}
 use lib.ListN.{length, drop, set, replicate, length-replicate, replicate-append-replicate}
 use lib.IntN.{ℤ, pos, natAbs}
 use borrow.Author.Tests.{eq-eqb, ne-eqb}
 use Rattle.definitions.specs.Tools.{if_then_else_, any, eqZ}
 use Rattle.definitions.specs.Result.{Result, done, refused}
 use Rattle.definitions.specs.Operations.{Outcome, lending, _leaves_}
-use Rattle.laws.specs.Readings.{never}
 use Rattle.laws.specs.Reads.{equalsZ}
-use Rattle.laws.specs.Refusals.{refusal-is}
 use Rattle.laws.specs.Some.{any-append}
 use Rattle.laws.specs.Written.{written, written-snoc, written-all}
 use Rattle.definitions.specs.TextReading.{valueOf, Reply, model, none, readReply}
 use Rattle.definitions.specs.TextOperations.{modelOf, taken, ReadReply}
-use Rattle.laws.specs.Stepping.{num}
-use Rattle.replies.specs.Parts.{replyFrom, lines, inOrder, without, literals, summed, literalsOf, literalsFrom, HasModel}
+use Rattle.demands.specs.GoodTexts.{yes}
+use Rattle.laws.specs.Stepping.{num, cases}
+use Rattle.replies.specs.Parts.{replyFrom, lines, inOrder, without, literals, summary, summed, literalsOf, literalsFrom, HasModel}
+use Rattle.replies.specs.Bytes.{made-by, made-not}
 use Rattle.replies.specs.Marks.{changed, unchanged, one-changed, onceFrom, soughtFrom, sought-all}
 
 -- ---- bytes that are cleared
@@ -35,18 +35,10 @@ abbrev pub withLiteral : Bool → ℕ → List ℕ → List ℕ
 withLiteral minus v l = if minus then l else changed (λ b. 1) 1 v l
 
 ne-eqZ : (a b : ℤ) → (a ≡ b → ⊥) → eqZ a b ≡ false
-ne-eqZ a b h = go (eqZ a b) (λ t. h (equalsZ a b .sound t))
-  where
-    go : (t : Bool) → (T t → ⊥) → t ≡ false
-    go true h = absurd (h tt)
-    go false h = refl
+ne-eqZ a b h = elim (cases (eqZ a b)) [ inl e ↦ absurd (h (equalsZ a b .sound (rw e tt))) | inr e ↦ e ]
 
 eq-eqZ : (a : ℤ) → eqZ a a ≡ true
-eq-eqZ a = go (eqZ a a) (equalsZ a a .full refl)
-  where
-    go : (t : Bool) → T t → t ≡ true
-    go true h = refl
-    go false h = absurd h
+eq-eqZ a = yes (eqZ a a) (equalsZ a a .full refl)
 
 abbrev shown : Bool → ℕ
 shown b = if b then 1 else 0
@@ -91,6 +83,15 @@ pub record Told (N from count : ℕ) (rising : Bool) (t : List ℕ) : Type 0 whe
 abbrev pub takenFrom : ℕ → ℕ → List ℕ → List ℕ → Outcome Bool (List ℕ)
 takenFrom N from t lent = lending lent (taken N lent (model (literalsFrom N from t)))
 
+-- what is sought after the literals in order is sought from 1 on
+pub sought-told : {N from count : ℕ} {rising : Bool} {t : List ℕ} → Told N from count rising t → {first : ℕ} → first ≡ soughtFrom N count rising → {m : Result (Unit {0})}
+    → onceFrom first ((N + 1) - first) (literalsFrom N from t) ≡ m → onceFrom 1 N (literalsFrom N from t) ≡ m
+sought-told {N} {from} {count} {rising} {t} k e h =
+    let ns = literalsFrom N from t in
+    sym (sought-all N ns rising (k .order))
+    ∙ ap (λ j. onceFrom j ((N + 1) - j) ns) (ap (λ c. soughtFrom N c rising) (k .long) ∙ sym e)
+    ∙ h
+
 module _ (N from : ℕ) (t lent : List ℕ) where
   abbrev ns : List ℤ
   ns = literalsFrom N from t
@@ -104,40 +105,32 @@ module _ (N from : ℕ) (t lent : List ℕ) where
   pub answer-model : onceFrom 1 N ns ≡ done tt → length lent ≡ N → (out : List ℕ) → out ≡ modelOf (length lent) ns → (done true leaves out) ≡ takenFrom N from t lent
   answer-model e h out m = ap (λ o. done true leaves o) (m ∙ ap (λ k. modelOf k ns) h) ∙ rw (e, eq-eqb (length lent) N h)
 
-  -- what is sought after the literals in order is sought from 1 on
-  pub sought-told : {count : ℕ} {rising : Bool} → Told N from count rising t → {first : ℕ} → first ≡ soughtFrom N count rising → {m : Result (Unit {0})} → onceFrom first ((N + 1) - first) ns ≡ m → onceFrom 1 N ns ≡ m
-  sought-told {count} {rising} k e h =
-      sym (sought-all N ns rising (k .order))
-      ∙ ap (λ j. onceFrom j ((N + 1) - j) ns) (ap (λ c. soughtFrom N c rising) (k .long) ∙ sym e)
-      ∙ h
-
 -- ---- the whole reply
-unsummed : (m : Result Reply) {n d : ℕ} → summed m ≡ refused n d → m ≡ refused n d
-unsummed (done r) e = never (sym e)
-unsummed (refused n d) {n = n′} e = let r = refusal-is e in ap (λ x. refused x d) (r .0) ∙ ap (refused n′) (r .1)
+is-none : (r : Reply) → summary r ≡ without → r ≡ none
+is-none none e = refl
+is-none (model ns) e = absurd (let z : _≡_ {A = ℕ} 0 1 = cc in omega arith)
 
-says-none : (m : Result Reply) → summed m ≡ done without → m ≡ done none
-says-none (done none) e = refl
-says-none (done (model ns)) e = absurd (let z : _≡_ {A = ℕ} 0 1 = cc in omega arith)
-says-none (refused n d) e = never e
+is-model : (r : Reply) {count : ℕ} {rising : Bool} → summary r ≡ literals count rising → (ns : List ℤ) × ((r ≡ model ns) × ((length ns ≡ count) × (inOrder 1 ns ≡ rising)))
+is-model none e = absurd (let z : _≡_ {A = ℕ} 0 1 = cc in omega arith)
+is-model (model ns) e = (ns, (refl, (cc, cc)))
 
 module _ (N : ℕ) (t lent : List ℕ) where
   pub reply-bad : {n d : ℕ} → summed (readReply N t) ≡ refused n d → (refused n d leaves lent) ≡ ReadReply N t lent
   unfolding ReadReply
-  reply-bad e = rw (unsummed (readReply N t) e)
+  reply-bad e = rw (made-not summary (readReply N t) e)
 
   pub reply-nothing : summed (readReply N t) ≡ done without → (done false leaves lent) ≡ ReadReply N t lent
   unfolding ReadReply
-  reply-nothing e = rw (says-none (readReply N t) e)
+  reply-nothing e = let k = made-by summary (readReply N t) e in rw (k .is, is-none (k .from) (k .makes))
 
   module _ {from count : ℕ} {rising : Bool} (e : summed (readReply N t) ≡ done (literals count rising)) (h : from ≤ length t) (p : readReply N t ≡ replyFrom (lines N) from (drop from t)) where
-    by : (m : Result Reply) → summed m ≡ done (literals count rising) → (m ≡ done (model (literalsOf m))) × ((length (literalsOf m) ≡ count) × (inOrder 1 (literalsOf m) ≡ rising))
-    by (done none) e = absurd (let z : _≡_ {A = ℕ} 0 1 = cc in omega arith)
-    by (done (model ns)) e = (refl, (cc, cc))
-    by (refused n d) e = never e
-
     pub reply-told : Told N from count rising t
-    reply-told = let k = by (replyFrom (lines N) from (drop from t)) (ap summed (sym p) ∙ e) in record { good = record { inside = h; is = k .0 }; long = k .1 .0; order = k .1 .1 }
+    reply-told =
+        let k = made-by summary (readReply N t) e in
+        let r = is-model (k .from) (k .makes) in
+        let is : replyFrom (lines N) from (drop from t) ≡ done (model (r .0)) = sym p ∙ k .is ∙ ap done (r .1 .0) in
+        let ns : literalsFrom N from t ≡ r .0 = ap literalsOf is in
+        record { good = record { inside = h; is = is ∙ ap (λ l. done (model l)) (sym ns) }; long = ap length ns ∙ r .1 .1 .0; order = ap (inOrder 1) ns ∙ r .1 .1 .1 }
 
     pub reply-taken : takenFrom N from t lent ≡ ReadReply N t lent
     unfolding ReadReply

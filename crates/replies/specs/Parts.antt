@@ -74,8 +74,11 @@ listFrom = from endText
 abbrev pub sizes : ℕ → ℕ → ℕ → Sizes
 sizes N M K = record { n = N; m = M; k = K }
 
+abbrev pub sizesRead : Read → Sizes
+sizesRead r = sizes (r .n) (r .m) (length (r .list))
+
 abbrev pub sized : Result Read → Result Sizes
-sized m = m >>= λ r. done (sizes (r .n) (r .m) (length (r .list)))
+sized m = m >>= λ r. done (sizesRead r)
 
 -- ---- a reply
 abbrev pub replyFrom : State → ℕ → List ℕ → Result Reply

@@ -21,7 +21,6 @@ use Rattle.definitions.specs.TextReading.{Number, valueOf, whole, begun, grown,
 use Rattle.definitions.specs.TextOperations.{often}
 use Rattle.laws.specs.Stepping.{num, cases}
 use Rattle.demands.specs.Reached.{value-size}
-use Rattle.demands.specs.ReplyModels.{AllOnce}
 use Rattle.replies.specs.declared.Value.{Value}
 use Rattle.replies.specs.declared.Heard.{Heard}
 use Rattle.replies.specs.Parts.{wordAt, numberFrom, numberAt, replyFrom, nothing, Taken, last, more, afterNumber, numberOn, valueAt, wanted, lines, inOrder, Summary, without, literals, summed, noneAt, modelAt, literalsOf, literalsFrom, HasModel}
@@ -352,7 +351,7 @@ module _ (N : ℕ) (t : List ℕ) where
         let is = drop-cons t next 0 l in
         ap (modelAt N next) is ∙ sym (judged-model N next (getD t next 0) (drop (suc next) t) e) ∙ ap (judged N next) (sym is) ∙ sym reply-on
 
--- ---- literals of 1, 2, .. in order: each variable stands there once
+-- ---- literals of k, k + 1, .. in order: each variable of them stands there once
 often-before : (k v : ℕ) (ns : List ℤ) → inOrder k ns ≡ true → v < k → often v ns ≡ 0
 often-before k v [] h l = refl
 often-before k v (n ∷ ns) h l =
@@ -371,6 +370,3 @@ often-once k v (n ∷ ns) h l m = elim (cases (eqb (natAbs n) v)) [
 
     above : (k v : ℕ) → (k ≡ v → ⊥) → k ≤ v → suc k ≤ v
     above k v y l = elim (cases (ltb k v)) [ inl z ↦ (let w = ltb-true k v z in omega arith) | inr z ↦ absurd (let w = ltb-false k v z in y (omega arith)) ]
-
-pub none-missing-none-twice : (N : ℕ) (ns : List ℤ) → length ns ≡ N → inOrder 1 ns ≡ true → AllOnce N ns
-none-missing-none-twice N ns e h v l m = often-once 1 v ns h l (omega (arith, e))

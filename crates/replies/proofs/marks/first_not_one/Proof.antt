@@ -24,11 +24,15 @@ shared-slice-read-if1 c = search needs
 
 add-t8 : tie.Need-add-t8 Inv-loop μ-loop
 add-t8 c =
-    omega (arith, c .before .before .before .before .pre, c .before .before .loop-test .taken)
+    let pre = c .before .before .before .before .pre in
+    let loop-test = c .before .before .loop-test in
+    omega (arith, pre, loop-test .taken)
 
 returns : tie.Need-returns Inv-loop μ-loop
 returns c =
-    sym (ones-fails _ _ _ (c .before .before .loop-test .taken) (c .if1 .taken)) ∙ c .before .before .before .loop .inv
+    let loop = c .before .before .before .loop in
+    let loop-test = c .before .before .loop-test in
+    sym (ones-fails _ _ _ (loop-test .taken) (c .if1 .taken)) ∙ loop .inv
 
 add-i : tie.Need-add-i Inv-loop μ-loop
 add-i c = search needs
@@ -38,7 +42,9 @@ loop-less c = search needs
 
 loop-again : tie.Need-loop-again Inv-loop μ-loop
 loop-again c =
-    sym (ones-goes _ _ _ (c .before .before .loop-test .taken) (c .if1 .left)) ∙ c .before .before .before .loop .inv
+    let loop = c .before .before .before .loop in
+    let loop-test = c .before .before .loop-test in
+    sym (ones-goes _ _ _ (loop-test .taken) (c .if1 .left)) ∙ loop .inv
 
 returns-2 : tie.Need-returns-2 Inv-loop μ-loop
 returns-2 c =

@@ -31,35 +31,52 @@ window-requires c κs = search needs
 
 not-once-in-requires : tie.Need-not-once-in-requires Inv-loop μ-loop
 not-once-in-requires c κs =
-    (c .before .before .before .before .pre .0, omega (arith, c .window .ensures), omega (arith, c .window .ensures, c .before .loop-test .taken, c .before .before .before .before .fits .n))
+    let fits = c .before .before .before .before .fits in
+    let pre = c .before .before .before .before .pre in
+    (pre .0, omega (arith, c .window .ensures), omega (arith, c .window .ensures, c .before .loop-test .taken, fits .n))
 
 enum-known-variable : tie.Need-enum-known-variable Inv-loop μ-loop
 enum-known-variable c = search needs
 
 returns : tie.Need-returns Inv-loop μ-loop
 returns c =
-    let ns = literalsFrom (c .before .before .before .before .before .before .before .before .args .n) (c .before .before .before .before .before .before .before .before .args .from) (c .before .before .before .before .before .before .before .before .args .text .now) in
-    sym (window-fails ns (c .before .before .before .before .before .before .loop .at) (c .before .before .before .before .window .result) (c .before .before .before .before .before .before .before .before .args .n + 1) (omega (arith, c .before .before .before .before .window .ensures)) (told (saidFound 19) (c .before .before .before .not-once-in .ensures) (c .before .variable .given .1))) ∙ c .before .before .before .before .before .before .loop .inv .1
+    let args = c .before .before .before .before .before .before .before .before .args in
+    let loop = c .before .before .before .before .before .before .loop in
+    let window = c .before .before .before .before .window in
+    let not-once-in = c .before .before .before .not-once-in in
+    let ns = literalsFrom (args .n) (args .from) (args .text .now) in
+    sym (window-fails ns (loop .at) (window .result) (args .n + 1) (omega (arith, window .ensures)) (told (saidFound 19) (not-once-in .ensures) (c .before .variable .given .1))) ∙ loop .inv .1
 
 enum-told : tie.Need-enum-told Inv-loop μ-loop
 enum-told c = search needs
 
 add-at : tie.Need-add-at Inv-loop μ-loop
 add-at c =
-    omega (arith, c .before .before .before .window .ensures, c .before .before .before .before .loop-test .taken, c .before .before .before .before .before .before .before .fits .n)
+    let fits = c .before .before .before .before .before .before .before .fits in
+    let loop-test = c .before .before .before .before .loop-test in
+    let window = c .before .before .before .window in
+    omega (arith, window .ensures, loop-test .taken, fits .n)
 
 loop-less : tie.Need-loop-less Inv-loop μ-loop
 loop-less c =
-    omega (arith, c .before .before .before .window .ensures, c .before .before .before .before .loop-test .taken)
+    let loop-test = c .before .before .before .before .loop-test in
+    let window = c .before .before .before .window in
+    omega (arith, window .ensures, loop-test .taken)
 
 loop-again : tie.Need-loop-again Inv-loop μ-loop
 loop-again c =
-    let ns = literalsFrom (c .before .before .before .before .before .before .before .args .n) (c .before .before .before .before .before .before .before .args .from) (c .before .before .before .before .before .before .before .args .text .now) in
-    (omega (arith, c .before .before .before .window .ensures, c .before .before .before .before .loop-test .taken), sym (window-passes ns (c .before .before .before .before .before .loop .at) (c .before .before .before .window .result) (c .before .before .before .before .before .before .before .args .n + 1) (omega (arith, c .before .before .before .window .ensures)) (told (saidFound 19) (c .before .before .not-once-in .ensures) (c .enum-told .given .1))) ∙ c .before .before .before .before .before .loop .inv .1)
+    let args = c .before .before .before .before .before .before .before .args in
+    let loop = c .before .before .before .before .before .loop in
+    let loop-test = c .before .before .before .before .loop-test in
+    let window = c .before .before .before .window in
+    let not-once-in = c .before .before .not-once-in in
+    let ns = literalsFrom (args .n) (args .from) (args .text .now) in
+    (omega (arith, window .ensures, loop-test .taken), sym (window-passes ns (loop .at) (window .result) (args .n + 1) (omega (arith, window .ensures)) (told (saidFound 19) (not-once-in .ensures) (c .enum-told .given .1))) ∙ loop .inv .1)
 
 returns-2 : tie.Need-returns-2 Inv-loop μ-loop
 returns-2 c =
-    let ns = literalsFrom (c .before .before .before .args .n) (c .before .before .before .args .from) (c .before .before .before .args .text .now) in
+    let args = c .before .before .before .args in
+    let ns = literalsFrom (args .n) (args .from) (args .text .now) in
     sym (no-window ns _ _ (c .loop-test .left)) ∙ c .before .loop .inv .1
 
 pub least-not-once-spec : {M : Type 1} → statement M

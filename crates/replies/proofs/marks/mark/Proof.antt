@@ -11,14 +11,17 @@ returns c =
 
 returns-2 : tie.Need-returns-2
 returns-2 c =
-    changed-past raised (c .before .before .args .first) (c .before .before .args .variable) (c .before .before .args .marks .now) (omega (arith, c .before .if1 .left)) (c .if2 .taken)
+    let args = c .before .before .args in
+    changed-past raised (args .first) (args .variable) (args .marks .now) (omega (arith, c .before .if1 .left)) (c .if2 .taken)
 
 slice-read-often : tie.Need-slice-read-often
 slice-read-often c = search needs
 
 returns-3 : tie.Need-returns-3
 returns-3 c =
-    changed-kept raised (c .before .before .before .before .args .first) (c .before .before .before .before .args .variable) (c .before .before .before .before .args .marks .now) (omega (arith, c .before .before .before .if1 .left)) (raised-full _ (c .if3 .taken))
+    let args = c .before .before .before .before .args in
+    let if1 = c .before .before .before .if1 in
+    changed-kept raised (args .first) (args .variable) (args .marks .now) (omega (arith, if1 .left)) (raised-full _ (c .if3 .taken))
 
 add-marks : tie.Need-add-marks
 add-marks c = search needs
@@ -31,7 +34,9 @@ same-length c = search needs
 
 returns-4 : tie.Need-returns-4
 returns-4 c =
-    changed-there raised (c .before .before .before .before .args .first) (c .before .before .before .before .args .variable) (c .before .before .before .before .args .marks .now) (omega (arith, c .before .before .before .if1 .left)) (raised-more _ (omega (arith, c .if3 .left)))
+    let args = c .before .before .before .before .args in
+    let if1 = c .before .before .before .if1 in
+    changed-there raised (args .first) (args .variable) (args .marks .now) (omega (arith, if1 .left)) (raised-more _ (omega (arith, c .if3 .left)))
 
 pub mark-spec : {M : Type 1} → statement M
 mark-spec =

@@ -20,7 +20,9 @@ abbrev μ-loop : tie.MeasureT-loop
 
 loop-holds : tie.Need-loop-holds Inv-loop μ-loop
 loop-holds c =
-    passing-none _ _ _ _ (c .before .before .pre .0 .inside) (c .before .before .pre .1 ∙ none-yet (c .before .before .args .first) (length (c .before .before .args .marks .now)))
+    let args = c .before .before .args in
+    let pre = c .before .before .pre in
+    passing-none _ _ _ _ (pre .0 .inside) (pre .1 ∙ none-yet (args .first) (length (args .marks .now)))
 
 value-at-requires : tie.Need-value-at-requires Inv-loop μ-loop
 value-at-requires c κs = c .loop .inv .passed .inside
@@ -36,35 +38,51 @@ mark-requires c κs = search needs
 
 loop-less : tie.Need-loop-less Inv-loop μ-loop
 loop-less c =
-    let h = rw (c .before .before .before .before .before .size .given .1) at (c .before .before .before .before .before .before .before .value-at .ensures .1) in omega (arith, h .0, h .1)
+    let value-at = c .before .before .before .before .before .before .before .value-at in
+    let size = c .before .before .before .before .before .size in
+    let h = rw (size .given .1) at (value-at .ensures .1) in omega (arith, h .0, h .1)
 
 loop-again : tie.Need-loop-again Inv-loop μ-loop
 loop-again c =
-    let h = rw (c .before .before .before .before .before .size .given .1) at (c .before .before .before .before .before .before .before .value-at .ensures .1) in
-    let minus = c .before .before .before .before .before .size .given .0 .0 in
-    passing-more _ _ _ _ (c .before .before .before .before .before .before .before .before .loop .inv) (told (saidValue _) (c .before .before .before .before .before .before .before .value-at .ensures .0) (c .before .before .before .before .before .size .given .1)) (h .1) (λ ns e. c .before .before .mark .ensures ∙ ap (changed raised (c .before .before .before .before .before .before .before .before .before .before .before .args .first) _) e ∙ marks-more (c .before .before .before .before .before .before .before .before .before .before .before .args .first) (length (c .before .before .before .before .before .before .before .before .before .before .before .args .marks .now)) ns minus (c .before .before .before .before .before .size .given .0 .1 .0))
+    let args = c .before .before .before .before .before .before .before .before .before .before .before .args in
+    let loop = c .before .before .before .before .before .before .before .before .loop in
+    let value-at = c .before .before .before .before .before .before .before .value-at in
+    let size = c .before .before .before .before .before .size in
+    let mark = c .before .before .mark in
+    let h = rw (size .given .1) at (value-at .ensures .1) in
+    let minus = size .given .0 .0 in
+    passing-more _ _ _ _ (loop .inv) (told (saidValue _) (value-at .ensures .0) (size .given .1)) (h .1) (λ ns e. mark .ensures ∙ ap (changed raised (args .first) _) e ∙ marks-more (args .first) (length (args .marks .now)) ns minus (size .given .0 .1 .0))
 
 enum-told : tie.Need-enum-told Inv-loop μ-loop
 enum-told c = search needs
 
 same-length : tie.Need-same-length Inv-loop μ-loop
 same-length c =
-    ap length (c .before .before .before .loop .inv .held) ∙ as-many _ _ _
+    let loop = c .before .before .before .loop in
+    ap length (loop .inv .held) ∙ as-many _ _ _
 
 returns : tie.Need-returns Inv-loop μ-loop
 returns c =
-    passing-all _ _ _ _ (c .before .before .before .loop .inv) (told (saidValue (c .before .before .before .before .before .before .args .text .now)) (c .before .before .value-at .ensures .0) (c .enum-told .given .1))
+    let args = c .before .before .before .before .before .before .args in
+    let loop = c .before .before .before .loop in
+    let value-at = c .before .before .value-at in
+    passing-all _ _ _ _ (loop .inv) (told (saidValue (args .text .now)) (value-at .ensures .0) (c .enum-told .given .1))
 
 enum-told-2 : tie.Need-enum-told-2 Inv-loop μ-loop
 enum-told-2 c = search needs
 
 same-length-2 : tie.Need-same-length-2 Inv-loop μ-loop
 same-length-2 c =
-    ap length (c .before .before .before .loop .inv .held) ∙ as-many _ _ _
+    let loop = c .before .before .before .loop in
+    ap length (loop .inv .held) ∙ as-many _ _ _
 
 returns-2 : tie.Need-returns-2 Inv-loop μ-loop
 returns-2 c =
-    passing-bad _ _ _ _ (c .before .before .before .loop .inv) (c .before .before .before .before .before .before .pre .0) (told (saidValue (c .before .before .before .before .before .before .args .text .now)) (c .before .before .value-at .ensures .0) (c .enum-told2 .given .1))
+    let args = c .before .before .before .before .before .before .args in
+    let pre = c .before .before .before .before .before .before .pre in
+    let loop = c .before .before .before .loop in
+    let value-at = c .before .before .value-at in
+    passing-bad _ _ _ _ (loop .inv) (pre .0) (told (saidValue (args .text .now)) (value-at .ensures .0) (c .enum-told2 .given .1))
 
 pub mark-values-spec : {M : Type 1} → statement M
 mark-values-spec =

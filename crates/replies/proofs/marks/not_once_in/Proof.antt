@@ -21,18 +21,27 @@ array-share-prefix-marks c = search needs
 
 slice-aggregate-first-not-one : tie.Need-slice-aggregate-first-not-one
 slice-aggregate-first-not-one c =
-    let marks = c .before .before .mark-values .last .1 .1 .1 .1 .0 in
-    sym (length-take-le (c .before .before .before .before .before .args .many) marks (omega (arith, c .before .before .before .before .before .pre .1, c .before .before .mark-values .kept .1 .1 .1 .1 .0)))
+    let args = c .before .before .before .before .before .args in
+    let pre = c .before .before .before .before .before .pre in
+    let mark-values = c .before .before .mark-values in
+    let marks = mark-values .last .1 .1 .1 .1 .0 in
+    sym (length-take-le (args .many) marks (omega (arith, pre .1, mark-values .kept .1 .1 .1 .1 .0)))
 
 first-not-one-requires : tie.Need-first-not-one-requires
 first-not-one-requires c κs =
-    let marks = c .before .before .mark-values .last .1 .1 .1 .1 .0 in
-    omega (arith, length-take-le (c .before .before .before .before .before .args .many) marks (omega (arith, c .before .before .before .before .before .pre .1, c .before .before .mark-values .kept .1 .1 .1 .1 .0)), c .before .before .before .before .before .pre .2)
+    let args = c .before .before .before .before .before .args in
+    let pre = c .before .before .before .before .before .pre in
+    let mark-values = c .before .before .mark-values in
+    let marks = mark-values .last .1 .1 .1 .1 .0 in
+    omega (arith, length-take-le (args .many) marks (omega (arith, pre .1, mark-values .kept .1 .1 .1 .1 .0)), pre .2)
 
 returns : tie.Need-returns
 returns c =
-    let ns = literalsFrom (c .before .before .before .before .before .before .args .n) (c .before .before .before .before .before .before .args .from) (c .before .before .before .before .before .before .args .text .now) in
-    c .first-not-one .ensures ∙ window-tells ns (c .before .before .before .before .before .before .args .first) (c .before .before .before .before .before .before .args .many) (length (replicate 32768 zero)) (c .before .before .before .mark-values .last .1 .1 .1 .1 .0) (c .before .before .before .mark-values .ensures) (omega (arith, c .before .before .before .before .before .before .pre .1, length-replicate 32768 zero))
+    let args = c .before .before .before .before .before .before .args in
+    let pre = c .before .before .before .before .before .before .pre in
+    let mark-values = c .before .before .before .mark-values in
+    let ns = literalsFrom (args .n) (args .from) (args .text .now) in
+    c .first-not-one .ensures ∙ window-tells ns (args .first) (args .many) (length (replicate 32768 zero)) (mark-values .last .1 .1 .1 .1 .0) (mark-values .ensures) (omega (arith, pre .1, length-replicate 32768 zero))
 
 pub not-once-in-spec : {M : Type 1} → statement M
 not-once-in-spec =

@@ -13,14 +13,16 @@ add-result c = search needs
 
 returns-2 : tie.Need-returns-2
 returns-2 c =
-    rw (not-false (c .before .before .args .rising) (c .before .if1 .left)) (omega (arith, c .if2 .taken))
+    let args = c .before .before .args in
+    rw (not-false (args .rising) (c .before .if1 .left)) (omega (arith, c .if2 .taken))
 
 add-result-2 : tie.Need-add-result-2
 add-result-2 c = search needs
 
 returns-3 : tie.Need-returns-3
 returns-3 c =
-    rw (not-false (c .before .before .args .rising) (c .before .if1 .left)) (omega (arith, c .if2 .left))
+    let args = c .before .before .args in
+    rw (not-false (args .rising) (c .before .if1 .left)) (omega (arith, c .if2 .left))
 
 pub sought-from-spec : {M : Type 1} → statement M
 sought-from-spec = tie.close (tie.spec returns add-result returns-2 add-result-2 returns-3)

@@ -11,11 +11,14 @@ returns c = rw (c .if1 .taken)
 
 returns-2 : tie.Need-returns-2
 returns-2 c =
-    rw (c .before .if1 .left) (changed-before (λ b. 1) 1 (c .before .before .args .variable) (c .before .before .args .model .now) (c .if2 .taken))
+    let args = c .before .before .args in
+    rw (c .before .if1 .left) (changed-before (λ b. 1) 1 (args .variable) (args .model .now) (c .if2 .taken))
 
 returns-3 : tie.Need-returns-3
 returns-3 c =
-    rw (c .before .before .if1 .left) (changed-past (λ b. 1) 1 (c .before .before .before .args .variable) (c .before .before .before .args .model .now) (omega (arith, c .before .if2 .left)) (c .if3 .taken))
+    let args = c .before .before .before .args in
+    let if1 = c .before .before .if1 in
+    rw (if1 .left) (changed-past (λ b. 1) 1 (args .variable) (args .model .now) (omega (arith, c .before .if2 .left)) (c .if3 .taken))
 
 slice-write-model : tie.Need-slice-write-model
 slice-write-model c = search needs
@@ -25,7 +28,9 @@ same-length c = search needs
 
 returns-4 : tie.Need-returns-4
 returns-4 c =
-    rw (c .before .before .if1 .left) (changed-there (λ b. 1) 1 (c .before .before .before .args .variable) (c .before .before .before .args .model .now) (omega (arith, c .before .if2 .left)) refl)
+    let args = c .before .before .before .args in
+    let if1 = c .before .before .if1 in
+    rw (if1 .left) (changed-there (λ b. 1) 1 (args .variable) (args .model .now) (omega (arith, c .before .if2 .left)) refl)
 
 pub put-literal-spec : {M : Type 1} → statement M
 put-literal-spec =

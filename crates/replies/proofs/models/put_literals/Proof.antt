@@ -21,7 +21,9 @@ abbrev μ-loop : tie.MeasureT-loop
 
 loop-holds : tie.Need-loop-holds Inv-loop μ-loop
 loop-holds c =
-    passing-none _ _ _ _ (c .before .before .pre .0 .inside) (c .before .before .pre .1 ∙ none-yet 1 (length (c .before .before .args .model .now)))
+    let args = c .before .before .args in
+    let pre = c .before .before .pre in
+    passing-none _ _ _ _ (pre .0 .inside) (pre .1 ∙ none-yet 1 (length (args .model .now)))
 
 value-at-requires : tie.Need-value-at-requires Inv-loop μ-loop
 value-at-requires c κs = c .loop .inv .passed .inside
@@ -37,35 +39,50 @@ put-literal-requires c κs = search needs
 
 loop-less : tie.Need-loop-less Inv-loop μ-loop
 loop-less c =
-    let h = rw (c .before .before .before .before .before .minus .given .1) at (c .before .before .before .before .before .before .before .value-at .ensures .1) in omega (arith, h .0, h .1)
+    let value-at = c .before .before .before .before .before .before .before .value-at in
+    let minus = c .before .before .before .before .before .minus in
+    let h = rw (minus .given .1) at (value-at .ensures .1) in omega (arith, h .0, h .1)
 
 loop-again : tie.Need-loop-again Inv-loop μ-loop
 loop-again c =
-    let h = rw (c .before .before .before .before .before .minus .given .1) at (c .before .before .before .before .before .before .before .value-at .ensures .1) in
+    let args = c .before .before .before .before .before .before .before .before .before .before .before .args in
+    let loop = c .before .before .before .before .before .before .before .before .loop in
+    let value-at = c .before .before .before .before .before .before .before .value-at in
+    let put-literal = c .before .before .put-literal in
+    let h = rw (c .before .before .before .before .before .minus .given .1) at (value-at .ensures .1) in
     let minus = c .before .before .before .before .before .minus .given .0 .0 in
-    passing-more _ _ _ _ (c .before .before .before .before .before .before .before .before .loop .inv) (told (saidValue _) (c .before .before .before .before .before .before .before .value-at .ensures .0) (c .before .before .before .before .before .minus .given .1)) (h .1) (λ ns e. c .before .before .put-literal .ensures ∙ ap (withLiteral minus (c .before .before .before .before .before .minus .given .0 .1 .0)) e ∙ model-more (length (c .before .before .before .before .before .before .before .before .before .before .before .args .model .now)) ns minus (c .before .before .before .before .before .minus .given .0 .1 .0))
+    passing-more _ _ _ _ (loop .inv) (told (saidValue _) (value-at .ensures .0) (c .before .before .before .before .before .minus .given .1)) (h .1) (λ ns e. put-literal .ensures ∙ ap (withLiteral minus (c .before .before .before .before .before .minus .given .0 .1 .0)) e ∙ model-more (length (args .model .now)) ns minus (c .before .before .before .before .before .minus .given .0 .1 .0))
 
 enum-told : tie.Need-enum-told Inv-loop μ-loop
 enum-told c = search needs
 
 same-length : tie.Need-same-length Inv-loop μ-loop
 same-length c =
-    ap length (c .before .before .before .loop .inv .held) ∙ as-many _ _ _
+    let loop = c .before .before .before .loop in
+    ap length (loop .inv .held) ∙ as-many _ _ _
 
 returns : tie.Need-returns Inv-loop μ-loop
 returns c =
-    passing-all _ _ _ _ (c .before .before .before .loop .inv) (told (saidValue (c .before .before .before .before .before .before .args .text .now)) (c .before .before .value-at .ensures .0) (c .enum-told .given .1))
+    let args = c .before .before .before .before .before .before .args in
+    let loop = c .before .before .before .loop in
+    let value-at = c .before .before .value-at in
+    passing-all _ _ _ _ (loop .inv) (told (saidValue (args .text .now)) (value-at .ensures .0) (c .enum-told .given .1))
 
 enum-told-2 : tie.Need-enum-told-2 Inv-loop μ-loop
 enum-told-2 c = search needs
 
 same-length-2 : tie.Need-same-length-2 Inv-loop μ-loop
 same-length-2 c =
-    ap length (c .before .before .before .loop .inv .held) ∙ as-many _ _ _
+    let loop = c .before .before .before .loop in
+    ap length (loop .inv .held) ∙ as-many _ _ _
 
 returns-2 : tie.Need-returns-2 Inv-loop μ-loop
 returns-2 c =
-    passing-bad _ _ _ _ (c .before .before .before .loop .inv) (c .before .before .before .before .before .before .pre .0) (told (saidValue (c .before .before .before .before .before .before .args .text .now)) (c .before .before .value-at .ensures .0) (c .enum-told2 .given .1))
+    let args = c .before .before .before .before .before .before .args in
+    let pre = c .before .before .before .before .before .before .pre in
+    let loop = c .before .before .before .loop in
+    let value-at = c .before .before .value-at in
+    passing-bad _ _ _ _ (loop .inv) (pre .0) (told (saidValue (args .text .now)) (value-at .ensures .0) (c .enum-told2 .given .1))
 
 pub put-literals-spec : {M : Type 1} → statement M
 put-literals-spec =

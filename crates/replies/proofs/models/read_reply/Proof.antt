@@ -19,31 +19,38 @@ enum-known-from c = search needs
 
 take-model-requires : tie.Need-take-model-requires
 take-model-requires c κs =
-    let a = c .before .before .before .before .before .before .before .args in
-    let h = rw (c .before .before .from .given .1) at (c .before .before .before .before .check-reply .ensures .1) in
-    reply-told (a .n) (a .text .now) (a .model .now) (told saidHeard (c .before .before .before .before .check-reply .ensures .0) (c .before .before .from .given .1)) (h .0) (h .1)
+    let args = c .before .before .before .before .before .before .before .args in
+    let check-reply = c .before .before .before .before .check-reply in
+    let from = c .before .before .from in
+    let h = rw (from .given .1) at (check-reply .ensures .1) in
+    reply-told (args .n) (args .text .now) (args .model .now) (told saidHeard (check-reply .ensures .0) (from .given .1)) (h .0) (h .1)
 
 enum-known-d : tie.Need-enum-known-d
 enum-known-d c = search needs
 
 returns : tie.Need-returns
 returns c =
-    let a = c .before .before .before .before .before .args in
-    apart (reply-nothing (a .n) (a .text .now) (a .model .now) (told saidHeard (c .before .before .check-reply .ensures .0) (c .enum-told .given .1)))
+    let args = c .before .before .before .before .before .args in
+    let check-reply = c .before .before .check-reply in
+    apart (reply-nothing (args .n) (args .text .now) (args .model .now) (told saidHeard (check-reply .ensures .0) (c .enum-told .given .1)))
 
 same-length : tie.Need-same-length
 same-length c = search needs
 
 returns-2 : tie.Need-returns-2
 returns-2 c =
-    let a = c .before .before .before .before .before .before .before .before .before .before .args in
-    let h = rw (c .before .before .before .before .before .from .given .1) at (c .before .before .before .before .before .before .before .check-reply .ensures .1) in
-    apart (c .before .before .take-model .ensures ∙ reply-taken (a .n) (a .text .now) (a .model .now) (told saidHeard (c .before .before .before .before .before .before .before .check-reply .ensures .0) (c .before .before .before .before .before .from .given .1)) (h .0) (h .1))
+    let args = c .before .before .before .before .before .before .before .before .before .before .args in
+    let check-reply = c .before .before .before .before .before .before .before .check-reply in
+    let from = c .before .before .before .before .before .from in
+    let take-model = c .before .before .take-model in
+    let h = rw (from .given .1) at (check-reply .ensures .1) in
+    apart (take-model .ensures ∙ reply-taken (args .n) (args .text .now) (args .model .now) (told saidHeard (check-reply .ensures .0) (from .given .1)) (h .0) (h .1))
 
 returns-3 : tie.Need-returns-3
 returns-3 c =
-    let a = c .before .before .before .before .before .before .args in
-    apart (reply-bad (a .n) (a .text .now) (a .model .now) (told saidHeard (c .before .before .before .check-reply .ensures .0) (c .before .d .given .1)))
+    let args = c .before .before .before .before .before .before .args in
+    let check-reply = c .before .before .before .check-reply in
+    apart (reply-bad (args .n) (args .text .now) (args .model .now) (told saidHeard (check-reply .ensures .0) (c .before .d .given .1)))
 
 pub read-reply-spec : {M : Type 1} → statement M
 read-reply-spec =

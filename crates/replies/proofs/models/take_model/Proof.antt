@@ -17,8 +17,9 @@ sought-from-requires c κs = search needs
 
 least-not-once-requires : tie.Need-least-not-once-requires
 least-not-once-requires c κs =
-    let a = c .before .before .before .args in
-    (c .before .before .before .pre .good, omega (arith, c .sought-from .ensures, sought-within (a .n) (a .count) (a .rising)))
+    let args = c .before .before .before .args in
+    let pre = c .before .before .before .pre in
+    (pre .good, omega (arith, c .sought-from .ensures, sought-within (args .n) (args .count) (args .rising)))
 
 enum-known-variable : tie.Need-enum-known-variable
 enum-known-variable c = search needs
@@ -28,32 +29,47 @@ enum-told c = search needs
 
 returns : tie.Need-returns
 returns c =
-    let a = c .before .before .before .before .before .before .before .args in
-    let once = sought-told (a .n) (a .from) (a .text .now) (a .model .now) (c .before .before .before .before .before .before .before .pre) (c .before .before .before .before .sought-from .ensures) (told (saidFound 19) (c .before .before .before .least-not-once .ensures) (c .before .enum-told .given .1)) in
-    answer-wrong (a .n) (a .from) (a .text .now) (a .model .now) once (c .if1 .taken)
+    let args = c .before .before .before .before .before .before .before .args in
+    let pre = c .before .before .before .before .before .before .before .pre in
+    let sought-from = c .before .before .before .before .sought-from in
+    let least-not-once = c .before .before .before .least-not-once in
+    let once = sought-told pre (sought-from .ensures) (told (saidFound 19) (least-not-once .ensures) (c .before .enum-told .given .1)) in
+    answer-wrong (args .n) (args .from) (args .text .now) (args .model .now) once (c .if1 .taken)
 
 clear-requires : tie.Need-clear-requires
 clear-requires c κs = search needs
 
 put-literals-requires : tie.Need-put-literals-requires
 put-literals-requires c κs =
-    (c .before .before .before .before .before .before .before .before .before .before .before .before .pre .good, c .before .before .before .clear .ensures ∙ ap (λ k. replicate k 0) (sym (c .before .before .before .clear .kept .0)))
+    let pre = c .before .before .before .before .before .before .before .before .before .before .before .before .pre in
+    let clear = c .before .before .before .clear in
+    (pre .good, clear .ensures ∙ ap (λ k. replicate k 0) (sym (clear .kept .0)))
 
 returns-2 : tie.Need-returns-2
 returns-2 c =
-    let a = c .before .before .before .before .before .before .before .args in
-    let once = sought-told (a .n) (a .from) (a .text .now) (a .model .now) (c .before .before .before .before .before .before .before .pre) (c .before .before .before .before .sought-from .ensures) (told (saidFound 19) (c .before .before .before .least-not-once .ensures) (c .before .variable .given .1)) in
-    answer-not-once (a .n) (a .from) (a .text .now) (a .model .now) once
+    let args = c .before .before .before .before .before .before .before .args in
+    let pre = c .before .before .before .before .before .before .before .pre in
+    let sought-from = c .before .before .before .before .sought-from in
+    let least-not-once = c .before .before .before .least-not-once in
+    let once = sought-told pre (sought-from .ensures) (told (saidFound 19) (least-not-once .ensures) (c .before .variable .given .1)) in
+    answer-not-once (args .n) (args .from) (args .text .now) (args .model .now) once
 
 same-length : tie.Need-same-length
 same-length c = search needs
 
 returns-3 : tie.Need-returns-3
 returns-3 c =
-    let a = c .before .before .before .before .before .before .before .before .before .before .before .before .before .before .before .args in
-    let once = sought-told (a .n) (a .from) (a .text .now) (a .model .now) (c .before .before .before .before .before .before .before .before .before .before .before .before .before .before .before .pre) (c .before .before .before .before .before .before .before .before .before .before .before .before .sought-from .ensures) (told (saidFound 19) (c .before .before .before .before .before .before .before .before .before .before .before .least-not-once .ensures) (c .before .before .before .before .before .before .before .before .before .enum-told .given .1)) in
-    let ns = literalsFrom (a .n) (a .from) (a .text .now) in
-    answer-model (a .n) (a .from) (a .text .now) (a .model .now) once (c .before .before .before .before .before .before .before .before .if1 .left) _ (c .before .before .put-literals .ensures ∙ ap (λ k. modelOf k ns) (c .before .before .before .before .before .before .clear .kept .0))
+    let args = c .before .before .before .before .before .before .before .before .before .before .before .before .before .before .before .args in
+    let pre = c .before .before .before .before .before .before .before .before .before .before .before .before .before .before .before .pre in
+    let sought-from = c .before .before .before .before .before .before .before .before .before .before .before .before .sought-from in
+    let least-not-once = c .before .before .before .before .before .before .before .before .before .before .before .least-not-once in
+    let enum-told = c .before .before .before .before .before .before .before .before .before .enum-told in
+    let if1 = c .before .before .before .before .before .before .before .before .if1 in
+    let clear = c .before .before .before .before .before .before .clear in
+    let put-literals = c .before .before .put-literals in
+    let once = sought-told pre (sought-from .ensures) (told (saidFound 19) (least-not-once .ensures) (enum-told .given .1)) in
+    let ns = literalsFrom (args .n) (args .from) (args .text .now) in
+    answer-model (args .n) (args .from) (args .text .now) (args .model .now) once (if1 .left) _ (put-literals .ensures ∙ ap (λ k. modelOf k ns) (clear .kept .0))
 
 pub take-model-spec : {M : Type 1} → statement M
 take-model-spec =
