@@ -17,13 +17,13 @@ pub mod records; // records.rt: the records
 
 // Sevens are lent, so that what is kept shows.
 fn write(name: &[u8], bytes: &[u8]) {
-    let mut text = [55u8; 112];
+    let mut text = [55u8; 144];
     put_texted(name, write_text(bytes, &mut text));
     put_text(&text);
 }
 
 fn write_short(name: &[u8], bytes: &[u8]) {
-    let mut text = [55u8; 109];
+    let mut text = [55u8; 141];
     put_texted(name, write_text(bytes, &mut text));
     put_text(&text);
 }
