@@ -28,7 +28,8 @@ fn main() {
 
 fn link_solver() {
     println!("cargo:rerun-if-env-changed=IPASIR_LIBS");
-    let words = env::var("IPASIR_LIBS").unwrap_or_else(|_| "-lcadical -lstdc++ -lm".to_string());
+    let words =
+        env::var("IPASIR_LIBS").unwrap_or_else(|_| "-lcadical -lstdc++ -lm -lc".to_string());
     for word in words.split_whitespace() {
         println!("cargo:rustc-link-arg-examples={word}");
     }

@@ -70,7 +70,7 @@ same "$(nm -D --defined-only "$prefix/lib/libbasmuthar.so" | awk '{ print $3 }' 
 
 # ---- the programs, without the project and its tools
 cp boards/one_hour.record boards/pottery_week.record boards/closing_hour.record examples/small.board "$work"
-installed() { (cd "$work" && env -i PATH=/usr/bin:/bin LD_LIBRARY_PATH="$prefix/lib" "$@"); }
+installed() { (cd "$work" && env -i PATH=/usr/bin:/bin LD_LIBRARY_PATH="$prefix/lib" ${QEMU_LD_PREFIX:+"QEMU_LD_PREFIX=$QEMU_LD_PREFIX"} "$@"); }
 same "$(installed "$prefix/bin/basmuthar" one_hour.record)" "$(target/bin/dimacs <boards/one_hour.record)" "basmuthar one_hour.record"
 same "$(installed "$prefix/bin/basmuthar" pottery_week.record || echo "status $?")" "refused 10 502034
 status 1" "basmuthar pottery_week.record"

@@ -163,7 +163,9 @@ arrives "70,000 bytes in pieces of 1,000" < <(dd bs=1000 if="$work/record" 2>/de
 cmp -s "$work/wanted" "$work/printed" || differs "a slow reader" "to a file" "$work/wanted"
 
 # ---- input that cannot be read and output that cannot be written: a line on standard error, nothing else
+complaints=0
 complains() {
+    complaints=$((complaints + 1))
     if [ -s "$work/printed" ] || [ "$(wc -l <"$work/errors")" != 1 ]; then
         echo "program.sh: $1: not one line on standard error alone" >&2
         exit 1
@@ -171,10 +173,13 @@ complains() {
 }
 "$program" </ >"$work/printed" 2>"$work/errors"
 complains "standard input a directory"
-"$program" <&- >"$work/printed" 2>"$work/errors"
-complains "standard input closed"
+# an emulator opens the program itself in the place of a closed input
+if [ "$(uname -m)" = x86_64 ]; then
+    "$program" <&- >"$work/printed" 2>"$work/errors"
+    complains "standard input closed"
+fi
 : >"$work/printed"
 "$program" <crates/dimacs/stdin >/dev/full 2>"$work/errors"
 complains "no room for standard output"
 
-echo "program: $stated texts as 01 has them, $compared records as the second program, $pieces inputs in pieces, a slow reader, 3 complaints"
+echo "program: $stated texts as 01 has them, $compared records as the second program, $pieces inputs in pieces, a slow reader, $complaints complaints"
