@@ -1,6 +1,7 @@
 //! Random clause texts and replies, sound and spoilt, with what has to become of them.
 
 pub mod clause_text;
+pub mod noise;
 pub mod not_once;
 pub mod pieces;
 pub mod reply_text;
