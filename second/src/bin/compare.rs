@@ -18,6 +18,8 @@ mod first;
 mod first_texts;
 #[path = "compare/least.rs"]
 mod least;
+#[path = "compare/long_texts.rs"]
+mod long_texts;
 #[path = "compare/one_list.rs"]
 mod one_list;
 #[path = "compare/outcomes.rs"]
@@ -35,7 +37,7 @@ mod text_tries;
 #[path = "compare/tries.rs"]
 mod tries;
 
-use both::{hex, Both};
+use both::{hex, Both, Compared};
 use second::boards::dice::Dice;
 use second::boards::drawn;
 use std::process::ExitCode;
@@ -53,8 +55,8 @@ fn main() -> ExitCode {
         return ExitCode::from(2);
     };
     let mut tally = Tally::default();
-    if let Err(difference) = every_byte::all(&mut tally) {
-        println!("texts damaged at each byte: {difference}");
+    if let Err(difference) = texts_alone(&mut tally, seed) {
+        println!("texts before the boards of seed {seed}: {difference}");
         return ExitCode::FAILURE;
     }
     for index in 0..count {
@@ -78,4 +80,10 @@ fn main() -> ExitCode {
     }
     println!("no difference in {count} boards of seed {seed}");
     ExitCode::SUCCESS
+}
+
+/// What is tried once in a run: small texts damaged at every byte, and the longest ones.
+fn texts_alone(tally: &mut Tally, seed: u64) -> Compared<()> {
+    every_byte::all(tally)?;
+    long_texts::all(tally, &mut Dice::new(seed))
 }

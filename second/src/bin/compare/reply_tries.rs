@@ -20,10 +20,6 @@ const SPOILT: usize = 4;
 /// How many times it is damaged at any bytes.
 const DAMAGED: usize = 4;
 
-/// How many variables the longest replies have, and how many such replies there are.
-const LONG_REPLY: usize = 70_001;
-const LONG_REPLIES: u64 = 1;
-
 /// All tries on replies, around a model of the record's list if one is known.
 pub fn all(both: &mut Both, dice: &mut Dice, model: Option<Vec<u8>>) -> Compared<()> {
     let known = model.filter(|model| model.len() <= FEW_VARIABLES);
@@ -43,20 +39,7 @@ pub fn all(both: &mut Both, dice: &mut Dice, model: Option<Vec<u8>>) -> Compared
         let way = dice.below(not_once::WAYS.len());
         spoil_count(both, dice, &model, way)?;
     }
-    long(both, dice)
-}
-
-/// The longest replies, good and with variables that do not stand once, in the first few cases.
-fn long(both: &mut Both, dice: &mut Dice) -> Compared<()> {
-    if both.tally.texts.long_replies == LONG_REPLIES {
-        return Ok(());
-    }
-    both.tally.texts.long_replies += 1;
-    let model = random_bits(dice, LONG_REPLY);
-    for way in 0..not_once::WAYS.len() {
-        spoil_count(both, dice, &model, way)?;
-    }
-    good(both, dice, &model)
+    Ok(())
 }
 
 /// A model of around a power of two bytes, now and then of many.
@@ -67,7 +50,7 @@ fn large_model(dice: &mut Dice) -> Vec<u8> {
 }
 
 /// The model in any order and in any lines, into bytes of this and of other lengths.
-fn good(both: &mut Both, dice: &mut Dice, model: &[u8]) -> Compared<()> {
+pub fn good(both: &mut Both, dice: &mut Dice, model: &[u8]) -> Compared<()> {
     let (order, setting) = (dice.below(ORDERS.len()), dice.below(SETTINGS.len()));
     let numbers = numbers_of(dice, model, order);
     let text = set(dice, &numbers, setting).text();
@@ -129,7 +112,7 @@ fn spoil(both: &mut Both, dice: &mut Dice, model: &[u8]) -> Compared<()> {
 }
 
 /// A good reply in which a variable does not stand once.
-fn spoil_count(both: &mut Both, dice: &mut Dice, model: &[u8], way: usize) -> Compared<()> {
+pub fn spoil_count(both: &mut Both, dice: &mut Dice, model: &[u8], way: usize) -> Compared<()> {
     let spoilt = not_once(dice, way, model);
     let setting = dice.below(SETTINGS.len());
     let text = set(dice, &spoilt.numbers, setting).text();

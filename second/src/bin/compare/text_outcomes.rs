@@ -51,10 +51,6 @@ impl Became {
 #[derive(Default)]
 pub struct TextOutcomes {
     met: BTreeMap<(Became, &'static str), u64>,
-    /// Texts too long to be written whose length was asked for.
-    pub long_lengths: u64,
-    /// The longest replies that were tried.
-    pub long_replies: u64,
     /// Texts damaged at each byte: the texts, the damaged, and those of them that were read.
     pub every_byte: [u64; 3],
 }
@@ -75,9 +71,6 @@ impl TextOutcomes {
             let kinds = became.kinds().into_iter();
             let never = kinds.filter(|&kind| self.count(became, kind) == 0);
             names.extend(never.map(|kind| format!("{}: {kind}", became.name())));
-        }
-        if self.long_lengths == 0 {
-            names.push("length of a text too long to be written".to_string());
         }
         names
     }

@@ -17,9 +17,6 @@ const SPOILT: usize = 4;
 /// How many times it is damaged at any bytes.
 const DAMAGED: usize = 4;
 
-/// How many texts too long to be written have their lengths asked for.
-const LONG_LENGTHS: u64 = 1;
-
 /// All tries on text, with what Compile answers and writes.
 pub fn all(both: &mut Both, dice: &mut Dice, compiled: &After) -> Compared<()> {
     let text = written(both, dice)?;
@@ -39,15 +36,6 @@ pub fn all(both: &mut Both, dice: &mut Dice, compiled: &After) -> Compared<()> {
     set_otherwise(both, dice, &said)?;
     for _ in 0..SPOILT {
         spoil(both, dice, &said)?;
-    }
-    Ok(())
-}
-
-/// The length of a text that is too long to be written, in the first few cases.
-pub fn long_length(both: &mut Both) -> Compared<()> {
-    if both.tally.texts.long_lengths < LONG_LENGTHS {
-        both.tally.texts.long_lengths += 1;
-        both.write_text(8)?;
     }
     Ok(())
 }

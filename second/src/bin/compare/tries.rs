@@ -75,7 +75,6 @@ fn on_long_list(both: &mut Both, dice: &mut Dice, board: &Board) -> Compared<()>
     both.decode(&[], values.len(), booleans.len())?;
     both.judge(&values, &booleans)?;
     both.image(&values, &booleans, dice.below(100))?;
-    text_tries::long_length(both)?;
     closing_tries::all(both, dice, board)
 }
 
