@@ -4,15 +4,17 @@ use crate::both::{Both, Compared};
 use crate::reply_tries::{good, spoil_count};
 use crate::tally::{Operation, Tally};
 use crate::tries::random_bits;
-use second::boards::ceiling;
+use second::board::{Board, Bounds, Clause, Comparison, Literal, Term};
 use second::boards::dice::Dice;
+use second::boards::writing::written;
+use second::reading::{GREATEST_BOUND, LEAST_BOUND};
 use second::texts::not_once;
 
 /// How many variables the replies have.
 const VARIABLES: usize = 70_001;
 
 pub fn all(tally: &mut Tally, dice: &mut Dice) -> Compared<()> {
-    let record = longest_list(dice);
+    let record = written(&long_board()).record;
     let mut both = Both::new(&record, tally);
     let after = both.write_text(8)?;
     let [number, wanted, ..] = after.answer;
@@ -27,12 +29,25 @@ pub fn all(tally: &mut Tally, dice: &mut Dice) -> Compared<()> {
     good(&mut both, dice, &model)
 }
 
-/// A record with K at the ceiling, whose text nobody has room for.
-fn longest_list(dice: &mut Dice) -> Vec<u8> {
-    loop {
-        let drawn = ceiling::around(dice);
-        if drawn.way == "K at the ceiling" {
-            return drawn.record;
-        }
+/// Many wide variables, and a comparison of the last three: numbers of six digits, so that the length
+/// passes 32 bits at a third of the greatest K.
+fn long_board() -> Board {
+    let bounds = Bounds {
+        lower: LEAST_BOUND,
+        upper: GREATEST_BOUND,
+    };
+    let terms = (97..100).map(|variable| Term {
+        coefficient: -2,
+        variable,
+    });
+    let comparison = Comparison {
+        terms: terms.collect(),
+        constant: 5_600,
+    };
+    let literals = vec![Literal::Comparison(comparison)];
+    Board {
+        variables: vec![bounds; 100],
+        booleans: 0,
+        clauses: vec![Clause { literals }],
     }
 }
