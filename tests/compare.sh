@@ -1,5 +1,6 @@
 #!/usr/bin/env bash
-# The comparison run: drawn boards and damaged records through the proved library and the second program.
+# The comparison run: drawn boards, damaged records, and texts and replies damaged at every byte, through the proved
+# library and the second program.
 #
 #     tests/compare.sh SEED COUNT
 #

@@ -14,6 +14,16 @@ struct Writer<'a> {
     list: Vec<Numbers>,
 }
 
+/// All numbers of a board's list: each clause and its final 0.
+pub fn numbers_of(board: &Board) -> Vec<i32> {
+    let mut numbers = Vec::new();
+    for clause in clause_list(board) {
+        numbers.extend(clause);
+        numbers.push(0);
+    }
+    numbers
+}
+
 /// All clauses of a board in their order.
 pub fn clause_list(board: &Board) -> Vec<Numbers> {
     let numbering = Numbering::of(board);
@@ -88,21 +98,21 @@ impl Writer<'_> {
         for tuple in tuples(&ranges, tuple_sum(comparison)) {
             let mut clause = lead.to_vec();
             for (term, bound) in comparison.terms.iter().zip(tuple) {
-                clause.push(self.term(term, bound));
+                clause.push(term_number(self.board, &self.numbering, term, bound));
             }
             self.list.push(clause);
         }
     }
+}
 
-    /// What a term gives at a bound.
-    fn term(&self, term: &Term, bound: i64) -> i32 {
-        let (positive, c) = primitive(term.coefficient, bound);
-        let number = self.bound(term.variable, c);
-        if positive {
-            number
-        } else {
-            -number
-        }
+/// What a term gives at a bound.
+pub fn term_number(board: &Board, numbering: &Numbering, term: &Term, bound: i64) -> i32 {
+    let (positive, c) = primitive(term.coefficient, bound);
+    let number = numbering.bound(board, term.variable, c);
+    if positive {
+        number
+    } else {
+        -number
     }
 }
 

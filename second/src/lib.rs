@@ -1,4 +1,4 @@
-//! The second program: six operations on board records, written from the documents alone.
+//! The second program: nine operations on board records and texts, written from the documents alone.
 
 pub mod board;
 pub mod boards;
@@ -10,6 +10,12 @@ pub mod operations;
 pub mod printing;
 pub mod reading;
 pub mod refusal;
+pub mod reply_in;
+pub mod scanning;
+pub mod text_in;
+pub mod text_length;
+pub mod text_out;
+pub mod texts;
 pub mod tuples;
 
 pub use closing::{closing, Closing};
@@ -17,3 +23,6 @@ pub use counting::Sizes;
 pub use operations::{compile, decode, image, judge, size};
 pub use printing::printed;
 pub use refusal::Refusal;
+pub use reply_in::{read_reply, Reply};
+pub use text_in::read_text;
+pub use text_out::write_text;

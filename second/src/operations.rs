@@ -1,7 +1,7 @@
 //! The five operations of the base: Size, Compile, Decode, Judge and Image.
 
 use crate::board::Board;
-use crate::clauses::clause_list;
+use crate::clauses::{clause_list, numbers_of};
 use crate::counting::{count, Sizes};
 use crate::numbering::Numbering;
 use crate::reading::read;
@@ -24,12 +24,7 @@ pub fn compile(record: &[u8], list: &mut [i32]) -> Result<Sizes, Refusal> {
     let (board, sizes) = opened(record)?;
     let length = sizes.numbers as usize;
     refuse_if(list.len() < length, 10, length)?;
-    let mut numbers = Vec::new();
-    for clause in clause_list(&board) {
-        numbers.extend(clause);
-        numbers.push(0);
-    }
-    list[..length].copy_from_slice(&numbers);
+    list[..length].copy_from_slice(&numbers_of(&board));
     Ok(sizes)
 }
 

@@ -1,7 +1,7 @@
 //! What the program prints for a record: DIMACS CNF, or one line of refusal.
 
-use crate::counting::Sizes;
 use crate::operations::compile;
+use crate::text_out::dimacs;
 
 /// The length of the list that the program compiles into.
 pub const PROGRAM_LIST: usize = 16_384;
@@ -13,13 +13,4 @@ pub fn printed(record: &[u8]) -> String {
         Ok(sizes) => dimacs(&sizes, &list[..sizes.numbers as usize]),
         Err(refusal) => format!("refused {} {}\n", refusal.number, refusal.detail),
     }
-}
-
-fn dimacs(sizes: &Sizes, numbers: &[i32]) -> String {
-    let mut text = format!("p cnf {} {}\n", sizes.variables, sizes.clauses);
-    for number in numbers {
-        text += &number.to_string();
-        text += if *number == 0 { "\n" } else { " " };
-    }
-    text
 }

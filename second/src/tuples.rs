@@ -36,6 +36,18 @@ pub fn count_tuples(ranges: &[Range], sum: i64) -> u64 {
         .sum()
 }
 
+/// Each bound that tuples with this sum have at a place, and how many have it.
+pub fn count_by_bound(ranges: &[Range], sum: i64, at: usize) -> Vec<(i64, u64)> {
+    let mut others = ranges.to_vec();
+    let range = others.remove(at);
+    let (from, to) = first_bounds(&[&[range], others.as_slice()].concat(), sum);
+    let tuples = |bound: i64| match others.as_slice() {
+        [] => 1,
+        others => count_tuples(others, sum - bound),
+    };
+    (from..=to).map(|bound| (bound, tuples(bound))).collect()
+}
+
 /// The first bounds that some bounds of the other ranges bring to the sum.
 /// For a single range that is the sum itself, where the range has it.
 fn first_bounds(ranges: &[Range], sum: i64) -> Range {
@@ -48,6 +60,7 @@ fn first_bounds(ranges: &[Range], sum: i64) -> Range {
 #[cfg(test)]
 mod tests {
     use super::*;
+    use std::collections::BTreeMap;
 
     /// All tuples of the ranges in rising order, whatever their sum.
     fn all(ranges: &[Range]) -> Vec<Vec<i64>> {
@@ -71,7 +84,19 @@ mod tests {
                 expected.retain(|tuple| tuple.iter().sum::<i64>() == sum);
                 assert_eq!(tuples(ranges, sum), expected);
                 assert_eq!(count_tuples(ranges, sum), expected.len() as u64);
+                for at in 0..terms {
+                    assert_eq!(count_by_bound(ranges, sum, at), counted(&expected, at));
+                }
             }
         }
+    }
+
+    /// Each bound at a place of the tuples, and how often it stands there.
+    fn counted(tuples: &[Vec<i64>], at: usize) -> Vec<(i64, u64)> {
+        let mut counts = BTreeMap::new();
+        for tuple in tuples {
+            *counts.entry(tuple[at]).or_default() += 1;
+        }
+        counts.into_iter().collect()
     }
 }

@@ -1,35 +1,49 @@
-//! The comparison run: many random boards through both programs, with every answer compared.
+//! The comparison run: many random boards and texts through both programs, with every answer compared.
 
 #[path = "compare/assignments.rs"]
 mod assignments;
 #[path = "compare/both.rs"]
 mod both;
+#[path = "compare/both_texts.rs"]
+mod both_texts;
 #[path = "compare/closing_tries.rs"]
 mod closing_tries;
 #[path = "compare/demand.rs"]
 mod demand;
+#[path = "compare/every_byte.rs"]
+mod every_byte;
 #[path = "compare/first.rs"]
 mod first;
+#[path = "compare/first_texts.rs"]
+mod first_texts;
 #[path = "compare/least.rs"]
 mod least;
+#[path = "compare/long_texts.rs"]
+mod long_texts;
 #[path = "compare/one_list.rs"]
 mod one_list;
 #[path = "compare/outcomes.rs"]
 mod outcomes;
+#[path = "compare/reply_tries.rs"]
+mod reply_tries;
 #[path = "compare/second_side.rs"]
 mod second_side;
 #[path = "compare/tally.rs"]
 mod tally;
+#[path = "compare/text_outcomes.rs"]
+mod text_outcomes;
+#[path = "compare/text_tries.rs"]
+mod text_tries;
 #[path = "compare/tries.rs"]
 mod tries;
 
-use both::{hex, Both};
+use both::{hex, Both, Compared};
 use second::boards::dice::Dice;
 use second::boards::drawn;
 use std::process::ExitCode;
 use tally::Tally;
 
-/// From this many boards on, every refusal and every outcome of Closing has to be met.
+/// From this many boards on, every refusal, every outcome of Closing and every kind of text has to be met.
 const ENOUGH: u64 = 20_000;
 
 fn main() -> ExitCode {
@@ -41,6 +55,10 @@ fn main() -> ExitCode {
         return ExitCode::from(2);
     };
     let mut tally = Tally::default();
+    if let Err(difference) = texts_alone(&mut tally, seed) {
+        println!("texts before the boards of seed {seed}: {difference}");
+        return ExitCode::FAILURE;
+    }
     for index in 0..count {
         let mut dice = Dice::new(seed ^ Dice::new(index).roll());
         let board = drawn(dice.roll());
@@ -62,4 +80,10 @@ fn main() -> ExitCode {
     }
     println!("no difference in {count} boards of seed {seed}");
     ExitCode::SUCCESS
+}
+
+/// What is tried once in a run: small texts damaged at every byte, and the longest ones.
+fn texts_alone(tally: &mut Tally, seed: u64) -> Compared<()> {
+    every_byte::all(tally)?;
+    long_texts::all(tally, &mut Dice::new(seed))
 }

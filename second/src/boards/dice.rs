@@ -36,6 +36,13 @@ impl Dice {
         from[self.below(from.len())]
     }
 
+    /// Puts the items in any order.
+    pub fn shuffle<T>(&mut self, items: &mut [T]) {
+        for at in (1..items.len()).rev() {
+            items.swap(at, self.below(at + 1));
+        }
+    }
+
     pub fn byte(&mut self) -> u8 {
         self.roll() as u8
     }

@@ -44,7 +44,7 @@ pub struct After {
 }
 
 impl After {
-    fn before(numbers: usize, bytes: usize) -> After {
+    pub fn before(numbers: usize, bytes: usize) -> After {
         After {
             answer: [0; 4],
             numbers: vec![NUMBER_PATTERN; numbers],
@@ -145,7 +145,7 @@ impl Both<'_> {
     }
 
     /// Both programs' outcome, where it is the same and a refusal changed nothing.
-    fn same(
+    pub fn same(
         &mut self,
         of: Operation,
         given: impl Fn() -> String,

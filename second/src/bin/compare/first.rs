@@ -62,25 +62,25 @@ extern "C" {
 const GUARD: usize = 8;
 
 /// A list to lend, with watched places before and behind it.
-struct Lent<T> {
+pub struct Lent<T> {
     places: Vec<T>,
     guard: T,
 }
 
 impl<T: Copy + PartialEq> Lent<T> {
-    fn new(list: &[T], guard: T) -> Lent<T> {
+    pub fn new(list: &[T], guard: T) -> Lent<T> {
         let mut places = vec![guard; GUARD];
         places.extend(list);
         places.extend([guard; GUARD]);
         Lent { places, guard }
     }
 
-    fn start(&mut self) -> *mut T {
+    pub fn start(&mut self) -> *mut T {
         self.places[GUARD..].as_mut_ptr()
     }
 
     /// Hands the contents back; whether the guards are as they were.
-    fn give_back(&self, list: &mut [T]) -> bool {
+    pub fn give_back(&self, list: &mut [T]) -> bool {
         let end = GUARD + list.len();
         list.copy_from_slice(&self.places[GUARD..end]);
         let mut guards = self.places[..GUARD].iter().chain(&self.places[end..]);
@@ -89,7 +89,7 @@ impl<T: Copy + PartialEq> Lent<T> {
 }
 
 /// What the answer holds before a call, and where a guard was written over.
-const UNANSWERED: Answer = [u64::MAX; 4];
+pub const UNANSWERED: Answer = [u64::MAX; 4];
 
 pub fn size(record: &[u8]) -> Answer {
     let mut answer = UNANSWERED;
@@ -187,7 +187,7 @@ pub fn closing(record: &[u8], variable: usize, replies: &[u8], hours: &mut [i32]
     unless_broken(answer, lent.give_back(hours))
 }
 
-fn unless_broken(answer: Answer, whole: bool) -> Answer {
+pub fn unless_broken(answer: Answer, whole: bool) -> Answer {
     if whole {
         answer
     } else {

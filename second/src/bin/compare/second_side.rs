@@ -1,7 +1,8 @@
 //! The second program's results in the form of the C interface's answers.
 
 use crate::first::{Answer, FOUND, NONE, UNFINISHED};
-use second::{Closing, Refusal, Sizes};
+use crate::first_texts::{MODEL, NO_MODEL};
+use second::{Closing, Refusal, Reply, Sizes};
 
 pub fn size(record: &[u8]) -> Answer {
     with_sizes(second::size(record))
@@ -34,6 +35,25 @@ pub fn closing(record: &[u8], variable: usize, replies: &[u8], hours: &mut [i32]
             hours.copy_from_slice(&[low, high, next]);
             UNFINISHED
         }
+        Err(refusal) => refused(refusal),
+    }
+}
+
+pub fn write_text(record: &[u8], text: &mut [u8]) -> Answer {
+    match second::write_text(record, text) {
+        Ok(length) => [0, length, 0, 0],
+        Err(refusal) => refused(refusal),
+    }
+}
+
+pub fn read_text(text: &[u8], list: &mut [i32]) -> Answer {
+    with_sizes(second::read_text(text, list))
+}
+
+pub fn read_reply(variables: u32, text: &[u8], model: &mut [u8]) -> Answer {
+    match second::read_reply(variables, text, model) {
+        Ok(Reply::Model) => MODEL,
+        Ok(Reply::None) => NO_MODEL,
         Err(refusal) => refused(refusal),
     }
 }

@@ -1,12 +1,14 @@
 //! The calls that are tried on one record: lengths, models, values and Booleans.
 
 use crate::assignments::Assignment;
-use crate::both::{Both, Compared};
+use crate::both::{After, Both, Compared};
 use crate::closing_tries::{self, any_replies, unknown};
 use crate::demand;
 use crate::first::Answer;
 use crate::least;
+use crate::reply_tries;
 use crate::tally::Operation;
+use crate::text_tries;
 use second::board::Board;
 use second::boards::dice::Dice;
 use second::operations::plain_model;
@@ -28,7 +30,7 @@ pub fn all(both: &mut Both, dice: &mut Dice) -> Compared<()> {
     }
     let (variables, numbers) = (variables as usize, numbers as usize);
     let solutions = some_solutions(dice, &board);
-    compile_tries(both, dice, numbers)?;
+    let compiled = compile_tries(both, dice, numbers)?;
     decode_tries(both, dice, &board, &solutions)?;
     length_tries(both, dice, &board, variables)?;
     judge_tries(both, dice, &board, variables, &solutions)?;
@@ -38,7 +40,11 @@ pub fn all(both: &mut Both, dice: &mut Dice) -> Compared<()> {
     if least::is_due(&board) {
         least::check(both, &board)?;
     }
-    closing_tries::all(both, dice, &board)
+    closing_tries::all(both, dice, &board)?;
+    text_tries::all(both, dice, &compiled)?;
+    let solution = solutions.first();
+    let model = solution.map(|(values, booleans)| plain_model(&board, values, booleans));
+    reply_tries::all(both, dice, model)
 }
 
 /// All operations refuse a record alike, whatever is lent.
@@ -53,6 +59,7 @@ fn on_refused_record(both: &mut Both, dice: &mut Dice, size: Answer) -> Compared
         both.image(&values, &booleans, model.len())?.answer,
         both.closing(dice.below(4), &any_replies(dice))?.answer,
         both.closing(unknown(dice, 1), &any_replies(dice))?.answer,
+        both.write_text(dice.below(40))?.answer,
     ];
     if answers.iter().any(|answer| *answer != size) {
         let what = format!("size answers {size:?}, the others {answers:?}");
@@ -71,14 +78,14 @@ fn on_long_list(both: &mut Both, dice: &mut Dice, board: &Board) -> Compared<()>
     closing_tries::all(both, dice, board)
 }
 
-fn compile_tries(both: &mut Both, dice: &mut Dice, numbers: usize) -> Compared<()> {
-    both.compile(numbers)?;
+fn compile_tries(both: &mut Both, dice: &mut Dice, numbers: usize) -> Compared<After> {
+    let compiled = both.compile(numbers)?;
     both.compile(numbers + 1 + dice.below(9))?;
     if numbers > 0 {
         both.compile(numbers - 1)?;
         both.compile(dice.below(numbers))?;
     }
-    Ok(())
+    Ok(compiled)
 }
 
 fn decode_tries(
@@ -165,7 +172,7 @@ fn length_tries(both: &mut Both, dice: &mut Dice, board: &Board, variables: usiz
 }
 
 /// A length: mostly as it is, or off by one, or 0.
-fn near(dice: &mut Dice, length: usize) -> usize {
+pub fn near(dice: &mut Dice, length: usize) -> usize {
     match dice.below(6) {
         0 => length + 1,
         1 => length.saturating_sub(1),
