@@ -1,8 +1,8 @@
 #!/usr/bin/env python3
 """Wrong versions of the operations that change the code's shape, beside the must-fail edits, which keep it.
 
-Each is made in a copy of the crates, and the programs `cases` and, for Closing, `hours` are run over it, unproved. One has to end and
-to write something else than its file `stdout`; the first line that differs is printed.
+Each is made in a copy of the crates, and the program `cases` or, for Closing, `hours`, for text and replies `texts`, is run over it, unproved.
+It has to end and to write something else than its file `stdout`; the first line that differs is printed.
 """
 import pathlib
 import re
@@ -84,7 +84,37 @@ MUTANTS = [
          "        }\n"
          "        hour = told(narrowed(left, question, replies[i]));"),
         ("closing/src/checks.rt", "let second = first_bad_byte(replies);", "let second = Found::Nothing;")]),
+    ("a number past clause M read", [
+        ("replies/src/clauses.rt",
+         "            if !room {\n                return Next::Bad(at);\n            }\n",
+         "")]),
+    ("the model's length told before a variable that is missing", [
+        ("replies/src/models.rt",
+         "    match least_not_once(text, n, from, sought_from(n, count, rising)) {",
+         "    if model.len() != n as usize {\n"
+         "        return Replied::Refused(Refusal::LentWrong { wanted: n as usize });\n"
+         "    }\n"
+         "    match least_not_once(text, n, from, sought_from(n, count, rising)) {")]),
+    ("the model written before each variable is known to be there once", [
+        ("replies/src/models.rt",
+         "    match least_not_once(text, n, from, sought_from(n, count, rising)) {",
+         "    if model.len() == n as usize {\n"
+         "        clear(model);\n"
+         "        put_literals(text, n, from, model);\n"
+         "    }\n"
+         "    match least_not_once(text, n, from, sought_from(n, count, rising)) {")]),
+    ("'none' clears the model", [
+        ("replies/src/models.rt",
+         "        Heard::Nothing => Replied::None,",
+         "        Heard::Nothing => {\n            clear(model);\n            Replied::None\n        }")]),
+    ("text written as far as there is room", [
+        ("write_text/src/lib.rt",
+         "            if out.len() < length {",
+         "            if out.len() < length {\n                add_text(bytes, header, totals, out);")]),
 ]
+
+# Which program shows what a crate does wrong.
+PROGRAMS = {"closing": "hours", "replies": "texts", "write_text": "texts"}
 
 
 def changed(crates, changes):
@@ -115,7 +145,7 @@ def run(copy, program):
 
 def tried(copy, changes):
     before, made = changed(copy / "crates", changes)
-    program = "hours" if changes[0][0].startswith("closing/") else "cases"
+    program = PROGRAMS.get(changes[0][0].split("/")[0], "cases")
     same, line = run(copy, program) if made else (True, None)
     for path, text in before.items():
         path.write_text(text)
@@ -133,7 +163,7 @@ def main():
         copy = pathlib.Path(folder)
         shutil.copytree(root / "crates", copy / "crates")
         shutil.copy(root / "crates.txt", copy)
-        for program in ("cases", "hours"):
+        for program in ("cases", "hours", "texts"):
             if not run(copy, program)[0]:
                 sys.exit(f"mutants: unchanged, the program {program} does not write what is expected")
         for name, changes in MUTANTS:

@@ -91,6 +91,7 @@ table =
     (bad "p cnf 12 1\n1 -13x" 13) ∷
     (bad "p cnf 12 1\n1 125 0" 13) ∷
     (bad "p cnf 0 1\n-1 0" 10) ∷
+    (bad "p cnf 0 1\n-" 10) ∷
     -- more clauses than M, fewer, and a last one that is unfinished
     (bad "p cnf 1 1\n1 0\n 1 0" 15) ∷
     (bad "p cnf 1 0\n0" 10) ∷
@@ -137,4 +138,4 @@ Holds r = ask (r .question) ≡ r .document
 
 pub the-text-examples-hold : All Holds table
 unfolding all-open
-the-text-examples-hold = (refl, (refl, (refl, (refl, (refl, (refl, (refl, (refl, (refl, (refl, (refl, (refl, (refl, (refl, (refl, (refl, (refl, (refl, (refl, (refl, (refl, (refl, (refl, (refl, (refl, (refl, (refl, (refl, (refl, (refl, (refl, (refl, (refl, (refl, (refl, (refl, (refl, (refl, (refl, (refl, (refl, (refl, (refl, (refl, (refl, (refl, (refl, (refl, (refl, (refl, (refl, (refl, (refl, (refl, (refl, (refl, (refl, (refl, (refl, (refl, (refl, (refl, (refl, (refl, (refl, tt)))))))))))))))))))))))))))))))))))))))))))))))))))))))))))))))))
+the-text-examples-hold = (refl, (refl, (refl, (refl, (refl, (refl, (refl, (refl, (refl, (refl, (refl, (refl, (refl, (refl, (refl, (refl, (refl, (refl, (refl, (refl, (refl, (refl, (refl, (refl, (refl, (refl, (refl, (refl, (refl, (refl, (refl, (refl, (refl, (refl, (refl, (refl, (refl, (refl, (refl, (refl, (refl, (refl, (refl, (refl, (refl, (refl, (refl, (refl, (refl, (refl, (refl, (refl, (refl, (refl, (refl, (refl, (refl, (refl, (refl, (refl, (refl, (refl, (refl, (refl, (refl, (refl, tt))))))))))))))))))))))))))))))))))))))))))))))))))))))))))))))))))
