@@ -1,10 +1,10 @@
 #!/usr/bin/env bash
-# Boards through real solvers and back: board cnf, then cadical, minisat and picosat, then board model and board show; board
-# place; board earliest for every number; and board why where there is no solution.
+# Boards through real solvers and back: board cnf, then cadical and minisat, then board model and board show; board place;
+# board earliest for every number; and board why where there is no solution.
 #
 #     tests/solvers.sh [HOW MANY BOARDS TO DRAW, 100 IF NOT SAID]
 #
-# The text of every board has to read as Compile's list. All solvers have to say the same of every board, every model has to
+# The text of every board has to read as Compile's list. Both solvers have to say the same of every board, every model has to
 # decode to values that Judge accepts, also through examples/reply.c where the reply is in the library's form, and where a board is
 # small, trying all values has to say the same as the solvers: whether there is a solution, and which value of each number is the
 # least. The rules that board why names have no solution together, and without any one of them they have.
@@ -34,7 +34,6 @@ ask() {
     case $solver in
     cadical) cadical -q "$cnf" >"$work/reply" || status=$? ;;
     minisat) minisat -verb=0 "$cnf" "$work/reply" >"$work/log" 2>&1 || status=$? ;;
-    picosat) picosat "$cnf" >"$work/reply" || status=$? ;;
     esac
     [ "$status" = 10 ] || [ "$status" = 20 ] || fail "$solver ended with status $status on $cnf"
 }
@@ -60,7 +59,7 @@ verdict() {
 # The same reply through the example in C, which takes it only in the library's own form.
 in_c() {
     local solver=$1 verdict=$2 status=0
-    case $solver in cadical | picosat) ;; *) return ;; esac
+    [ "$solver" = cadical ] || return 0
     "$work/in_c" "$work/record" <"$work/reply" >"$work/values" 2>"$work/trouble" || status=$?
     case $verdict$status in
     UNSATISFIABLE3) ;;
@@ -167,7 +166,7 @@ through() {
 }
 
 solvers=()
-for solver in cadical minisat picosat; do
+for solver in cadical minisat; do
     if find_solver "$solver"; then
         solvers+=("$solver")
     else
