@@ -28,6 +28,7 @@ pub mod comparisons; // comparisons.rt: a comparison's clauses
 pub mod entries; // entries.rt: numbers of the clause list
 pub mod head; // head.rt: the first line
 pub mod pieces; // pieces.rt: the clauses of the rules, piece by piece
+pub mod rows; // rows.rt: a row of a comparison's clauses
 
 // The text's length, or why there is none.
 pub enum Texted {
