@@ -5,6 +5,7 @@ use mathlib.Core.List.{List, _++_}
 use Prim.Native.Nat.{ℕ}
 use native.Mathlib.Omega.{arith}
 use lib.ListN.{length, length-append}
+use mir.Facts.{toZ-ofZ}
 use Rattle.text.specs.Entries.{entries}
 use Rattle.walk.specs.Comparisons.{Walking, literalsOf, toCome}
 use Rattle.walk.specs.Rows.{inRow, rowClauses, row-some}
@@ -15,19 +16,19 @@ use Rattle.write_text.proofs.comparisons.add_tuples.Statement.{statemen
 use Rattle.write_text.proofs.comparisons.add_tuples.Tie as tie
 
 abbrev Inv-loop : tie.InvT-loop
-Inv-loop c lead at out₀ place₀ tuple₀ out place tuple =
+Inv-loop c t lead at out₀ place₀ tuple₀ out place tuple =
     Adding (entries (led lead (literalsOf c))) (entries (led lead (toCome c tuple))) at out₀ place out × Walking c tuple
 
 abbrev μ-loop : tie.MeasureT-loop
-μ-loop c lead at out₀ place₀ tuple₀ out place tuple = length (toCome c tuple)
+μ-loop c t lead at out₀ place₀ tuple₀ out place tuple = length (toCome c tuple)
 
-first-tuple-requires : tie.Need-first-tuple-requires Inv-loop μ-loop
-first-tuple-requires c κs = c .before .pre .0
+first-over-requires : tie.Need-first-over-requires Inv-loop μ-loop
+first-over-requires c κs = (c .before .pre .0, rw (toZ-ofZ (c .before .fits .t)) (c .before .pre .1))
 
 loop-holds : tie.Need-loop-holds Inv-loop μ-loop
 loop-holds c =
     let s = c .before .before in
-    (begin _ _ (ap (λ ls. entries (led (s .args .lead) ls)) (c .first-tuple .ensures .1)), c .first-tuple .ensures .0)
+    (begin _ _ (ap (λ ls. entries (led (s .args .lead) ls)) (c .first-over .ensures .1)), c .first-over .ensures .0)
 
 enum-known-tuple : tie.Need-enum-known-tuple Inv-loop μ-loop
 enum-known-tuple c = search needs
@@ -66,7 +67,7 @@ module _ (c : tie.After-row-at Inv-loop μ-loop) where
 add-row-requires : tie.Need-add-row-requires Inv-loop μ-loop
 add-row-requires c κs =
     let r = c .before in
-    (r .row-at .ensures .0, counts-first (l r .loop .inv .0) (row r) (behind r) (more r) (s r .pre .1))
+    (r .row-at .ensures .0, counts-first (l r .loop .inv .0) (row r) (behind r) (more r) (s r .pre .2))
 
 loop-less : tie.Need-loop-less Inv-loop μ-loop
 loop-less c =
@@ -95,7 +96,7 @@ add-tuples-spec =
     (tie.spec
     Inv-loop
     μ-loop
-    first-tuple-requires
+    first-over-requires
     loop-holds
     enum-known-tuple
     enum-told
