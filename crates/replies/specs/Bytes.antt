@@ -10,9 +10,9 @@ use lib.ListN.{length, drop, getD, length-drop}
 use lib.Seq.{drop-cons}
 use borrow.Author.Tests.{eq-eqb, ne-eqb, le-leb, lt-leb}
 use Rattle.definitions.specs.Result.{Result, _>>=_, _>>_, done, refused}
-use Rattle.next.specs.Forms.{blank, most}
-use Rattle.next.specs.Reading.{digit, Number, whole, begun, grown}
-use Rattle.next.specs.Stepping.{num}
+use Rattle.definitions.specs.Texts.{blank, most}
+use Rattle.definitions.specs.TextReading.{digit, Number, whole, begun, grown}
+use Rattle.laws.specs.Stepping.{num}
 use Rattle.replies.specs.Parts.{wordAt, countFrom, countAt, numberFrom, numberAt, Found, ends, holds, foundFrom}
 use Rattle.replies.specs.declared.Count.{Count}
 use Rattle.replies.specs.Said.{countIn}

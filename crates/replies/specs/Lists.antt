@@ -15,11 +15,11 @@ use Rattle.definitions.specs.Dimacs.{ascii}
 use Rattle.laws.specs.Readings.{same, never}
 use Rattle.laws.specs.Refusals.{refusal-is}
 use Rattle.laws.specs.Written.{written, written-none, written-snoc, written-length}
-use Rattle.next.specs.Forms.{blank, zeros, most}
-use Rattle.next.specs.Reading.{digit, Number, valueOf, whole, begun, further, longer, grown, text, State, number, within, step, Read, endText, readText}
-use Rattle.next.specs.Operations.{ReadText}
-use Rattle.next.specs.Stepping.{num}
-use Rattle.next.specs.Reached.{passed, both, digit-is}
+use Rattle.definitions.specs.Texts.{blank, zeros, most}
+use Rattle.definitions.specs.TextReading.{digit, Number, valueOf, whole, begun, further, longer, grown, text, State, number, within, step, Read, endText, readText}
+use Rattle.definitions.specs.TextOperations.{ReadText}
+use Rattle.laws.specs.Stepping.{num}
+use Rattle.demands.specs.Reached.{passed, both, digit-is}
 use Rattle.replies.specs.Parts.{wordAt, countFrom, countAt, wordCount, endAt, restAt, lineAt, numberFrom, numberAt, Found, ends, holds, foundFrom, started, listFrom, sizes, sized}
 use Rattle.replies.specs.Texts.{list-step, Counts, counts-none, counts-more, next-is, next-bad, text-read}
 

@@ -4,8 +4,8 @@ use Rattle.definitions.specs.Tools.{ℕ, suc, _+_, _*_, _-_, Bool, true, ℤ, L
 use Rattle.definitions.specs.Result.{Result, _>>=_, _>>_, need, done, refused}
 use Rattle.definitions.specs.Operations.{Sizes}
 use Rattle.definitions.specs.Dimacs.{ascii}
-use Rattle.next.specs.Forms.{blank, most}
-use Rattle.next.specs.Reading.{digit, Number, valueOf, whole, begun, grown, text, reply, Reply, model, none, State, number, awaits, fed, Read, endText, endReply}
+use Rattle.definitions.specs.Texts.{blank, most}
+use Rattle.definitions.specs.TextReading.{digit, Number, valueOf, whole, begun, grown, text, reply, Reply, model, none, State, number, awaits, fed, Read, endText, endReply}
 
 -- these bytes
 abbrev pub wordAt : List ℕ → ℕ → List ℕ → Result (ℕ × List ℕ)

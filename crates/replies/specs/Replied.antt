@@ -15,12 +15,12 @@ use borrow.Author.Tests.{eq-eqb, ne-eqb, eqb-true, eqb-false, ltb-true, ltb-fals
 use Rattle.definitions.specs.Tools.{if_then_else_}
 use Rattle.definitions.specs.Result.{Result, _>>=_, _>>_, need, done, refused}
 use Rattle.definitions.specs.Dimacs.{ascii}
-use Rattle.next.specs.Forms.{blank}
-use Rattle.next.specs.Reading.{Number, valueOf, whole, begun, grown, reply, Reply, model, none, State, verdict, number, within, over, awaits, stops, fed, endReply, readReply}
-use Rattle.next.specs.Operations.{often}
-use Rattle.next.specs.Stepping.{num, cases}
-use Rattle.next.specs.Reached.{value-size}
-use Rattle.next.specs.Models.{AllOnce}
+use Rattle.definitions.specs.Texts.{blank}
+use Rattle.definitions.specs.TextReading.{Number, valueOf, whole, begun, grown, reply, Reply, model, none, State, verdict, number, within, over, awaits, stops, fed, endReply, readReply}
+use Rattle.definitions.specs.TextOperations.{often}
+use Rattle.laws.specs.Stepping.{num, cases}
+use Rattle.demands.specs.Reached.{value-size}
+use Rattle.demands.specs.ReplyModels.{AllOnce}
 use Rattle.replies.specs.declared.Value.{Value}
 use Rattle.replies.specs.Parts.{wordAt, numberFrom, numberAt, replyFrom, nothing, Taken, last, more, afterNumber, numberOn, valueAt, wanted, lines, inOrder, Summary, without, literals, summed, noneAt, modelAt}
 use Rattle.replies.specs.Said.{valueIn}

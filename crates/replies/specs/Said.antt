@@ -2,8 +2,8 @@
 use Rattle.definitions.specs.Tools.{ℕ, _≤_, _≡_, Bool, List, drop, length}
 use Prim.Native.Nat.{_<_}
 use Rattle.definitions.specs.Result.{Result, done, refused}
-use Rattle.next.specs.Reading.{Number, valueOf}
-use Rattle.next.specs.Stepping.{num}
+use Rattle.definitions.specs.TextReading.{Number, valueOf}
+use Rattle.laws.specs.Stepping.{num}
 use Rattle.definitions.specs.Operations.{Sizes}
 use Rattle.replies.specs.Parts.{Found, ends, holds, sizes, Taken, last, more, Summary, without, literals}
 use Rattle.replies.specs.declared.Word.{Word}

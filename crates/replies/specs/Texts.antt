@@ -14,10 +14,10 @@ use Rattle.definitions.specs.Tools.{if_then_else_, neg}
 use Rattle.definitions.specs.Result.{Result, _>>=_, _>>_, need, done, refused}
 use Rattle.definitions.specs.Operations.{Sizes}
 use Rattle.definitions.specs.Dimacs.{ascii}
-use Rattle.next.specs.Forms.{blank, zeros, most}
-use Rattle.next.specs.Reading.{digit, Number, valueOf, whole, begun, grown, Count, variables, clauses, text, State, word, count, countOn, number, within, awaits, counted, step, fed, Read, endText, readText}
-use Rattle.next.specs.Stepping.{num, cases}
-use Rattle.next.specs.Reached.{zeros-append}
+use Rattle.definitions.specs.Texts.{blank, zeros, most}
+use Rattle.definitions.specs.TextReading.{digit, Number, valueOf, whole, begun, grown, Count, variables, clauses, text, State, word, count, countOn, number, within, awaits, counted, step, fed, Read, endText, readText}
+use Rattle.laws.specs.Stepping.{num, cases}
+use Rattle.demands.specs.Reached.{zeros-append}
 use Rattle.replies.specs.declared.Count.{Count as CountAnswer}
 use Rattle.replies.specs.Parts.{wordAt, countFrom, countAt, numberFrom, Found, ends, holds, foundFrom, wordCount, endAt, restAt, lineAt, started, from, listFrom, sizes, sized}
 use Rattle.replies.specs.Said.{countIn}

@@ -2,9 +2,9 @@
 ghost use mathlib.Core.Path.{_≡_};
 ghost use Prim.Native.Nat.{_-_, _≤_};
 ghost use Rattle.definitions.specs.Tools.{ltb, _&&_};
-ghost use Rattle.next.specs.Forms.{blank};
-ghost use Rattle.next.specs.Reading.{digit, whole, further};
-ghost use Rattle.next.specs.Stepping.{num};
+ghost use Rattle.definitions.specs.Texts.{blank};
+ghost use Rattle.definitions.specs.TextReading.{digit, whole, further};
+ghost use Rattle.laws.specs.Stepping.{num};
 
 pub fn is_blank(b: u8) -> bool
     ensures { λ r. ⌜ r ≡ blank b ⌝ }

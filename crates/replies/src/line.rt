@@ -2,7 +2,7 @@
 ghost use mathlib.Core.Path.{_≡_};
 ghost use Prim.Native.Nat.{_≤_};
 ghost use lib.ListN.{length, drop};
-ghost use Rattle.next.specs.Reading.{readText};
+ghost use Rattle.definitions.specs.TextReading.{readText};
 ghost use Rattle.replies.specs.Parts.{wordCount, endAt, restAt, lineAt, sized};
 ghost use Rattle.replies.specs.Said.{saidCount, countIn, saidHead, headIn, saidChecked};
 use super::Checked;

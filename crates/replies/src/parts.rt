@@ -2,8 +2,8 @@
 ghost use mathlib.Core.Path.{_≡_};
 ghost use Prim.Native.Nat.{_+_, _≤_, _<_};
 ghost use lib.ListN.{length, drop};
-ghost use Rattle.next.specs.Reading.{grown};
-ghost use Rattle.next.specs.Stepping.{num};
+ghost use Rattle.definitions.specs.TextReading.{grown};
+ghost use Rattle.laws.specs.Stepping.{num};
 ghost use Rattle.replies.specs.Parts.{wordAt, countFrom, countAt, numberFrom, numberAt};
 ghost use Rattle.replies.specs.Said.{saidWord, wordIn, saidCount, countIn, saidGrown, saidNumeral, numeralIn};
 use super::Count;

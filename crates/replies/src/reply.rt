@@ -2,7 +2,7 @@
 ghost use mathlib.Core.Path.{_≡_};
 ghost use Prim.Native.Nat.{_≤_};
 ghost use lib.ListN.{length, drop};
-ghost use Rattle.next.specs.Reading.{readReply};
+ghost use Rattle.definitions.specs.TextReading.{readReply};
 ghost use Rattle.replies.specs.Parts.{summed, noneAt, modelAt};
 ghost use Rattle.replies.specs.Said.{saidHeard};
 use super::Heard;

@@ -3,7 +3,7 @@ ghost use mathlib.Core.Path.{_≡_};
 ghost use Prim.Native.Nat.{_+_, _≤_, _<_};
 ghost use lib.ListN.{length, drop};
 ghost use Rattle.definitions.specs.Tools.{_&&_, eqb};
-ghost use Rattle.next.specs.Stepping.{num};
+ghost use Rattle.laws.specs.Stepping.{num};
 ghost use Rattle.replies.specs.Parts.{afterNumber, numberOn, valueAt, replyFrom, lines, summed};
 ghost use Rattle.replies.specs.Said.{saidValue, valueIn, saidListed};
 use super::Listed;

@@ -5,7 +5,7 @@ use Prim.Native.Nat.{ℕ, _+_, _≤_}
 use native.Mathlib.Omega.{arith}
 use lib.ListN.{length, length-append}
 use Rattle.definitions.specs.Dimacs.{decimal}
-use Rattle.text.specs.Decimals.{digits-length}
+use Rattle.laws.specs.Decimals.{digits-length}
 
 -- a number and the byte that ends it
 abbrev pub withEnd : ℕ → ℕ → List ℕ

@@ -31,7 +31,7 @@ use Rattle.walk.specs.declared.At.the-variants.{Tuple, End}
 use Rattle.walk.specs.declared.Run.{Run}
 use Rattle.walk.specs.Comparisons.{toCome}
 use Rattle.walk.specs.Rows.{inRun}
-use Rattle.writing.specs.Signs.{plus-is, minus-is}
+use Rattle.laws.specs.Signs.{plus-is, minus-is}
 use Rattle.writing.specs.Axioms.{stepsFrom, axiomNumbers, steps-more}
 use Rattle.writing.specs.Numbers.{numbersOf, clause, stays, led}
 use Rattle.writing.proofs.Parts.{run-end, run-more, led-end, led-on}

@@ -24,7 +24,7 @@ use Rattle.measure.specs.Told.{Measures, measured, not-measured}
 use Rattle.text.specs.Lines.{line, lined, line-length}
 use Rattle.text.specs.Entries.{entries, entries-length}
 use Rattle.compile.specs.Lists.{axiomsFrom, piecesNumbers, whole-list}
-use Rattle.next.specs.Operations.{textOf, WriteText}
+use Rattle.definitions.specs.TextOperations.{textOf, WriteText}
 use Rattle.write_text.specs.Adds.{Counts}
 use Rattle.write_text.proofs.Parts.{entries-append}
 

@@ -7,7 +7,7 @@ use lib.ListN.{length, length-append}
 use lib.IntN.{ℤ, pos, natAbs}
 use lib.Signed.{_<ℤ_, _≤ℤ_}
 use Rattle.definitions.specs.Dimacs.{decimal, entry}
-use Rattle.text.specs.Decimals.{decimal-one}
+use Rattle.laws.specs.Decimals.{decimal-one}
 use Rattle.text.specs.Entries.{entry-above, entry-below, entry-zero}
 
 -- by sign, m the number without it

@@ -5,7 +5,7 @@ use Prim.Native.Nat.{ℕ}
 use Rattle.definitions.specs.Answers.{refusal}
 use Rattle.definitions.specs.Result.{Result, done, refused}
 use Rattle.laws.specs.Outcomes.{told, unsaid, unsaid-said}
-use Rattle.next.specs.Operations.{WriteText}
+use Rattle.definitions.specs.TextOperations.{WriteText}
 use Rattle.write_text.specs.declared.Texted.{Texted}
 
 abbrev pub saidTexted : Texted → Result ℕ

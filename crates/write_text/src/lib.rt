@@ -8,7 +8,7 @@ ghost use Rattle.opening.specs.Headers.{Opened};
 ghost use Rattle.measure.specs.Said.{totalsOf};
 ghost use Rattle.text.specs.Entries.{entries};
 ghost use Rattle.compile.specs.Lists.{piecesNumbers};
-ghost use Rattle.next.specs.Operations.{textOf};
+ghost use Rattle.definitions.specs.TextOperations.{textOf};
 ghost use Rattle.write_text.specs.Adds.{Adds, Counts};
 ghost use Rattle.write_text.specs.Outcome.{Allowed};
 use crate::axioms::add_variables;

@@ -20,7 +20,7 @@ use Rattle.walk.specs.declared.Run.{Run}
 use Rattle.walk.specs.Rows.{frontOf, raised, lowered, inRun, ReadyRun, run-first, run-none, row-next}
 use Rattle.walk.specs.Comparisons.{toCome, none-left}
 use Rattle.walk.proofs.Runs.{raised-steady, lowered-steady}
-use Rattle.writing.specs.Signs.{plus-is, minus-is}
+use Rattle.laws.specs.Signs.{plus-is, minus-is}
 use Rattle.writing.specs.Numbers.{clause, flat, stays, led, led-none, led-more}
 use Rattle.writing.specs.Axioms.{stepsFrom, axiomNumbers}
 use Rattle.laws.specs.Filling.{Filling, begin, begun, one, three, ended}

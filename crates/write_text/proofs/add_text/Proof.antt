@@ -7,7 +7,7 @@ use Rattle.definitions.specs.Dimacs.{ascii}
 use Rattle.laws.specs.Boards.{boardOf}
 use Rattle.opening.specs.Headers.{ints-is, bools-is}
 use Rattle.text.specs.Lines.{line}
-use Rattle.next.specs.Operations.{textOf}
+use Rattle.definitions.specs.TextOperations.{textOf}
 use Rattle.write_text.specs.Adds.{Counts, retold, _then_, first-counts, then-counts}
 use Rattle.write_text.proofs.Texts.{axiomsText, rulesText, text-is}
 use Rattle.write_text.proofs.add_text.Statement.{statement}

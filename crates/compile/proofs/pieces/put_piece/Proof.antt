@@ -13,7 +13,7 @@ use Rattle.laws.specs.Again.{literalsAt}
 use Rattle.rules.specs.declared.Piece.{Piece}
 use Rattle.rules.specs.Cursors.{Held, saidPiece, selectorsTo}
 use Rattle.slots.specs.Ready.{ReadyFor, to-ready, is-ready}
-use Rattle.writing.specs.Signs.{minus-fits, minus-is}
+use Rattle.laws.specs.Signs.{minus-fits, minus-is}
 use Rattle.writing.specs.Lines.{lineNumbers}
 use Rattle.compile.specs.Lists.{pieceNumbers}
 use Rattle.compile.proofs.Passes.{renamed, line-numbers, lone-numbers, led-numbers, line-read, few-selectors}

@@ -1,9 +1,9 @@
 -- `replies::lists::signed_of` meets its contract.
 use mathlib.Core.Path.{sym, ap, _∙_}
 use native.Mathlib.Omega.{arith}
-use Rattle.next.specs.Reading.{valueOf}
-use Rattle.next.specs.Stepping.{num}
-use Rattle.writing.specs.Signs.{plus-is, minus-fits, minus-is}
+use Rattle.definitions.specs.TextReading.{valueOf}
+use Rattle.laws.specs.Stepping.{num}
+use Rattle.laws.specs.Signs.{plus-is, minus-fits, minus-is}
 use borrow.Author.Needs.{needs}
 use Rattle.replies.proofs.lists.signed_of.Statement.{statement}
 use Rattle.replies.proofs.lists.signed_of.Tie as tie

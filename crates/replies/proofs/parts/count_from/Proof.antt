@@ -5,7 +5,7 @@ use Prim.Native.Nat.{_-_, _≤_}
 use native.Mathlib.Omega.{arith}
 use lib.ListN.{length, drop}
 use borrow.Author.Tests.{not-true, not-false}
-use Rattle.next.specs.Forms.{most}
+use Rattle.definitions.specs.Texts.{most}
 use Rattle.replies.specs.Parts.{countFrom}
 use Rattle.replies.specs.Bytes.{via, count-step, count-over, count-stops, count-end}
 use Rattle.replies.proofs.parts.count_from.Statement.{statement}

@@ -5,7 +5,7 @@ use Prim.Native.Nat.{_-_, _≤_}
 use native.Mathlib.Omega.{arith}
 use lib.ListN.{length, drop}
 use Rattle.replies.specs.Parts.{numberFrom}
-use Rattle.next.specs.Stepping.{num}
+use Rattle.laws.specs.Stepping.{num}
 use Rattle.replies.specs.Said.{saidGrown}
 use Rattle.replies.specs.Bytes.{via, told, number-step, number-refused, number-done, number-part, number-end, number-end-part}
 use Rattle.replies.proofs.parts.number_from.Statement.{statement}

@@ -1,7 +1,7 @@
 -- `replies::values::after_number` meets its contract.
 use mathlib.Core.Path.{sym}
 use native.Mathlib.Omega.{arith}
-use Rattle.next.specs.Stepping.{num}
+use Rattle.laws.specs.Stepping.{num}
 use Rattle.replies.specs.Replied.{after-none, after-literal, after-zero-wrong, after-zero, after-zero-more}
 use borrow.Author.Needs.{needs}
 use Rattle.replies.proofs.values.after_number.Statement.{statement}

@@ -2,7 +2,7 @@
 use mathlib.Core.Path.{sym}
 use native.Mathlib.Omega.{arith}
 use borrow.Author.Needs.{needs}
-use Rattle.text.specs.Decimals.{decimal-length}
+use Rattle.laws.specs.Decimals.{decimal-length}
 use borrow.Author.Needs.{needs}
 use Rattle.text.proofs.lengths.digits.Statement.{statement}
 use Rattle.text.proofs.lengths.digits.Tie as tie

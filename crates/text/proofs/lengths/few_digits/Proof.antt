@@ -2,7 +2,7 @@
 use mathlib.Core.Path.{sym, ap}
 use lib.ListN.{length}
 use native.Mathlib.Omega.{arith}
-use Rattle.text.specs.Decimals.{decimal-one, decimal-length}
+use Rattle.laws.specs.Decimals.{decimal-one, decimal-length}
 use Rattle.text.proofs.lengths.few_digits.Statement.{statement}
 use Rattle.text.proofs.lengths.few_digits.Tie as tie
 

@@ -1,7 +1,7 @@
 -- `text::lengths::many_digits` meets its contract.
 use mathlib.Core.Path.{sym}
 use native.Mathlib.Omega.{arith}
-use Rattle.text.specs.Decimals.{decimal-length}
+use Rattle.laws.specs.Decimals.{decimal-length}
 use Rattle.text.proofs.lengths.many_digits.Statement.{statement}
 use Rattle.text.proofs.lengths.many_digits.Tie as tie
 

@@ -6,7 +6,7 @@ use lib.ListN.{length-append, length-set}
 use Rattle.definitions.specs.Dimacs.{decimal}
 use Rattle.laws.specs.Filling.{Filling, begun, room, one, ended}
 use Rattle.text.specs.Lines.{withEnd}
-use Rattle.text.specs.Decimals.{digits-length}
+use Rattle.laws.specs.Decimals.{digits-length}
 use Rattle.text.proofs.numbers.put_ended.Statement.{statement}
 use Rattle.text.proofs.numbers.put_ended.Tie as tie
 

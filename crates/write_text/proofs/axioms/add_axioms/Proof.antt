@@ -2,7 +2,7 @@
 use mathlib.Core.Path.{sym, _∙_}
 use Prim.Native.Nat.{_-_}
 use native.Mathlib.Omega.{arith}
-use Rattle.writing.specs.Signs.{minus-fits}
+use Rattle.laws.specs.Signs.{minus-fits}
 use Rattle.writing.specs.Axioms.{stepsFrom}
 use Rattle.text.specs.Entries.{entries}
 use Rattle.write_text.specs.Adds.{retold, _then_, first-counts, then-counts}

@@ -3,7 +3,7 @@ use borrow.Author.Needs.{needs}
 use mathlib.Core.Path.{_≡_, refl, ap, _∙_}
 use Prim.Native.Nat.{_+_, _-_}
 use native.Mathlib.Omega.{arith}
-use Rattle.writing.specs.Signs.{minus-fits}
+use Rattle.laws.specs.Signs.{minus-fits}
 use Rattle.writing.specs.Axioms.{stepsFrom, steps-none}
 use Rattle.text.specs.Entries.{entries}
 use Rattle.write_text.specs.Adds.{Adding, begin, counts-first, on, ended}

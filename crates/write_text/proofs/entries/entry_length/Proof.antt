@@ -3,7 +3,7 @@ use mathlib.Core.Path.{sym}
 use native.Mathlib.Omega.{arith}
 use mir.Facts.{toZ-ofZ}
 use Rattle.laws.specs.Whole.{whole, back}
-use Rattle.text.specs.Decimals.{digits-length}
+use Rattle.laws.specs.Decimals.{digits-length}
 use Rattle.write_text.specs.Lengths.{length-above, length-below, length-zero}
 use borrow.Author.Needs.{needs}
 use Rattle.write_text.proofs.entries.entry_length.Statement.{statement}

@@ -15,7 +15,7 @@ use Rattle.rules.specs.declared.Piece.{Piece}
 use Rattle.rules.specs.Cursors.{Held, saidPiece, selectorsTo}
 use Rattle.slots.specs.Ready.{ReadyFor, to-ready, is-ready}
 use Rattle.text.specs.Entries.{entries}
-use Rattle.writing.specs.Signs.{minus-fits, minus-is}
+use Rattle.laws.specs.Signs.{minus-fits, minus-is}
 use Rattle.writing.specs.Lines.{lineNumbers}
 use Rattle.compile.specs.Lists.{pieceNumbers}
 use Rattle.compile.proofs.Passes.{line-numbers, lone-numbers, led-numbers, line-read, few-selectors}

@@ -4,7 +4,7 @@ use Prim.Native.Nat.{_+_, _≤_}
 use native.Mathlib.Omega.{arith}
 use lib.ListN.{length, length-set}
 use Rattle.laws.specs.Written.{rest-length}
-use Rattle.writing.specs.Signs.{minus-fits}
+use Rattle.laws.specs.Signs.{minus-fits}
 use Rattle.writing.specs.Axioms.{axioms-length}
 use Rattle.laws.specs.Filling.{room-before, room, last}
 use Rattle.writing.proofs.Parts.{headed, units}

@@ -6,7 +6,7 @@ use Prim.Native.Nat.{_+_, _-_, _≤_}
 use native.Mathlib.Omega.{arith}
 use lib.ListN.{length, length-set}
 use lib.IntN.{pos}
-use Rattle.writing.specs.Signs.{plus-is, minus-fits, minus-is}
+use Rattle.laws.specs.Signs.{plus-is, minus-fits, minus-is}
 use Rattle.writing.specs.Axioms.{stepsFrom, steps-length, steps-more, steps-none}
 use Rattle.laws.specs.Filling.{Filling, begin, room-before, room, ended, three}
 use Rattle.writing.proofs.axioms.put_steps.Statement.{statement}

@@ -3,7 +3,7 @@ use mathlib.Core.Path.{sym, ap, _∙_}
 use native.Mathlib.Omega.{arith}
 use lib.IntN.{pos}
 use Rattle.laws.specs.Whole.{abs-neg}
-use Rattle.writing.specs.Signs.{plus-is, minus-fits, minus-is}
+use Rattle.laws.specs.Signs.{plus-is, minus-fits, minus-is}
 use Rattle.writing.specs.Lines.{literalHere}
 use borrow.Author.Needs.{needs}
 use Rattle.writing.proofs.lines.number_of.Statement.{statement}

@@ -10,8 +10,8 @@ use lib.Seq.{take-at, take-suc, length-take-le}
 use Rattle.definitions.specs.Result.{Result, _>>=_, _>>_, done, refused}
 use Rattle.laws.specs.Readings.{never}
 use Rattle.laws.specs.Refusals.{refusal-is}
-use Rattle.next.specs.Reading.{State, step, fed}
-use Rattle.next.specs.Stepping.{fed-append, fed-one}
+use Rattle.definitions.specs.TextReading.{State, step, fed}
+use Rattle.laws.specs.Stepping.{fed-append, fed-one}
 
 -- something good begins with these bytes
 pub record Begins (Good : List ℕ → Type 0) (t : List ℕ) : Type 0 where

@@ -14,14 +14,14 @@ use Rattle.definitions.specs.Result.{Result, _>>=_, _>>_, need, done, refused}
 use Rattle.definitions.specs.Dimacs.{ascii, decimal}
 use Rattle.laws.specs.Readings.{same, never}
 use Rattle.laws.specs.Refusals.{refusal-is}
-use Rattle.text.specs.Decimals.{decimal-one, decimal-more}
-use Rattle.next.specs.Forms.{numeral, blank, Spaced, none, gap, number, zeros, most, firstLine}
-use Rattle.next.specs.Reading as reading
-use Rattle.next.specs.Reading.{digit, Number, valueOf, whole, begun, further, longer, grown, Count, variables, clauses, Kind, text, reply, Reply, model, State, word, count, countOn, verdict, within, over, awaits, counted, stops, beyond, step, fed}
-use Rattle.next.specs.Stepping.{cases, fed-append, fed-on, fed-one, num, free, negative, numeral-fed}
-use Rattle.next.specs.Reached.{passed, made, both, digit-is, wide, bytes, whole-bytes, longer-bytes, value-size, Which, ofText, ofReply, Before, Inside, Reached, Narrow, narrow-head, onto}
-use Rattle.next.specs.GoodTexts.{textStart, line-fed, snoc-same, yes}
-use Rattle.next.specs.GoodReplies.{replyStart}
+use Rattle.laws.specs.Decimals.{decimal-one, decimal-more}
+use Rattle.definitions.specs.Texts.{numeral, blank, Spaced, none, gap, number, zeros, most, firstLine}
+use Rattle.definitions.specs.TextReading as reading
+use Rattle.definitions.specs.TextReading.{digit, Number, valueOf, whole, begun, further, longer, grown, Count, variables, clauses, Kind, text, reply, Reply, model, State, word, count, countOn, verdict, within, over, awaits, counted, stops, beyond, step, fed}
+use Rattle.laws.specs.Stepping.{cases, fed-append, fed-on, fed-one, num, free, negative, numeral-fed}
+use Rattle.demands.specs.Reached.{passed, made, both, digit-is, wide, bytes, whole-bytes, longer-bytes, value-size, Which, ofText, ofReply, Before, Inside, Reached, Narrow, narrow-head, onto}
+use Rattle.demands.specs.GoodTexts.{textStart, line-fed, snoc-same, yes}
+use Rattle.demands.specs.GoodReplies.{replyStart}
 
 -- ---- bytes that end in a number beyond N, without a leading 0: its first byte stands at d
 -- after the first line of text, or after a space or a newline that follows it

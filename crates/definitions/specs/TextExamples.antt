@@ -1,14 +1,14 @@
 -- Examples of P2 in one table, and one statement: what the definitions answer is what 02's sentences say of each.
 use Prim.Native.String.{String}
 use mathlib.Core.Path.{_≡_, refl}
 use Rattle.definitions.specs.Tools.{ℕ, Bool, true, false, List, [], _∷_, ℤ, pos, neg, All}
 use Rattle.definitions.specs.Result.{Result, done, refused}
 use Rattle.definitions.specs.Operations.{Outcome, _leaves_, Sizes}
 use Rattle.definitions.specs.Dimacs.{ascii}
 use Rattle.definitions.specs.Open.{all-open}
 use Rattle.definitions.specs.Examples.{hex}
-use Rattle.next.specs.Reading.{Read, readText, readReply}
-use Rattle.next.specs.Operations.{textOf, WriteText, ReadText, ReadReply}
+use Rattle.definitions.specs.TextReading.{Read, readText, readReply}
+use Rattle.definitions.specs.TextOperations.{textOf, WriteText, ReadText, ReadReply}
 
 pub data Question : Type 0 where
   write : String → List ℕ → Question

@@ -1,8 +1,8 @@
 -- Text and replies read byte by byte (02, P2): 18 at a byte that no good text has there, or at the number that goes beyond N.
 use Rattle.definitions.specs.Tools.{ℕ, suc, _+_, _*_, _-_, Bool, true, false, not, _&&_, _||_, List, [], _∷_, _++_, length, leb, ltb, eqb, ℤ, pos, if_then_else_, neg}
 use Rattle.definitions.specs.Result.{Result, _>>=_, _>>_, need, done, refused}
 use Rattle.definitions.specs.Dimacs.{ascii}
-use Rattle.next.specs.Forms.{blank, zeros, most}
+use Rattle.definitions.specs.Texts.{blank, zeros, most}
 
 -- ---- a number that is being read
 abbrev pub digit : ℕ → Bool

@@ -14,11 +14,11 @@ use Rattle.definitions.specs.Result.{Result, _>>=_, _>>_, need, done, refused}
 use Rattle.definitions.specs.Dimacs.{ascii, decimal}
 use Rattle.laws.specs.Readings.{same, never}
 use Rattle.laws.specs.Lists.{all-append}
-use Rattle.text.specs.Decimals.{decimal-one, decimal-more}
-use Rattle.next.specs.Forms.{numeral, blank, Spaced, none, gap, number, zeros, Ended, most, firstLine, Values, first, onLine, newLine, GoodReply, noModel}
-use Rattle.next.specs.Reading as reading
-use Rattle.next.specs.Reading.{digit, Number, valueOf, whole, begun, further, longer, grown, Count, variables, clauses, Kind, text, reply, model, State, word, count, countOn, verdict, within, over, awaits, counted, stops, beyond, step, fed}
-use Rattle.next.specs.Stepping.{cases, num, free}
+use Rattle.laws.specs.Decimals.{decimal-one, decimal-more}
+use Rattle.definitions.specs.Texts.{numeral, blank, Spaced, none, gap, number, zeros, Ended, most, firstLine, Values, first, onLine, newLine, GoodReply, noModel}
+use Rattle.definitions.specs.TextReading as reading
+use Rattle.definitions.specs.TextReading.{digit, Number, valueOf, whole, begun, further, longer, grown, Count, variables, clauses, Kind, text, reply, model, State, word, count, countOn, verdict, within, over, awaits, counted, stops, beyond, step, fed}
+use Rattle.laws.specs.Stepping.{cases, num, free}
 
 -- ---- what a step that was passed tells
 module _ {A : Type 0} where

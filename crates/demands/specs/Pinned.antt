@@ -7,15 +7,15 @@ use lib.Dec.{eqb}
 use lib.ListN.{length}
 use lib.IntN.{ℤ}
 use Rattle.definitions.specs.Result.{Result, _>>=_, done, refused}
-use Rattle.next.specs.Forms.{zeros, GoodText}
-use Rattle.next.specs.Reading.{valueOf, whole, text, reply, Reply, State, word, count, countOn, verdict, number, within, over, fed, Read, endText, endReply, readText, readReply}
-use Rattle.next.specs.Stepping.{fed-on}
-use Rattle.next.specs.Reached.{wide, ofText, ofReply, Narrow, Reached, all-kept}
-use Rattle.next.specs.GoodTexts.{textStart, only-good-text-is-read, good-text-is-read}
-use Rattle.next.specs.GoodReplies.{replyStart, Answers, only-a-good-reply-is-read, a-good-reply-is-read}
-use Rattle.next.specs.Places.{Pinned, Reader, pinned}
-use Rattle.next.specs.Lives.{Lives, text-lives, reply-lives}
-use Rattle.next.specs.Details.{Beyond, Here, here-done, here-refused, here-need, why-refused, beyond-refused, Free, text-head, reply-head}
+use Rattle.definitions.specs.Texts.{zeros, GoodText}
+use Rattle.definitions.specs.TextReading.{valueOf, whole, text, reply, Reply, State, word, count, countOn, verdict, number, within, over, fed, Read, endText, endReply, readText, readReply}
+use Rattle.laws.specs.Stepping.{fed-on}
+use Rattle.demands.specs.Reached.{wide, ofText, ofReply, Narrow, Reached, all-kept}
+use Rattle.demands.specs.GoodTexts.{textStart, only-good-text-is-read, good-text-is-read}
+use Rattle.demands.specs.GoodReplies.{replyStart, Answers, only-a-good-reply-is-read, a-good-reply-is-read}
+use Rattle.demands.specs.Places.{Pinned, Reader, pinned}
+use Rattle.demands.specs.Lives.{Lives, text-lives, reply-lives}
+use Rattle.demands.specs.Details.{Beyond, Here, here-done, here-refused, here-need, why-refused, beyond-refused, Free, text-head, reply-head}
 
 -- what a state that some bytes lead on from gives: a whole that is read
 lived : {A : Type 0} (start : State) (end : ℕ → State → Result A) (t : List ℕ) (s : State) → fed start 0 t ≡ done s → (l : Lives end s (0 + length t))

@@ -21,12 +21,12 @@ use Rattle.laws.specs.Admitted.{Admitted}
 use Rattle.laws.specs.Mentions.{InList, literals-numbered}
 use Rattle.laws.specs.Sizes.{M-is, K-is}
 use Rattle.laws.specs.Fits.{N-fits}
 use Rattle.demands.specs.Flat.{list-numbers}
-use Rattle.next.specs.Forms.{numeral, blank, Spaced, none, gap, number, zeros, Ended, firstLine, GoodText}
-use Rattle.next.specs.Reading.{readText}
-use Rattle.next.specs.Operations.{textOf, WriteText, ReadText}
-use Rattle.next.specs.Reached.{zeros-append, zero-or}
-use Rattle.next.specs.GoodTexts.{good-text-is-read}
+use Rattle.definitions.specs.Texts.{numeral, blank, Spaced, none, gap, number, zeros, Ended, firstLine, GoodText}
+use Rattle.definitions.specs.TextReading.{readText}
+use Rattle.definitions.specs.TextOperations.{textOf, WriteText, ReadText}
+use Rattle.demands.specs.Reached.{zeros-append, zero-or}
+use Rattle.demands.specs.GoodTexts.{good-text-is-read}
 
 -- ---- entries are numbers, each with a space or a newline after it
 entry-is : (n : ℤ) → (b : ℕ) × (T (blank b) × (entry n ≡ numeral n ++ (b ∷ [])))

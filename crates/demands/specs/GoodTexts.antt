@@ -14,11 +14,11 @@ use Rattle.definitions.specs.Result.{_>>=_, _>>_, done}
 use Rattle.definitions.specs.Dimacs.{ascii, decimal}
 use Rattle.laws.specs.Readings.{same, never}
 use Rattle.laws.specs.Lists.{all-append, append-all}
-use Rattle.next.specs.Forms.{numeral, blank, Spaced, none, gap, number, zeros, Ended, most, firstLine, GoodText}
-use Rattle.next.specs.Reading as reading
-use Rattle.next.specs.Reading.{digit, Number, valueOf, whole, Count, variables, clauses, Kind, text, reply, State, word, count, countOn, verdict, within, over, awaits, counted, beyond, step, fed, Read, endText, readText}
-use Rattle.next.specs.Stepping.{fed-on, fed-awaits, count-fed, num, free, negative, numeral-fed}
-use Rattle.next.specs.Reached.{passed, made, both, wide, bytes, whole-bytes, value-size, zeros-append, more-room, ofText, Reached, all-kept}
+use Rattle.definitions.specs.Texts.{numeral, blank, Spaced, none, gap, number, zeros, Ended, most, firstLine, GoodText}
+use Rattle.definitions.specs.TextReading as reading
+use Rattle.definitions.specs.TextReading.{digit, Number, valueOf, whole, Count, variables, clauses, Kind, text, reply, State, word, count, countOn, verdict, within, over, awaits, counted, beyond, step, fed, Read, endText, readText}
+use Rattle.laws.specs.Stepping.{fed-on, fed-awaits, count-fed, num, free, negative, numeral-fed}
+use Rattle.demands.specs.Reached.{passed, made, both, wide, bytes, whole-bytes, value-size, zeros-append, more-room, ofText, Reached, all-kept}
 
 abbrev pub textStart : State
 textStart = awaits (ascii "p cnf ") (count variables)

@@ -12,9 +12,9 @@ use lib.ListN.{length}
 use lib.IntN.{ℤ, pos, negsuc, natAbs}
 use Rattle.definitions.specs.Result.{Result, _>>=_, _>>_, need, done, refused}
 use Rattle.definitions.specs.Dimacs.{decimal}
-use Rattle.text.specs.Decimals.{decimal-one, decimal-more}
-use Rattle.next.specs.Forms.{numeral, blank, zeros, most}
-use Rattle.next.specs.Reading.{digit, Number, begun, Count, Kind, text, reply, State, count, countOn, number, within, awaits, starts, beyond, step, fed}
+use Rattle.laws.specs.Decimals.{decimal-one, decimal-more}
+use Rattle.definitions.specs.Texts.{numeral, blank, zeros, most}
+use Rattle.definitions.specs.TextReading.{digit, Number, begun, Count, Kind, text, reply, State, count, countOn, number, within, awaits, starts, beyond, step, fed}
 
 pub cases : (b : Bool) → (b ≡ true) ⊎ (b ≡ false)
 cases true = inl refl

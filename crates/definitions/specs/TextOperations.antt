@@ -1,12 +1,12 @@
 -- The writer, the reader of text and the reader of a reply: what they answer and leave (02, P2).
 use Rattle.definitions.specs.Tools.{ℕ, suc, Bool, true, false, List, [], _∷_, _++_, map, length, drop, leb, eqb, ℤ, pos, any, countUp, eqZ, if_then_else_}
 use lib.IntN.{natAbs}
 use Rattle.definitions.specs.Board.{Board}
 use Rattle.definitions.specs.Result.{Result, _>>=_, _>>_, need, each, done}
 use Rattle.definitions.specs.Encoding.{clauseList}
 use Rattle.definitions.specs.Operations.{accepted, Outcome, lending, long, Sizes, sizesOf}
 use Rattle.definitions.specs.Dimacs.{shown}
-use Rattle.next.specs.Reading.{Reply, model, none, readText, readReply}
+use Rattle.definitions.specs.TextReading.{Reply, model, none, readText, readReply}
 
 -- an accepted record's text, as the program prints it
 unfoldable pub textOf : Board → List ℕ

@@ -16,13 +16,13 @@ use Rattle.laws.specs.Lists.{counted-at, length-countUp}
 use Rattle.laws.specs.Decide.{Decides}
 use Rattle.laws.specs.Some.{some}
 use Rattle.laws.specs.Reads.{equalsZ}
 use Rattle.demands.specs.Flat.{TrueIn}
-use Rattle.next.specs.Forms.{GoodReply, noModel}
-use Rattle.next.specs.Reading.{model, none, readReply}
-use Rattle.next.specs.Operations.{often, modelOf, ReadReply}
-use Rattle.next.specs.Stepping.{cases}
-use Rattle.next.specs.Reached.{wide}
-use Rattle.next.specs.GoodReplies.{a-good-reply-is-read}
+use Rattle.definitions.specs.Texts.{GoodReply, noModel}
+use Rattle.definitions.specs.TextReading.{model, none, readReply}
+use Rattle.definitions.specs.TextOperations.{often, modelOf, ReadReply}
+use Rattle.laws.specs.Stepping.{cases}
+use Rattle.demands.specs.Reached.{wide}
+use Rattle.demands.specs.GoodReplies.{a-good-reply-is-read}
 
 -- ---- the first of some numbers that fails a test
 pub record First (f : ℕ → Bool) (i n d : ℕ) : Type 0 where

@@ -10,11 +10,11 @@ use lib.ListN.{length}
 use lib.IntN.{ℤ, pos}
 use Rattle.definitions.specs.Result.{Result, _>>=_, done}
 use Rattle.definitions.specs.Dimacs.{ascii}
-use Rattle.next.specs.Forms.{zeros}
-use Rattle.next.specs.Reading.{valueOf, variables, clauses, text, reply, Reply, model, none, State, word, count, countOn, verdict, number, within, over, fed, endText, endReply}
-use Rattle.next.specs.Stepping.{fed-on, fed-awaits, num}
-use Rattle.next.specs.Reached.{zeros-append, more-room, ofText, ofReply, Reached}
-use Rattle.next.specs.GoodTexts.{count-ends}
+use Rattle.definitions.specs.Texts.{zeros}
+use Rattle.definitions.specs.TextReading.{valueOf, variables, clauses, text, reply, Reply, model, none, State, word, count, countOn, verdict, number, within, over, fed, endText, endReply}
+use Rattle.laws.specs.Stepping.{fed-on, fed-awaits, num}
+use Rattle.demands.specs.Reached.{zeros-append, more-room, ofText, ofReply, Reached}
+use Rattle.demands.specs.GoodTexts.{count-ends}
 
 -- some bytes from here lead to an end
 pub record Lives {A : Type 0} (end : ℕ → State → Result A) (s : State) (at : ℕ) : Type 0 where

@@ -12,11 +12,11 @@ use Rattle.definitions.specs.Result.{_>>=_, done}
 use Rattle.definitions.specs.Dimacs.{ascii}
 use Rattle.laws.specs.Readings.{same, never}
 use Rattle.laws.specs.Lists.{append-all}
-use Rattle.next.specs.Forms.{numeral, Values, first, onLine, newLine, GoodReply, noModel}
-use Rattle.next.specs.Reading.{reply, Reply, model, none, State, word, count, countOn, verdict, number, within, over, awaits, fed, endReply, readReply}
-use Rattle.next.specs.Stepping.{fed-on}
-use Rattle.next.specs.Reached.{made, wide, ofReply, Reached, all-kept}
-use Rattle.next.specs.GoodTexts.{numberAt, numeral-whole, number-read}
+use Rattle.definitions.specs.Texts.{numeral, Values, first, onLine, newLine, GoodReply, noModel}
+use Rattle.definitions.specs.TextReading.{reply, Reply, model, none, State, word, count, countOn, verdict, number, within, over, awaits, fed, endReply, readReply}
+use Rattle.laws.specs.Stepping.{fed-on}
+use Rattle.demands.specs.Reached.{made, wide, ofReply, Reached, all-kept}
+use Rattle.demands.specs.GoodTexts.{numberAt, numeral-whole, number-read}
 
 abbrev pub replyStart : ℕ → State
 replyStart N = awaits (ascii "s ") (verdict N)

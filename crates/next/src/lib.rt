@@ -1,1 +1,0 @@
-// DIMACS text out, and text and a solver's reply back in (02, P2): definitions and mathematics; no code.
