@@ -33,7 +33,7 @@ MUTANTS = [
         ("writing/src/lines.rt", "number += selectors_of(literal);", ""),
         ("rules/src/lib.rt", "after(c, next, c.selector + 1)", "after(c, next, c.selector)")]),
     ("tuples used below the least sum", [
-        ("writing/src/comparisons.rt", "if c.constant < least(c) {", "if false {")]),
+        ("writing/src/comparisons.rt", "if t < 1 {", "if false {")]),
     ("place K written too", [
         ("compile/src/lib.rt",
          "let k = put_list(bytes, header, list);",

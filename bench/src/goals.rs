@@ -46,6 +46,9 @@ pub fn goals(all: &[Measured], others: &[&str]) -> String {
         goal("Compile on 1,024 variables over that on 16", most(1.5), many_over_few(all)),
         goal("Decode over earlier, wide boards", most(0.333), decode(&[Kind::Wide])),
         goal("Decode over earlier, others", Limit::Nothing, decode(OTHERS)),
+        goal("WriteText over strong", most(3.0), over(all, Operation::WriteText, strong, |_| true)),
+        goal("ReadText over minisat's parser", most(1.0), over_solver(all, "minisat")),
+        goal("ReadText over cadical's parser", most(1.0), over_solver(all, "cadical")),
     ];
     goals.iter().map(Goal::line).collect()
 }
@@ -62,9 +65,17 @@ fn over(
     is_meant: impl Fn(Kind) -> bool,
 ) -> Found {
     values(all, |measured| {
-        let line = measured.line(operation);
+        let line = measured.line(operation)?;
         let other = line.others[other?]?;
         is_meant(measured.board.kind).then_some(line.library / other)
+    })
+}
+
+/// ReadText's time over what a solver's own parser took on the same text.
+fn over_solver(all: &[Measured], solver: &str) -> Found {
+    values(all, |measured| {
+        let found = measured.solvers.iter().find(|(name, _)| *name == solver)?;
+        Some(measured.line(Operation::ReadText)?.library / found.1)
     })
 }
 
@@ -76,7 +87,7 @@ fn values(all: &[Measured], value: impl Fn(&Measured) -> Option<f64>) -> Found {
 /// A fill's time over that of Compile, of the library or of another program.
 fn shares(all: &[Measured], other: Option<usize>) -> Found {
     values(all, |measured| {
-        let line = measured.line(Operation::Compile);
+        let line = measured.line(Operation::Compile)?;
         let seconds = other.map_or(Some(line.library), |other| line.others[other])?;
         let is_meant = (1_000_000..=8_000_000).contains(&(4 * measured.numbers()));
         is_meant.then_some(100.0 * line.fill? / seconds)
@@ -84,14 +95,14 @@ fn shares(all: &[Measured], other: Option<usize>) -> Found {
 }
 
 fn instructions(measured: &Measured) -> Option<f64> {
-    let counted = measured.line(Operation::Compile).instructions? as f64;
+    let counted = measured.line(Operation::Compile)?.instructions? as f64;
     (measured.board.kind == Kind::Wide).then_some(counted / measured.numbers() as f64)
 }
 
 fn many_over_few(all: &[Measured]) -> Found {
     let seconds = |name| {
         let found = all.iter().find(|measured| measured.board.name == name)?;
-        Some(found.line(Operation::Compile).library)
+        Some(found.line(Operation::Compile)?.library)
     };
     let (many, few) = (seconds("over1024"), seconds("over16"));
     many.zip(few).map(|(many, few)| ("over1024", many / few)).into_iter().collect()

@@ -6,6 +6,7 @@ pub mod goals;
 pub mod instructions;
 pub mod measures;
 pub mod programs;
+pub mod solvers;
 pub mod strong;
 pub mod table;
 pub mod words;

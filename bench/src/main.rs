@@ -1,4 +1,4 @@
-//! Measures the five operations of the proved library and of its peers in one run; `--help` says how to ask for more.
+//! Measures the operations of the proved library and of its peers in one run; `--help` says how to ask for more.
 //!
 //! What all programs answer has to be equal; how long they take is only printed.
 
@@ -63,7 +63,7 @@ fn print_table(wish: Wish, others: &[Box<dyn Program>]) -> Result<(), String> {
     print!("{}", table::heading(others, counts));
     let mut all = Vec::new();
     for board in wish.boards {
-        let measured = measured(board, others, &counter);
+        let measured = measured(board, others, &counter, wish.solvers);
         print!("{}", table::rows(&measured));
         all.push(measured);
     }

@@ -1,9 +1,10 @@
 //! A board on the desk: every program is compared with the library, and then measured.
 
-use crate::boards::Board;
+use crate::boards::{Board, Kind};
 use crate::clock::least_seconds;
 use crate::instructions::Counter;
 use crate::programs::{Answer, Desk, Library, Operation, Program};
+use crate::solvers::reading_seconds;
 use std::hint::black_box;
 
 /// All measures of a board.
@@ -11,6 +12,8 @@ pub struct Measured {
     pub board: Board,
     pub sizes: Answer,
     pub lines: Vec<Line>,
+    /// Seconds that solvers take to read its text, where they were asked.
+    pub solvers: Vec<(&'static str, f64)>,
 }
 
 /// The measures of an operation.
@@ -30,21 +33,26 @@ impl Measured {
         self.sizes[3]
     }
 
-    pub fn line(&self, operation: Operation) -> &Line {
-        let found = self.lines.iter().find(|line| line.operation == operation);
-        found.expect("every operation is measured")
+    /// None where the board is too large for the operation.
+    pub fn line(&self, operation: Operation) -> Option<&Line> {
+        self.lines.iter().find(|line| line.operation == operation)
     }
 }
 
 /// Runs all programs on a board, first for what they answer, then for how long they take.
-pub fn measured(board: Board, others: &[Box<dyn Program>], counter: &Counter) -> Measured {
+pub fn measured(
+    board: Board,
+    others: &[Box<dyn Program>],
+    counter: &Counter,
+    with_solvers: bool,
+) -> Measured {
     let mut desk = laid_out(&board);
     let sizes = Library.run(Operation::Size, &mut desk);
     let mut lines = Vec::new();
-    for operation in Operation::ALL {
+    for operation in operations(&board) {
         let present = |program: &dyn Program| {
-            let looks_at_clauses = matches!(operation, Operation::Compile | Operation::Decode);
-            !looks_at_clauses || sizes[2] <= program.most_clauses()
+            let few = !operation.goes_through_clauses() || sizes[2] <= program.most_clauses();
+            program.does(operation) && few
         };
         let others: Vec<Option<&dyn Program>> = others
             .iter()
@@ -59,10 +67,17 @@ pub fn measured(board: Board, others: &[Box<dyn Program>], counter: &Counter) ->
         }
         lines.push(line);
     }
-    Measured { board, sizes, lines }
+    let solvers = if with_solvers { reading_seconds(&desk.text) } else { Vec::new() };
+    Measured { board, sizes, lines, solvers }
 }
 
-/// A board's record and solution, and room for its list and its model.
+/// A text of gigabytes is neither written nor read.
+pub fn operations(board: &Board) -> impl Iterator<Item = Operation> {
+    let huge = board.kind == Kind::Huge;
+    Operation::ALL.into_iter().filter(move |operation| !huge || !operation.is_of_text())
+}
+
+/// A board's record and solution, its text and a reply with its model, and room for its list and its model.
 pub fn laid_out(board: &Board) -> Desk {
     let mut desk = Desk {
         record: board.record.clone(),
@@ -77,7 +92,27 @@ pub fn laid_out(board: &Board) -> Desk {
     desk.list = vec![0; numbers as usize];
     desk.model = vec![0; variables as usize];
     Library.run(Operation::Image, &mut desk);
+    if board.kind != Kind::Huge {
+        let [10, length, ..] = Library.run(Operation::WriteText, &mut desk) else {
+            panic!("{}: a text has room in no bytes", board.name);
+        };
+        desk.text = vec![0; length as usize];
+        Library.run(Operation::WriteText, &mut desk);
+        desk.reply = reply_of(&desk.model);
+    }
     desk
+}
+
+/// As solvers print it: some numbers in each line.
+fn reply_of(model: &[u8]) -> Vec<u8> {
+    let mut reply = "s SATISFIABLE".to_string();
+    for (index, &byte) in model.iter().enumerate() {
+        let line = if index % 12 == 0 { "\nv" } else { "" };
+        let sign = if byte == 0 { "-" } else { "" };
+        reply.push_str(&format!("{line} {sign}{}", index + 1));
+    }
+    reply.push_str(if model.is_empty() { "\nv 0\n" } else { " 0\n" });
+    reply.into_bytes()
 }
 
 /// Every program has to answer and write what the library does.
@@ -88,6 +123,10 @@ fn compare(board: &Board, operation: Operation, others: &[Option<&dyn Program>],
         let found = outcome(*program, operation, desk);
         assert!(found == expected, "{}: {operation:?} of {}", board.name, program.name());
     }
+    if let Some(source) = operation.source() {
+        let written = outcome(&Library, source, desk).1;
+        assert!(written == expected.1, "{}: {operation:?} gives what was written", board.name);
+    }
     assert_eq!(desk.values, board.values, "{}: {operation:?} leaves the solution", board.name);
 }
 
@@ -95,8 +134,9 @@ fn compare(board: &Board, operation: Operation, others: &[Option<&dyn Program>],
 fn outcome(program: &dyn Program, operation: Operation, desk: &mut Desk) -> (Answer, u64) {
     match operation {
         Operation::Size | Operation::Judge => {}
-        Operation::Compile => desk.list.fill(i32::MIN),
-        Operation::Image => desk.model.fill(2),
+        Operation::Compile | Operation::ReadText => desk.list.fill(i32::MIN),
+        Operation::Image | Operation::ReadReply => desk.model.fill(2),
+        Operation::WriteText => desk.text.fill(0),
         Operation::Decode => {
             desk.values.fill(i32::MIN);
             desk.booleans.fill(2);
@@ -105,14 +145,21 @@ fn outcome(program: &dyn Program, operation: Operation, desk: &mut Desk) -> (Ans
     let answer = program.run(operation, desk);
     let sum = match operation {
         Operation::Size | Operation::Judge => 0,
-        Operation::Compile => checksum(desk.list.iter().map(|&number| number as u64)),
-        Operation::Image => checksum(desk.model.iter().map(|&byte| u64::from(byte))),
+        Operation::Compile | Operation::ReadText => {
+            checksum(desk.list.iter().map(|&number| number as u64))
+        }
+        Operation::Image | Operation::ReadReply => checksum(bytes(&desk.model)),
+        Operation::WriteText => checksum(bytes(&desk.text)),
         Operation::Decode => {
             let values = desk.values.iter().map(|&value| value as u64);
-            checksum(values.chain(desk.booleans.iter().map(|&byte| u64::from(byte))))
+            checksum(values.chain(bytes(&desk.booleans)))
         }
     };
     (answer, sum)
+}
+
+fn bytes(list: &[u8]) -> impl Iterator<Item = u64> + '_ {
+    list.iter().map(|&byte| u64::from(byte))
 }
 
 /// A sum in which order counts, so that a list of gigabytes need not be kept twice.
@@ -147,7 +194,7 @@ fn line(operation: Operation, others: &[Option<&dyn Program>], desk: &mut Desk) 
 #[cfg(test)]
 mod tests {
     use super::*;
-    use crate::boards::{self, Kind};
+    use crate::boards;
     use crate::programs::{Second, Strong};
 
     /// The program with a byte of Image wrong.
@@ -156,6 +203,10 @@ mod tests {
     impl Program for Wrong {
         fn name(&self) -> &'static str {
             "wrong"
+        }
+
+        fn does(&self, _: Operation) -> bool {
+            true
         }
 
         fn run(&self, operation: Operation, desk: &mut Desk) -> Answer {
@@ -167,10 +218,13 @@ mod tests {
         }
     }
 
-    fn compare_all(board: &Board, others: &[Option<&dyn Program>]) {
+    fn compare_all(board: &Board, others: &[Option<&'static dyn Program>]) {
         let mut desk = laid_out(board);
-        for operation in Operation::ALL {
-            compare(board, operation, others, &mut desk);
+        for operation in operations(board) {
+            let does =
+                |other: Option<&'static dyn Program>| other.filter(|one| one.does(operation));
+            let others: Vec<_> = others.iter().copied().map(does).collect();
+            compare(board, operation, &others, &mut desk);
         }
     }
 

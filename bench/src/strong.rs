@@ -1,4 +1,4 @@
-//! A strong peer: the five operations as a careful engineer writes them by hand, with every check of 01.
+//! A strong peer: the operations on a record as a careful engineer writes them by hand, with every check of 01.
 //!
 //! What makes it fast: first numbers are kept in a table, each rule's bytes are checked once, the last two terms of a
 //! comparison are written as rows whose literals only step, and tuples are counted by a formula. Its Decode does not
@@ -10,6 +10,7 @@ mod decoding;
 mod opening;
 mod rows;
 mod solutions;
+mod text;
 mod writing;
 
 use board::Board;
@@ -51,6 +52,31 @@ pub fn compile(record: &[u8], list: &mut [i32]) -> Result<Sizes, Refused> {
         debug_assert_eq!(end.offset_from(begin) as u64, sizes.numbers);
     }
     Ok(sizes)
+}
+
+/// WriteText: writes the text that the program prints to the first of the lent bytes, and tells its length.
+#[inline(never)]
+pub fn write_text(record: &[u8], bytes: &mut [u8]) -> Result<usize, Refused> {
+    let mut board = Board::of(record);
+    let sizes = opening::open(&mut board)?;
+    let mut list = Vec::with_capacity(sizes.numbers as usize);
+    // Sound: the record was checked, and the list has room for the K numbers that were counted.
+    unsafe {
+        writing::write_list(&board, list.as_mut_ptr());
+        list.set_len(sizes.numbers as usize);
+    }
+    let first = text::first_line(&sizes);
+    let length = first.len() + text::length(&list);
+    if bytes.len() < length {
+        return Err(Refused { number: 10, detail: length as u64 });
+    }
+    bytes[..first.len()].copy_from_slice(first.as_bytes());
+    // Sound: the numbers take the bytes that were counted.
+    unsafe {
+        let end = text::write(&list, bytes.as_mut_ptr().add(first.len()));
+        debug_assert_eq!(end.offset_from(bytes.as_ptr()) as usize, length);
+    }
+    Ok(length)
 }
 
 /// Decode: writes the values and Boolean bytes of a model.

@@ -1,7 +1,7 @@
 //! The table: what its columns mean, and a line for each board and operation.
 
 use crate::measures::{Line, Measured};
-use crate::programs::Program;
+use crate::programs::{Operation, Program};
 
 /// What is said before the table.
 pub fn explanation(others: &[Box<dyn Program>], instructions: bool) -> String {
@@ -26,7 +26,7 @@ second   the second program, written for comparison and not for speed; - where t
 }
 
 pub fn heading(others: &[Box<dyn Program>], instructions: bool) -> String {
-    let mut text = format!("\n{:10}{:>10}", "", "library");
+    let mut text = format!("\n{:12}{:>10}", "", "library");
     for program in others {
         text.push_str(&format!("{:>12}{:>8}", program.name(), "ratio"));
     }
@@ -47,12 +47,24 @@ pub fn rows(measured: &Measured) -> String {
     );
     for line in &measured.lines {
         text.push_str(&row(line, measured.numbers()));
+        if line.operation == Operation::ReadText {
+            text.push_str(&solvers(line.library, &measured.solvers));
+        }
     }
     text
 }
 
+/// What solvers said of their own reading, and the library's time over it.
+fn solvers(library: f64, seconds: &[(&str, f64)]) -> String {
+    let row = |&(name, seconds): &(&str, f64)| {
+        let name = format!("{name}'s parser");
+        format!("    {name:20}{:>10}{:>8}\n", time(seconds), ratio(library / seconds))
+    };
+    seconds.iter().map(row).collect()
+}
+
 fn row(line: &Line, numbers: u64) -> String {
-    let mut text = format!("  {:8}{:>10}", line.operation.name(), time(line.library));
+    let mut text = format!("  {:10}{:>10}", line.operation.name(), time(line.library));
     for other in &line.others {
         text.push_str(&match other {
             Some(seconds) => format!("{:>12}{:>8}", time(*seconds), ratio(line.library / seconds)),

@@ -13,12 +13,13 @@ BOARD        week shop gp03 sums large booleans over1024 over16 terms literals b
 ceiling      a board with a list of 8 GB: takes about two minutes
 worst        terms literals bounds cube ceiling
 --valgrind   counts the instructions of Compile by valgrind, where the machine's counter is closed
+--solvers    reads the longer texts by minisat and cadical, too, which tell how long their parsers took
 --earlier FILE
              measures an earlier build of the library, too; FILE is made of its libbasmuthar.a:
              cc -shared -o FILE -Wl,--whole-archive EARLIER/libbasmuthar.a -Wl,--no-whole-archive
 --once BOARD OPERATION [PROGRAM]
-             does one operation (size compile decode judge image) once and measures nothing, so that another program
-             can: valgrind --tool=callgrind --toggle-collect=basmuthar_compile, or perf stat, which counts what is
+             does one operation (size compile decode judge image writetext readtext readreply) once and measures
+             nothing, so that another program can: valgrind --tool=callgrind --toggle-collect=basmuthar_compile, or perf stat, which counts what is
              made ready, too; PROGRAM is library (if none is named), strong, second or earlier
 --help       this text
 ";
@@ -27,6 +28,7 @@ worst        terms literals bounds cube ceiling
 pub struct Wish {
     pub help: bool,
     pub valgrind: bool,
+    pub solvers: bool,
     /// The file of an earlier build.
     pub earlier: Option<String>,
     /// An operation to do once on the only board, and the program to do it.
@@ -44,6 +46,7 @@ pub fn wish(words: impl IntoIterator<Item = String>) -> Result<Wish, String> {
         match word.as_str() {
             "--help" => wish.help = true,
             "--valgrind" => wish.valgrind = true,
+            "--solvers" => wish.solvers = true,
             "--earlier" => wish.earlier = Some(next("a file")?),
             "--once" => {
                 names = vec![next("a board")?];

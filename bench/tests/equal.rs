@@ -1,6 +1,7 @@
 //! The strong peer, the library and the second program on drawn records: equal answers, and equal lent lists.
 
 use bench::programs::{Answer, Desk, Library, Operation, Program, Second, Strong};
+use bench::strong::{self, Refused};
 use second::board::Board;
 use second::boards::{ceiling, dice::Dice, drawn};
 use second::operations::plain_model;
@@ -9,6 +10,8 @@ use std::collections::BTreeSet;
 const RECORDS: u64 = 8_000;
 /// Longer lists are not written, only foretold.
 const LONGEST_LIST: usize = 1_000_000;
+/// Nothing is asked about the text of a longer list.
+const LONGEST_LIST_AS_TEXT: usize = 50_000;
 /// What lent lists hold before: numbers that no operation writes.
 const KEPT: i32 = i32::MIN;
 const KEPT_BYTE: u8 = 7;
@@ -21,8 +24,8 @@ fn questions(seed: u64) -> Vec<(Operation, Desk)> {
         _ => drawn(seed).record,
     };
     let sizes = second::size(&record).ok();
-    let length = sizes.map_or(0, |sizes| sizes.numbers as usize);
-    let length = if length > LONGEST_LIST { 0 } else { length };
+    let numbers = sizes.map_or(0, |sizes| sizes.numbers as usize);
+    let length = if numbers > LONGEST_LIST { 0 } else { numbers };
     let with_list =
         |places| Desk { record: record.clone(), list: vec![KEPT; places], ..Desk::default() };
     let mut questions = vec![
@@ -30,12 +33,32 @@ fn questions(seed: u64) -> Vec<(Operation, Desk)> {
         (Operation::Compile, with_list(length + 1)),
         (Operation::Compile, with_list(length.saturating_sub(1))),
     ];
+    if numbers <= LONGEST_LIST_AS_TEXT {
+        questions.extend(about_text(&record));
+    }
     if let (1.., Ok(board)) = (length, second::reading::read(&record)) {
         for _ in 0..3 {
             questions.extend(about_values(&mut dice, &record, &board));
         }
     }
     questions
+}
+
+/// WriteText into a byte more than it takes, and into one less.
+fn about_text(record: &[u8]) -> [(Operation, Desk); 2] {
+    let length = text_length(record);
+    [length + 1, length.saturating_sub(1)].map(|bytes| {
+        let text = vec![KEPT_BYTE; bytes];
+        (Operation::WriteText, Desk { record: record.to_vec(), text, ..Desk::default() })
+    })
+}
+
+/// What refusal 10 tells of no bytes, and 0 of a record that is refused.
+fn text_length(record: &[u8]) -> usize {
+    match strong::write_text(record, &mut []) {
+        Err(Refused { number: 10, detail }) => detail as usize,
+        _ => 0,
+    }
 }
 
 /// Judge and Image of drawn values, and Decode of their plain model with some bytes changed.
@@ -89,7 +112,8 @@ fn answered(program: &dyn Program, question: &(Operation, Desk)) -> (Answer, Des
 /// The first seed on which two programs differ, and the operation.
 fn first_difference(one: &dyn Program, other: &dyn Program) -> Option<(u64, Operation)> {
     for seed in 0..RECORDS {
-        for question in questions(seed) {
+        let both = |operation| one.does(operation) && other.does(operation);
+        for question in questions(seed).into_iter().filter(|question| both(question.0)) {
             if answered(one, &question) != answered(other, &question) {
                 return Some((seed, question.0));
             }
@@ -112,7 +136,7 @@ fn the_strong_peer_and_the_second_program_are_equal() {
 #[test]
 fn the_drawn_records_meet_every_refusal_and_many_lists() {
     let mut refusals = BTreeSet::new();
-    let mut accepted = [0; 5];
+    let mut accepted = [0; 6];
     for question in (0..RECORDS).flat_map(questions) {
         let (answer, _) = answered(&Strong, &question);
         refusals.insert(answer[0]);
@@ -130,6 +154,10 @@ impl Program for Wrong {
         "wrong"
     }
 
+    fn does(&self, operation: Operation) -> bool {
+        Strong.does(operation)
+    }
+
     fn run(&self, operation: Operation, desk: &mut Desk) -> Answer {
         let mut answer = Strong.run(operation, desk);
         match (operation == self.0, operation, answer[0]) {
@@ -138,6 +166,7 @@ impl Program for Wrong {
             (true, Operation::Compile, 0) if desk.list.len() > 500 => desk.list[500] += 1,
             (true, Operation::Decode, 0) if desk.values.len() > 3 => desk.values[3] += 1,
             (true, Operation::Image, 0) if desk.model.len() > 50 => desk.model[50] ^= 1,
+            (true, Operation::WriteText, 0) if desk.text.len() > 500 => desk.text[500] ^= 1,
             _ => {}
         }
         answer
@@ -146,7 +175,7 @@ impl Program for Wrong {
 
 #[test]
 fn a_wrong_number_and_a_wrong_detail_are_found() {
-    for operation in Operation::ALL {
+    for operation in Operation::ALL.into_iter().filter(|&operation| Strong.does(operation)) {
         let found = first_difference(&Wrong(operation), &Library);
         assert_eq!(found.map(|(_, where_found)| where_found), Some(operation));
     }

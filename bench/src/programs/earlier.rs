@@ -67,8 +67,12 @@ impl Program for Earlier {
         "earlier"
     }
 
+    fn does(&self, operation: Operation) -> bool {
+        !operation.is_of_text()
+    }
+
     fn run(&self, operation: Operation, desk: &mut Desk) -> Answer {
-        let Desk { record, list, model, values, booleans } = desk;
+        let Desk { record, list, model, values, booleans, .. } = desk;
         let (bytes, length) = (record.as_ptr(), record.len());
         let mut answer = [0; 4];
         let into = &mut answer;
@@ -85,6 +89,7 @@ impl Program for Earlier {
                 }
                 Operation::Judge => (self.judge)(bytes, length, value, n, bits, b, into),
                 Operation::Image => (self.image)(bytes, length, value, n, bits, b, model, m, into),
+                _ => panic!("{} is not measured of an earlier build", operation.name()),
             }
         }
         answer

@@ -10,19 +10,24 @@ impl Program for Second {
         "second"
     }
 
+    fn does(&self, operation: Operation) -> bool {
+        !operation.is_of_text()
+    }
+
     /// It keeps every clause apart: more of them would take gigabytes, and minutes.
     fn most_clauses(&self) -> u64 {
         2_000_000
     }
 
     fn run(&self, operation: Operation, desk: &mut Desk) -> Answer {
-        let Desk { record, list, model, values, booleans } = desk;
+        let Desk { record, list, model, values, booleans, .. } = desk;
         match operation {
             Operation::Size => sized(second::size(record)),
             Operation::Compile => sized(second::compile(record, list)),
             Operation::Decode => plain(second::decode(record, model, values, booleans)),
             Operation::Judge => plain(second::judge(record, values, booleans)),
             Operation::Image => plain(second::image(record, values, booleans, model)),
+            _ => panic!("{} is not measured of the second program", operation.name()),
         }
     }
 }

@@ -1,7 +1,7 @@
 -- What is printed, as a line and the numbers of the list after it. Assumes nothing.
 use mathlib.Core.Path.{_≡_, refl, sym, ap, ap₂, _∙_}
 use mathlib.Core.Bool.{Bool, true, false}
-use mathlib.Core.List.{List, [], _∷_, _++_, append-assoc}
+use mathlib.Core.List.{List, _++_}
 use Prim.Native.Nat.{ℕ, _+_, _*_, _≤_}
 use borrow.Author.Tests.{leb-true}
 use native.Mathlib.Omega.{arith}
@@ -14,13 +14,13 @@ use Rattle.definitions.specs.Result.{Result, done, refused, need}
 use Rattle.definitions.specs.Result as result
 use Rattle.definitions.specs.Operations.{Sizes, accepted, sizesOf, lending, Compile}
 use Rattle.definitions.specs.Answers.{said, saidSizing}
-use Rattle.definitions.specs.Dimacs.{ascii, decimal, shown, printed}
+use Rattle.definitions.specs.Dimacs.{ascii, shown, printed}
 use Rattle.definitions.specs.declared.Refusal.{Refusal}
 use Rattle.definitions.specs.declared.Sizing.{Sizing}
 use Rattle.io.specs.Counts.{Counts}
 use Rattle.laws.specs.Written.{written}
 use Rattle.text.specs.Puts.{Put, put-text}
-use Rattle.text.specs.Lines.{line, line-length}
+use Rattle.text.specs.Lines.{line, lined, line-length}
 use Rattle.text.specs.Entries.{entries, entries-length}
 
 -- how many numbers of the list an answer speaks of
@@ -54,9 +54,6 @@ listed-fits s list (Sizing.Sizes n m k) e = omega (arith, compiled-counted s lis
 listed-fits s list (Sizing.Unsized r) e = omega arith
 
 -- ---- a line and what follows
-lined : (w a b end : List ℕ) (sp : List ℕ) → w ++ a ++ sp ++ b ++ end ≡ w ++ ((a ++ sp) ++ (b ++ end))
-lined w a b end sp = simp append-assoc
-
 abbrev pub cnf : ℕ → ℕ → List ℤ → List ℕ
 cnf n m list = line (ascii "p cnf ") n m ++ entries list
 
@@ -65,11 +62,11 @@ refusalLine r = line (ascii "refused ") (said r .0) (said r .1)
 
 pub shown-done : (n m k : ℕ) (list : List ℤ) → cnf n m (take k list) ≡ shown (saidSizing (Sizing.Sizes n m k)) list
 unfolding shown
-shown-done n m k list = ap (λ l. l ++ entries (take k list)) (sym (lined (ascii "p cnf ") (decimal n) (decimal m) (10 ∷ []) (32 ∷ [])))
+shown-done n m k list = ap (λ l. l ++ entries (take k list)) (sym (lined (ascii "p cnf ") n m))
 
 pub shown-refused : (r : Refusal) (list : List ℤ) → refusalLine r ≡ shown (saidSizing (Sizing.Unsized r)) list
 unfolding shown
-shown-refused r list = sym (lined (ascii "refused ") (decimal (said r .0)) (decimal (said r .1)) (10 ∷ []) (32 ∷ []))
+shown-refused r list = sym (lined (ascii "refused ") (said r .0) (said r .1))
 
 pub cnf-length : (n m : ℕ) (list : List ℤ) → length (cnf n m list) ≤ 64 + 22 * length list
 cnf-length n m list = omega (arith, length-append (line (ascii "p cnf ") n m) (entries list), line-length (ascii "p cnf ") n m, entries-length list)

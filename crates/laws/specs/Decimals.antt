@@ -39,3 +39,8 @@ digits-length (suc f) n = go (ltb n 10) (digits-length f (n / 10))
 
 pub shorter : (n : ℕ) → n < 2 ^ 64 → 10 ≤ n → length (decimal n) ≡ length (decimal (n / 10)) + 1
 shorter n f h = ap length (decimal-more n f h) ∙ length-append (decimal (n / 10)) ((48 + n % 10) ∷ [])
+
+-- k digits behind the first
+pub decimal-length : (k n : ℕ) → n < 2 ^ 64 → 10 ^ k ≤ n → n < 10 ^ suc k → length (decimal n) ≡ suc k
+decimal-length zero n f l h = ap length (decimal-one n (omega arith))
+decimal-length (suc k) n f l h = shorter n f (omega arith) ∙ ap (λ j. j + 1) (decimal-length k (n / 10) (omega arith) (omega arith) (omega arith)) ∙ omega arith

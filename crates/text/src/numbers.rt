@@ -7,18 +7,23 @@ ghost use Rattle.definitions.specs.Dimacs.{decimal, entry};
 ghost use Rattle.text.specs.Puts.{Put};
 ghost use Rattle.text.specs.Lines.{withEnd};
 ghost use Rattle.text.specs.Entries.{entries};
+use crate::lengths::digits;
 
+// The digits, from the last to the first.
 pub fn put_decimal(n: u64, out: &mut [u8]) -> usize
     requires { ⌜ length (decimal n) ≤ length (now out) ⌝ }
     ensures { λ r. ⌜ Put (decimal n) (now (out .entry)) r (now (out .exit)) ⌝ }
 {
-    if n < 10 {
-        out[0] = 48 + n as u8;
-        return 1;
+    let length = digits(n);
+    let mut left = n;
+    let mut at = length;
+    while 10 <= left {
+        at -= 1;
+        out[at] = 48 + (left % 10) as u8;
+        left /= 10;
     }
-    let at = put_decimal(n / 10, out);
-    out[at] = 48 + (n % 10) as u8;
-    at + 1
+    out[0] = 48 + left as u8;
+    length
 }
 
 // A number and the byte that ends it.

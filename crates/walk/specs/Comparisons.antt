@@ -5,7 +5,7 @@ use Prim.Native.Nat.{ℕ, suc, _-_, _≤_}
 use native.Mathlib.Omega.{arith}
 use lib.ListN.{length, take, drop, replicate, length-drop, length-map}
 use lib.IntN.{ℤ, pos, natAbs, _+ℤ_, _-ℤ_}
-use lib.Signed.{_≤ℤ_}
+use lib.Signed.{_≤ℤ_, _<ℤ_}
 use Rattle.definitions.specs.Tools.{All, sumZ, size}
 use Rattle.definitions.specs.Board.{Bounds, Term, Board, boundsOf}
 use Rattle.definitions.specs.Board as board
@@ -37,6 +37,15 @@ overLeast c = c .constant -ℤ leastOf c +ℤ pos 1
 pub over-sign : (c : Comparison) → leastOf c ≤ℤ c .constant → pos 0 ≤ℤ overLeast c
 unfolding overLeast
 over-sign c h = let k = c .constant in let l = leastOf c in omega (whole, h, sub-law k l, add-law (k -ℤ l) (pos 1))
+
+-- whether the constant is below the least sum
+pub below-least : (c : Comparison) → overLeast c <ℤ pos 1 → c .constant <ℤ leastOf c
+unfolding overLeast
+below-least c h = let k = c .constant in let l = leastOf c in omega (whole, h, sub-law k l, add-law (k -ℤ l) (pos 1))
+
+pub from-least : (c : Comparison) → pos 1 ≤ℤ overLeast c → leastOf c ≤ℤ c .constant
+unfolding overLeast
+from-least c h = let k = c .constant in let l = leastOf c in omega (whole, h, sub-law k l, add-law (k -ℤ l) (pos 1))
 
 abbrev pub rangesOf : Comparison → List Bounds
 rangesOf c = map slotBounds (slotsOf c)

@@ -120,16 +120,23 @@ pub fn over_least(c: Comparison) -> i32
     c.constant - least(c) + 1
 }
 
+// The first tuple, where the sum of its offsets is known.
+pub fn first_over(c: Comparison, t: i32) -> At
+    requires { ⌜ FairComparison c × (t ≡ overLeast c) ⌝ }
+    ensures { λ r. ⌜ Walking c r × (toCome c r ≡ literalsOf c) ⌝ }
+{
+    if t < 0 {
+        return At::End;
+    }
+    lowest(place(c, 0), place(c, 1), place(c, 2), t as u32)
+}
+
 // The first tuple.
 pub fn first_tuple(c: Comparison) -> At
     requires { ⌜ FairComparison c ⌝ }
     ensures { λ r. ⌜ Walking c r × (toCome c r ≡ literalsOf c) ⌝ }
 {
-    let t = over_least(c);
-    if t < 0 {
-        return At::End;
-    }
-    lowest(place(c, 0), place(c, 1), place(c, 2), t as u32)
+    first_over(c, over_least(c))
 }
 
 pub fn bound(p: Place) -> i32

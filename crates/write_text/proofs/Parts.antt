@@ -1,4 +1,4 @@
--- The text of several numbers, of a comparison's clauses, and of the tuples still to come. Assumes nothing.
+-- The text of several numbers, of a comparison's clauses, and of the rows still to come. Assumes nothing.
 use mathlib.Core.Path.{_≡_, refl, sym, ap, ap₂, _∙_, subst}
 use mathlib.Core.List.{List, [], _∷_, _++_, map, flatten, map-append, append-nil, append-assoc}
 use Prim.Native.Nat.{ℕ, _+_, _-_, _≤_, _<_}
@@ -28,12 +28,13 @@ use Rattle.walk.specs.declared.Front.{Front}
 use Rattle.walk.specs.declared.Walk.{Walk}
 use Rattle.walk.specs.declared.At.{At}
 use Rattle.walk.specs.declared.At.the-variants.{Tuple, End}
-use Rattle.walk.specs.Walks.{placesOf, seen, tuplesLeft, Over}
-use Rattle.walk.specs.Comparisons.{Walking, literalsAt, present, toCome, none-left}
-use Rattle.walk.specs.Rows.{frontOf}
+use Rattle.walk.specs.declared.Run.{Run}
+use Rattle.walk.specs.Comparisons.{toCome}
+use Rattle.walk.specs.Rows.{inRun}
 use Rattle.laws.specs.Signs.{plus-is, minus-is}
 use Rattle.writing.specs.Axioms.{stepsFrom, axiomNumbers, steps-more}
-use Rattle.writing.specs.Numbers.{numbersOf, clause, led, led-none, led-more}
+use Rattle.writing.specs.Numbers.{numbersOf, clause, stays, led}
+use Rattle.writing.proofs.Parts.{run-end, run-more, led-end, led-on}
 
 pub entries-append : (ns ms : List ℤ) → entries (ns ++ ms) ≡ entries ns ++ entries ms
 entries-append ns ms = ap flatten (map-append entry ns ms) ∙ flatten-append (map entry ns) (map entry ms)
@@ -55,15 +56,14 @@ pub clause-text : (ls : List ℤ) → entries (clause ls) ≡ entries ls ++ entr
 unfolding clause
 clause-text ls = entries-append ls (pos 0 ∷ []) ∙ ap (λ t. entries ls ++ t) (sym (entries-one (pos 0)))
 
-pub lead-text : (lead : Front) (ls : List ℤ) → entries (clause (frontOf lead ++ ls)) ≡ entries (frontOf lead) ++ entries (clause ls)
+-- literals before others
+pub fixed-text : (fixed ls : List ℤ) → entries (clause (fixed ++ ls)) ≡ entries fixed ++ entries (clause ls)
 unfolding clause
-lead-text lead ls = ap entries (append-assoc (frontOf lead) ls (pos 0 ∷ [])) ∙ entries-append (frontOf lead) (clause ls)
+fixed-text fixed ls = ap entries (append-assoc fixed ls (pos 0 ∷ [])) ∙ entries-append fixed (clause ls)
 
--- the lead alone
-pub alone-text : (lead : Front) → entries (led lead ([] ∷ [])) ≡ entries (frontOf lead) ++ entry (pos 0)
-alone-text lead =
-    ap entries (led-more lead [] [] ∙ ap₂ (λ ls cs. clause ls ++ cs) (append-nil (frontOf lead)) (led-none lead) ∙ append-nil (clause (frontOf lead)))
-    ∙ clause-text (frontOf lead)
+pub pair-text : (y z : ℤ) → entries (clause (y ∷ z ∷ [])) ≡ entry y ++ (entry z ++ entry (pos 0))
+unfolding clause flatten
+pair-text y z = ap (λ t. entry y ++ (entry z ++ t)) (append-nil (entry (pos 0)))
 
 -- what was written at the start of an array
 pub taken : (w o out : List ℤ) (n : ℕ) → n ≡ length w → out ≡ written w o → take n out ≡ w
@@ -89,29 +89,22 @@ steps-text i n l h =
     ∙ ap₂ (λ a b. entries (a ∷ b ∷ pos 0 ∷ stepsFrom (i + 1) (n - 1))) (sym (minus-is i (omega arith))) (sym (plus-is (i + 1) (omega arith)))
     ∙ entries-append (stepHere i) (stepsFrom (i + 1) (n - 1))
 
--- ---- tuples
-abbrev pub After : Comparison → Walk → At → Type 0
-After c w r = Walking c r × (toCome c (Tuple w) ≡ present c w ∷ toCome c r)
+-- ---- rows
+module _ (lead : Front) (run : Run) where
+  pub run-text-end : run .count ≡ 0 → entries (led lead (inRun run)) ≡ []
+  run-text-end h = ap entries (run-end lead run h) ∙ entries-empty
 
-pub after : (c : Comparison) (w : Walk) → Walking c (Tuple w) → (r : At) → Over (placesOf w) r × (tuplesLeft (Tuple w) ≡ seen w ∷ tuplesLeft r) → After c w r
-unfolding Walking Over toCome present
-after c w o r n = (onward r (n .0), ap (map (literalsAt c)) (n .1))
-  where
-    onward : (r : At) → Over (placesOf w) r → Walking c r
-    onward (Tuple v) k = (k .0, k .1 ∙ o .1)
-    onward End k = tt
+  -- the first clause, and then the rest
+  pub run-text-more : 0 < run .count → entries (led lead (inRun run)) ≡ entries (clause (stays lead (run .front) ++ (run .y .literal ∷ run .z .literal ∷ []))) ++ entries (led lead (drop 1 (inRun run)))
+  run-text-more h = ap entries (run-more lead run h) ∙ entries-append (clause (stays lead (run .front) ++ (run .y .literal ∷ run .z .literal ∷ []))) (led lead (drop 1 (inRun run)))
 
 module _ (c : Comparison) (lead : Front) (cur : At) where
   pub text-end : cur ≡ End → entries (led lead (toCome c cur)) ≡ []
-  text-end q = ap (λ ls. entries (led lead ls)) (ap (toCome c) q ∙ none-left c) ∙ ap entries (led-none lead) ∙ entries-empty
+  text-end q = ap entries (led-end c lead cur q) ∙ entries-empty
 
-  -- the present tuple's clause, and then the rest
-  pub text-on : (w : Walk) → cur ≡ Tuple w → (r : At) → After c w r
-      → entries (led lead (toCome c cur)) ≡ entries (clause (frontOf lead ++ present c w)) ++ entries (led lead (toCome c r))
-  text-on w q r e =
-      ap (λ ls. entries (led lead ls)) (ap (toCome c) q ∙ e .1)
-      ∙ ap entries (led-more lead (present c w) (toCome c r))
-      ∙ entries-append (clause (frontOf lead ++ present c w)) (led lead (toCome c r))
+  -- a row, and then the rest
+  pub text-on : (w : Walk) → cur ≡ Tuple w → (row rest : List (List ℤ)) → toCome c (Tuple w) ≡ row ++ rest → entries (led lead (toCome c cur)) ≡ entries (led lead row) ++ entries (led lead rest)
+  text-on w q row rest e = ap entries (led-on c lead cur w q row rest e) ∙ entries-append (led lead row) (led lead rest)
 
 -- ---- pieces of the rules
 pub line-few : (B : Board) (j : ℕ) (C : Clause) → length C ≤ 64 → length (pieceNumbers B (line j C)) ≤ 65

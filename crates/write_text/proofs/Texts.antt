@@ -1,6 +1,6 @@
 -- The text of a whole board, in the parts that the writer adds, and from the answer of `measure` to that of `write_text`. Assumes nothing.
 use mathlib.Core.Path.{_≡_, refl, ap, _∙_}
-use mathlib.Core.List.{List, [], _∷_, _++_, append-assoc}
+use mathlib.Core.List.{List, _++_}
 use Prim.Native.Nat.{ℕ, _≤_, _<_}
 use native.Mathlib.Omega.{arith}
 use lib.ListN.{length, take, length-append}
@@ -10,7 +10,7 @@ use Rattle.definitions.specs.Board.{Board}
 use Rattle.definitions.specs.Encoding.{N, M, K, clauseList}
 use Rattle.definitions.specs.Result.{done, refused}
 use Rattle.definitions.specs.Operations.{accepted, sizesOf}
-use Rattle.definitions.specs.Dimacs.{ascii, decimal, shown}
+use Rattle.definitions.specs.Dimacs.{ascii, shown}
 use Rattle.laws.specs.Boards.{boardOf}
 use Rattle.laws.specs.Pieces.{piecesFrom}
 use Rattle.laws.specs.Reread.{accepted-parts}
@@ -21,7 +21,7 @@ use Rattle.opening.specs.Said.{mapDone}
 use Rattle.measure.specs.declared.Totals.{Totals}
 use Rattle.measure.specs.Said.{measuredOf}
 use Rattle.measure.specs.Told.{Measures, measured, not-measured}
-use Rattle.text.specs.Lines.{line, line-length}
+use Rattle.text.specs.Lines.{line, lined, line-length}
 use Rattle.text.specs.Entries.{entries, entries-length}
 use Rattle.compile.specs.Lists.{axiomsFrom, piecesNumbers, whole-list}
 use Rattle.definitions.specs.TextOperations.{textOf, WriteText}
@@ -29,9 +29,6 @@ use Rattle.write_text.specs.Adds.{Counts}
 use Rattle.write_text.proofs.Parts.{entries-append}
 
 -- ---- the parts
-lined : (w a b end sp rest : List ℕ) → w ++ a ++ sp ++ b ++ end ++ rest ≡ (w ++ ((a ++ sp) ++ (b ++ end))) ++ rest
-lined w a b end sp rest = simp append-assoc
-
 module _ (B : Board) where
   abbrev pub firstLine : List ℕ
   firstLine = line (ascii "p cnf ") (N B) (M B)
@@ -45,7 +42,7 @@ module _ (B : Board) where
   text-list : textOf B ≡ firstLine ++ entries (clauseList B)
   unfolding textOf shown sizesOf
   text-list =
-      lined (ascii "p cnf ") (decimal (N B)) (decimal (M B)) (10 ∷ []) (32 ∷ []) (entries (take (K B) (clauseList B)))
+      ap (λ l. l ++ entries (take (K B) (clauseList B))) (lined (ascii "p cnf ") (N B) (M B))
       ∙ ap (λ l. firstLine ++ entries l) (take-all (K B) (clauseList B) (omega (arith, K-is B)))
 
   pub text-is : textOf B ≡ firstLine ++ (axiomsText ++ rulesText)

@@ -1,19 +1,14 @@
--- How many bytes a number of the clause list takes: by its size, and by its sign. Assumes nothing.
+-- How many bytes a number of the clause list takes, by its sign. Assumes nothing.
 use mathlib.Core.Path.{_≡_, ap, _∙_}
 use mathlib.Core.List.{[], _∷_}
-use Prim.Native.Nat.{ℕ, zero, suc, _+_, _/_, _^_, _≤_, _<_}
+use Prim.Native.Nat.{ℕ, _+_}
 use native.Mathlib.Omega.{arith}
 use lib.ListN.{length, length-append}
 use lib.IntN.{ℤ, pos, natAbs}
 use lib.Signed.{_<ℤ_, _≤ℤ_}
 use Rattle.definitions.specs.Dimacs.{decimal, entry}
-use Rattle.laws.specs.Decimals.{decimal-one, shorter}
+use Rattle.laws.specs.Decimals.{decimal-one}
 use Rattle.text.specs.Entries.{entry-above, entry-below, entry-zero}
-
--- k digits behind the first
-pub decimal-length : (k n : ℕ) → n < 2 ^ 64 → 10 ^ k ≤ n → n < 10 ^ suc k → length (decimal n) ≡ suc k
-decimal-length zero n f l h = ap length (decimal-one n (omega arith))
-decimal-length (suc k) n f l h = shorter n f (omega arith) ∙ ap (λ j. j + 1) (decimal-length k (n / 10) (omega arith) (omega arith) (omega arith)) ∙ omega arith
 
 -- by sign, m the number without it
 module _ (z : ℤ) (m : ℕ) (e : m ≡ natAbs z) where

@@ -1,56 +1,14 @@
 // Numbers of the clause list, added at a place of the text. Each function that adds answers the place behind; where the text is
 // longer than the lent bytes, places are counted and nothing is written.
 ghost use mathlib.Core.Path.{_≡_};
-ghost use Prim.Native.Nat.{_≤_, _<_};
+ghost use Prim.Native.Nat.{_≤_};
 ghost use lib.ListN.{length, take};
-ghost use Rattle.definitions.specs.Dimacs.{decimal, entry};
+ghost use Rattle.definitions.specs.Dimacs.{entry};
 ghost use Rattle.text.specs.Entries.{entries};
 ghost use Rattle.write_text.specs.Adds.{Adds, Counts};
+use text::lengths::digits;
 use text::numbers::magnitude;
 use text::numbers::put_entry;
-
-// How many digits a number below 100,000 has.
-fn few_digits(n: u64) -> usize
-    requires { ⌜ n < 100000 ⌝ }
-    ensures { λ r. ⌜ r ≡ length (decimal n) ⌝ }
-{
-    if n < 10 {
-        return 1;
-    }
-    if n < 100 {
-        return 2;
-    }
-    if n < 1000 {
-        return 3;
-    }
-    if n < 10000 {
-        return 4;
-    }
-    5
-}
-
-// How many digits a number of the list has.
-fn digits(n: u64) -> usize
-    requires { ⌜ n < 10000000000 ⌝ }
-    ensures { λ r. ⌜ r ≡ length (decimal n) ⌝ }
-{
-    if n < 100000 {
-        return few_digits(n);
-    }
-    if n < 1000000 {
-        return 6;
-    }
-    if n < 10000000 {
-        return 7;
-    }
-    if n < 100000000 {
-        return 8;
-    }
-    if n < 1000000000 {
-        return 9;
-    }
-    10
-}
 
 // How many bytes a number takes, with what parts it from the next.
 fn entry_length(number: i32) -> usize

@@ -29,6 +29,7 @@ pub mod comparisons; // comparisons.rt: a comparison's clauses
 pub mod entries; // entries.rt: numbers of the clause list
 pub mod head; // head.rt: the first line
 pub mod pieces; // pieces.rt: the clauses of the rules, piece by piece
+pub mod rows; // rows.rt: a row of a comparison's clauses
 
 // The clauses of the rules, which stand in the record's tail.
 fn add_rules(bytes: &[u8], header: Header, at: usize, out: &mut [u8]) -> usize

@@ -34,7 +34,6 @@ module _ (h : tie.After-add-first-line) where
 add-first-line-requires : tie.Need-add-first-line-requires
 add-first-line-requires c κs =
     let s = c .before .before .before in
-    let s = c .before .before .before in
     first-counts 0 (s .pre .2) (head s) (axiomsText (B s) ++ rulesText (B s)) (whole s)
 
 add-variables-requires : tie.Need-add-variables-requires

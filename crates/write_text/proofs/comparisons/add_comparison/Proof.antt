@@ -1,88 +1,69 @@
 -- `write_text::comparisons::add_comparison` meets its contract.
-use mathlib.Core.Path.{_≡_, sym, ap, _∙_}
-use mathlib.Core.List.{_++_}
-use native.Mathlib.Omega.{arith}
-use lib.ListN.{length}
-use lib.IntN.{pos}
-use lib.Signed.{_<ℤ_, _≤ℤ_}
+use borrow.Author.Needs.{needs}
+use mathlib.Core.Path.{_≡_, sym, ap}
+use mathlib.Core.List.{_∷_, []}
 use mir.Syntax.{w32}
 use mir.Val.{SFits}
-use Rattle.definitions.specs.Dimacs.{entry}
-use Rattle.laws.specs.Whole.{whole, back, abs-fits}
+use mir.Facts.{toZ-ofZ}
+use Rattle.laws.specs.Whole.{whole, back}
 use Rattle.text.specs.Entries.{entries}
-use Rattle.walk.specs.Comparisons.{leastOf, literalsOf}
-use Rattle.walk.specs.Rows.{frontOf}
+use Rattle.walk.specs.Comparisons.{literalsOf, below-least, from-least}
 use Rattle.writing.specs.Numbers.{led, underLead, under-low, under-high}
-use Rattle.write_text.specs.Adds.{Counts, retold, _then_, first-counts, then-counts}
-use borrow.Author.Needs.{needs}
-use Rattle.write_text.proofs.Parts.{alone-text}
+use Rattle.write_text.specs.Adds.{retold}
 use Rattle.write_text.proofs.comparisons.add_comparison.Statement.{statement}
 use Rattle.write_text.proofs.comparisons.add_comparison.Tie as tie
 
--- where the constant is below the least sum, and where it is not
-below : (h : tie.Then1) → let a = h .before .before .before .before .before .args in entries (underLead (a .lead) (a .c)) ≡ entries (frontOf (a .lead)) ++ entry (pos 0)
-below h =
-    let s = h .before .before .before .before .before in
-    let k : SFits w32 (s .args .c .constant) = abs-fits (omega (arith, s .pre .0 .near)) in
-    let l = h .before .before .before .least in
-    let f : SFits w32 (l .result) = record { sfits = l .ok } in
-    let low : s .args .c .constant <ℤ leastOf (s .args .c) = omega (whole, back k, back f, l .ensures) in
-    ap entries (under-low (s .args .lead) (s .args .c) low) ∙ alone-text (s .args .lead)
+-- what the test looks at
+module _ (c : tie.After-over-least) where
+  abbrev s : tie.Start
+  s = c .before .before
 
-within : (h : tie.Else1) → let a = h .before .before .before .before .before .args in entries (underLead (a .lead) (a .c)) ≡ entries (led (a .lead) (literalsOf (a .c)))
-within h =
-    let s = h .before .before .before .before .before in
-    let k : SFits w32 (s .args .c .constant) = abs-fits (omega (arith, s .pre .0 .near)) in
-    let l = h .before .before .before .least in
-    let f : SFits w32 (l .result) = record { sfits = l .ok } in
-    let high : leastOf (s .args .c) ≤ℤ s .args .c .constant = omega (whole, back k, back f, l .ensures) in
-    ap entries (under-high (s .args .lead) (s .args .c) high)
+  over-fits : SFits w32 (c .over-least .result)
+  over-fits = record { sfits = c .over-least .ok }
 
-least-requires : tie.Need-least-requires
-least-requires c κs = search needs
+-- below the least sum, and from it on
+low : (h : tie.Then1) → let a = s (h .before) .args in entries (underLead (a .lead) (a .c)) ≡ entries (led (a .lead) ([] ∷ []))
+low h =
+    let r = h .before in
+    ap entries (under-low (s r .args .lead) (s r .args .c) (below-least (s r .args .c) (omega (whole, back (over-fits r), r .over-least .ensures))))
 
-add-lead-requires : tie.Need-add-lead-requires
-add-lead-requires c κs =
-    let s = c .before .before .before .before .before .before in
-    let a = s .args in
-    first-counts (a .at) (s .pre .1) (entries (frontOf (a .lead))) (entry (pos 0)) (below (c .before))
+high : (h : tie.Else1) → let a = s (h .before) .args in entries (underLead (a .lead) (a .c)) ≡ entries (led (a .lead) (literalsOf (a .c)))
+high h =
+    let r = h .before in
+    ap entries (under-high (s r .args .lead) (s r .args .c) (from-least (s r .args .c) (omega (whole, back (over-fits r), r .over-least .ensures))))
 
-add-entry-requires : tie.Need-add-entry-requires
-add-entry-requires c κs =
-    let s = c .before .before .before .before .before .before .before .before .before .before in
-    let a = s .args in
-    then-counts (a .at) (s .pre .1) (entries (frontOf (a .lead))) (entry (pos 0)) (below (c .before .before .before .before .before)) (c .before .before .before .add-lead .ensures)
+over-least-requires : tie.Need-over-least-requires
+over-least-requires c κs = search needs
+
+add-row-requires : tie.Need-add-row-requires
+add-row-requires c κs =
+    let h = c .before in
+    (tt, rw (low h) at (s (h .before) .pre .1))
 
 same-length : tie.Need-same-length
-same-length c =
-    c .before .before .add-entry .ensures .long ∙ c .before .before .before .before .before .before .add-lead .ensures .long
+same-length c = c .before .before .add-row .ensures .long
 
 returns : tie.Need-returns
-returns c =
-    let s = c .before .before .before .before .before .before .before .before .before .before .before .before .before in
-    retold (sym (below (c .before .before .before .before .before .before .before .before))) ((c .before .before .before .before .before .before .add-lead .ensures) then (c .before .before .add-entry .ensures))
+returns c = retold (sym (low (c .before .before .before .before))) (c .before .before .add-row .ensures)
 
 add-tuples-requires : tie.Need-add-tuples-requires
 add-tuples-requires c κs =
-    let s = c .before .before .before .before .before .before in
-    let p : Counts (s .args .at) (entries (led (s .args .lead) (literalsOf (s .args .c)))) = omega (arith, s .pre .1, ap length (within (c .before))) in
-    (s .pre .0, p)
+    let h = c .before in
+    let r = h .before in
+    (s r .pre .0, rw (toZ-ofZ (over-fits r)) (r .over-least .ensures), rw (high h) at (s r .pre .1))
 
 same-length-2 : tie.Need-same-length-2
 same-length-2 c = c .before .before .add-tuples .ensures .long
 
 returns-2 : tie.Need-returns-2
-returns-2 c =
-    let s = c .before .before .before .before .before .before .before .before .before in
-    retold (sym (within (c .before .before .before .before))) (c .before .before .add-tuples .ensures)
+returns-2 c = retold (sym (high (c .before .before .before .before))) (c .before .before .add-tuples .ensures)
 
 pub add-comparison-spec : {M : Type 1} → statement M
 add-comparison-spec =
     tie.close
     (tie.spec
-    least-requires
-    add-lead-requires
-    add-entry-requires
+    over-least-requires
+    add-row-requires
     same-length
     returns
     add-tuples-requires

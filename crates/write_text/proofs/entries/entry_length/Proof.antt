@@ -1,8 +1,7 @@
 -- `write_text::entries::entry_length` meets its contract.
 use mathlib.Core.Path.{sym}
 use native.Mathlib.Omega.{arith}
-use mir.Syntax.{w32}
-use mir.Facts.{toZ-ofZ, fits-natAbs}
+use mir.Facts.{toZ-ofZ}
 use Rattle.laws.specs.Whole.{whole, back}
 use Rattle.laws.specs.Decimals.{digits-length}
 use Rattle.write_text.specs.Lengths.{length-above, length-below, length-zero}
@@ -14,11 +13,7 @@ magnitude-requires : tie.Need-magnitude-requires
 magnitude-requires c κs = search needs
 
 digits-requires : tie.Need-digits-requires
-digits-requires c κs =
-    let s = c .before .before in
-    let f = s .fits .number in
-    let e = simp toZ-ofZ at (c .magnitude .ensures) in
-    omega (arith, e, fits-natAbs {w′ = w32} tt f)
+digits-requires c κs = search needs
 
 add-result : tie.Need-add-result
 add-result c =
@@ -34,11 +29,7 @@ magnitude-requires-2 : tie.Need-magnitude-requires-2
 magnitude-requires-2 c κs = search needs
 
 digits-requires-2 : tie.Need-digits-requires-2
-digits-requires-2 c κs =
-    let s = c .before .before .before in
-    let f = s .fits .number in
-    let e = simp toZ-ofZ at (c .magnitude2 .ensures) in
-    omega (arith, e, fits-natAbs {w′ = w32} tt f)
+digits-requires-2 c κs = search needs
 
 add-result-2 : tie.Need-add-result-2
 add-result-2 c =

@@ -2,35 +2,32 @@
 use borrow.Author.Needs.{needs}
 use mathlib.Core.Path.{_≡_}
 use mathlib.Core.List.{_∷_, []}
-use native.Mathlib.Omega.{arith}
 use mir.Syntax.{w32}
 use mir.Val.{SFits}
-use Rattle.laws.specs.Whole.{whole, back, abs-fits}
-use Rattle.walk.specs.Comparisons.{literalsOf}
+use mir.Facts.{toZ-ofZ}
+use Rattle.laws.specs.Whole.{whole, back}
+use Rattle.walk.specs.Comparisons.{literalsOf, below-least, from-least}
 use Rattle.writing.specs.Numbers.{led, underLead, under-low, under-high}
 use Rattle.writing.proofs.comparisons.put_comparison.Statement.{statement}
 use Rattle.writing.proofs.comparisons.put_comparison.Tie as tie
 
-least-requires : tie.Need-least-requires
-least-requires c κs = search needs
+over-least-requires : tie.Need-over-least-requires
+over-least-requires c κs = search needs
 
--- what the test compares
-module _ (c : tie.After-least) where
-  constant-fits : SFits w32 (c .before .args .c .constant)
-  constant-fits = abs-fits (omega (arith, c .before .pre .0 .near))
-
-  least-fits : SFits w32 (c .least .result)
-  least-fits = record { sfits = c .least .ok }
+-- what the test looks at
+module _ (c : tie.After-over-least) where
+  over-fits : SFits w32 (c .over-least .result)
+  over-fits = record { sfits = c .over-least .ok }
 
 -- below the least sum, and from it on
-low : (c : tie.Then1) → let a = c .before .before .before .before .args in underLead (a .lead) (a .c) ≡ led (a .lead) ([] ∷ [])
-low c = let r = c .before .before .before in under-low (r .before .args .lead) (r .before .args .c) (omega (whole, back (constant-fits r), back (least-fits r), r .least .ensures))
+low : (c : tie.Then1) → let a = c .before .before .args in underLead (a .lead) (a .c) ≡ led (a .lead) ([] ∷ [])
+low c = let r = c .before in under-low (r .before .args .lead) (r .before .args .c) (below-least (r .before .args .c) (omega (whole, back (over-fits r), r .over-least .ensures)))
 
-high : (c : tie.Else1) → let a = c .before .before .before .before .args in underLead (a .lead) (a .c) ≡ led (a .lead) (literalsOf (a .c))
-high c = let r = c .before .before .before in under-high (r .before .args .lead) (r .before .args .c) (omega (whole, back (constant-fits r), back (least-fits r), r .least .ensures))
+high : (c : tie.Else1) → let a = c .before .before .args in underLead (a .lead) (a .c) ≡ led (a .lead) (literalsOf (a .c))
+high c = let r = c .before in under-high (r .before .args .lead) (r .before .args .c) (from-least (r .before .args .c) (omega (whole, back (over-fits r), r .over-least .ensures)))
 
 put-row-requires : tie.Need-put-row-requires
-put-row-requires c κs = let b = c .before in (tt, rw (low b) at (b .before .before .before .before .pre .1))
+put-row-requires c κs = let b = c .before in (tt, rw (low b) at (b .before .before .pre .1))
 
 same-length : tie.Need-same-length
 same-length c = search needs
@@ -39,7 +36,7 @@ returns : tie.Need-returns
 returns c = rw (low (c .before .before .before)) (c .before .put-row .ensures)
 
 put-tuples-requires : tie.Need-put-tuples-requires
-put-tuples-requires c κs = let b = c .before in let s = b .before .before .before .before in (s .pre .0, rw (high b) at (s .pre .1))
+put-tuples-requires c κs = let r = c .before .before in (r .before .pre .0, rw (toZ-ofZ (over-fits r)) (r .over-least .ensures), rw (high (c .before)) at (r .before .pre .1))
 
 same-length-2 : tie.Need-same-length-2
 same-length-2 c = search needs
@@ -51,7 +48,7 @@ pub put-comparison-spec : {M : Type 1} → statement M
 put-comparison-spec =
     tie.close
     (tie.spec
-    least-requires
+    over-least-requires
     put-row-requires
     same-length
     returns

@@ -6,6 +6,7 @@ use Prim.Native.Nat.{_+_, _≤_}
 use native.Mathlib.Omega.{arith}
 use lib.ListN.{length, length-append}
 use lib.IntN.{ℤ}
+use mir.Facts.{toZ-ofZ}
 use Rattle.laws.specs.Written.{rest-length}
 use Rattle.laws.specs.Filling.{Filling, begin, room-before, room, room-for, part, ended}
 use Rattle.walk.specs.Comparisons.{Walking, literalsOf, toCome}
@@ -16,17 +17,17 @@ use Rattle.writing.proofs.comparisons.put_tuples.Statement.{statement}
 use Rattle.writing.proofs.comparisons.put_tuples.Tie as tie
 
 abbrev Inv-loop : tie.InvT-loop
-Inv-loop c lead list₀ at₀ tuple₀ list at tuple =
+Inv-loop c t lead list₀ at₀ tuple₀ list at tuple =
     Filling (led lead (literalsOf c)) (led lead (toCome c tuple)) list₀ list at × Walking c tuple
 
 abbrev μ-loop : tie.MeasureT-loop
-μ-loop c lead list₀ at₀ tuple₀ list at tuple = length (toCome c tuple)
+μ-loop c t lead list₀ at₀ tuple₀ list at tuple = length (toCome c tuple)
 
-first-tuple-requires : tie.Need-first-tuple-requires Inv-loop μ-loop
-first-tuple-requires c κs = c .pre .0
+first-over-requires : tie.Need-first-over-requires Inv-loop μ-loop
+first-over-requires c κs = (c .pre .0, rw (toZ-ofZ (c .fits .t)) (c .pre .1))
 
 loop-holds : tie.Need-loop-holds Inv-loop μ-loop
-loop-holds c = (begin _ _ _ (ap (led (c .before .args .lead)) (c .first-tuple .ensures .1)) (c .before .pre .1), c .first-tuple .ensures .0)
+loop-holds c = (begin _ _ _ (ap (led (c .before .args .lead)) (c .first-over .ensures .1)) (c .before .pre .2), c .first-over .ensures .0)
 
 enum-known-tuple : tie.Need-enum-known-tuple Inv-loop μ-loop
 enum-known-tuple c = search needs
@@ -86,7 +87,7 @@ add-at : tie.Need-add-at Inv-loop μ-loop
 add-at c =
     let r = c .before .before .before in
     let here = l r .loop in
-    let h : here .at + c .before .put-row .result ≤ length (s r .args .list .now) = omega (arith, c .before .put-row .ensures .0, here .inv .0 .long, fits r) in search (needs, s r .good .1 .1 .0)
+    let h : here .at + c .before .put-row .result ≤ length (s r .args .list .now) = omega (arith, c .before .put-row .ensures .0, here .inv .0 .long, fits r) in search (needs, s r .good .1 .1 .1 .0)
 
 loop-less : tie.Need-loop-less Inv-loop μ-loop
 loop-less c =
@@ -116,7 +117,7 @@ put-tuples-spec =
     (tie.spec
     Inv-loop
     μ-loop
-    first-tuple-requires
+    first-over-requires
     loop-holds
     enum-known-tuple
     enum-told

@@ -1,4 +1,4 @@
--- `write_text::comparisons::add_lead` meets its contract.
+-- `write_text::rows::add_front` meets its contract.
 use borrow.Author.Needs.{needs}
 use mathlib.Core.Path.{sym, ap, _∙_, subst}
 use native.Mathlib.Omega.{arith}
@@ -9,11 +9,11 @@ use Rattle.text.specs.Entries.{entries}
 use Rattle.walk.specs.Rows.{frontOf}
 use Rattle.write_text.specs.Adds.{Counts, nothing, retold}
 use Rattle.write_text.proofs.Parts.{entries-one, entries-empty}
-use Rattle.write_text.proofs.comparisons.add_lead.Statement.{statement}
-use Rattle.write_text.proofs.comparisons.add_lead.Tie as tie
+use Rattle.write_text.proofs.rows.add_front.Statement.{statement}
+use Rattle.write_text.proofs.rows.add_front.Tie as tie
 
-enum-known-lead : tie.Need-enum-known-lead
-enum-known-lead c = search needs
+enum-known-front : tie.Need-enum-known-front
+enum-known-front c = search needs
 
 enum-told : tie.Need-enum-told
 enum-told c = search needs
@@ -27,8 +27,8 @@ add-entry-requires : tie.Need-add-entry-requires
 add-entry-requires c κs =
     let p = c .before .before in
     let s = p .before .before .before in
-    let l = p .lead .given .0 .0 in
-    let h = subst (λ f. Counts (s .args .at) (entries (frontOf f))) (p .lead .given .1) (s .pre) in
+    let l = p .front .given .0 .0 in
+    let h = subst (λ f. Counts (s .args .at) (entries (frontOf f))) (p .front .given .1) (s .pre) in
     rw (toZ-ofZ (record { sfits = c .before .known-told .given .0 .1 })) (omega (arith, ap length (entries-one l), h))
 
 same-length : tie.Need-same-length
@@ -37,7 +37,7 @@ same-length c = c .before .before .add-entry .ensures .long
 returns-2 : tie.Need-returns-2
 returns-2 c =
     let p = c .before .before .before .before .before in
-    rw (p .lead .given .1) (retold (ap entry (toZ-ofZ (record { sfits = c .before .before .before .before .known-told .given .0 .1 })) ∙ entries-one (p .lead .given .0 .0)) (c .before .before .add-entry .ensures))
+    rw (p .front .given .1) (retold (ap entry (toZ-ofZ (record { sfits = c .before .before .before .before .known-told .given .0 .1 })) ∙ entries-one (p .front .given .0 .0)) (c .before .before .add-entry .ensures))
 
-pub add-lead-spec : {M : Type 1} → statement M
-add-lead-spec = tie.close (tie.spec enum-known-lead enum-told returns add-entry-requires same-length returns-2)
+pub add-front-spec : {M : Type 1} → statement M
+add-front-spec = tie.close (tie.spec enum-known-front enum-told returns add-entry-requires same-length returns-2)

@@ -1,11 +1,10 @@
--- `write_text::entries::few_digits` meets its contract.
+-- `text::lengths::few_digits` meets its contract.
 use mathlib.Core.Path.{sym, ap}
 use lib.ListN.{length}
-use Rattle.laws.specs.Decimals.{decimal-one}
 use native.Mathlib.Omega.{arith}
-use Rattle.write_text.specs.Lengths.{decimal-length}
-use Rattle.write_text.proofs.entries.few_digits.Statement.{statement}
-use Rattle.write_text.proofs.entries.few_digits.Tie as tie
+use Rattle.laws.specs.Decimals.{decimal-one, decimal-length}
+use Rattle.text.proofs.lengths.few_digits.Statement.{statement}
+use Rattle.text.proofs.lengths.few_digits.Tie as tie
 
 returns : tie.Need-returns
 returns c =
