@@ -49,14 +49,18 @@ lent = 7 ∷ 7 ∷ []
 abbrev turned : String → ℕ → ℕ → Row
 turned t n d = reply 2 t lent ⇒ replied (refused n d leaves lent)
 
--- the record without variables, and one of an unknown version
+-- the record without variables, and one with x in 5..5
 abbrev empty : String
 empty = "01 00000006 0000 0000 0000"
+
+abbrev oneValue : String
+oneValue = "01 0000000A 0001 0000 0000 0005 0005"
 
 abbrev table : List Row
 table =
     -- the writer: the length; longer bytes keep their rest; shorter are refused with the length wanted
     (write empty (ascii "0123456789ab") ⇒ written (done 10 leaves ascii "p cnf 0 0\nab")) ∷
+    (write oneValue (ascii "abcdefghijklmnopqrstuvwxyz") ⇒ written (done 26 leaves ascii "p cnf 2 3\n-1 0\n2 0\n-1 2 0\n")) ∷
     (write empty (ascii "012345678") ⇒ written (refused 10 10 leaves ascii "012345678")) ∷
     (write "09 00000006 0000 0000 0000" [] ⇒ written (refused 3 0 leaves [])) ∷
     -- good text: blanks before, between and after; the last newline may be missing
@@ -95,6 +99,7 @@ table =
     -- more clauses than M, fewer, and a last one that is unfinished
     (bad "p cnf 1 1\n1 0\n 1 0" 15) ∷
     (bad "p cnf 1 0\n0" 10) ∷
+    (bad "p cnf 1 1\n1 0\nx" 14) ∷
     (bad "p cnf 1 2\n1 0\n" 14) ∷
     (bad "p cnf 1 1\n1" 11) ∷
     -- the list: N, M, K; 10 with the K wanted
@@ -110,6 +115,7 @@ table =
     (turned "" 18 0) ∷
     (turned "c from a solver\ns UNSATISFIABLE\n" 18 0) ∷
     (turned "s UNKNOWN\n" 18 4) ∷
+    (turned "s SATISFIABLE\r\nv 1 -2 0\n" 18 13) ∷
     (turned "s UNSATISFIABLE" 18 15) ∷
     (turned "s UNSATISFIABLE\n\n" 18 16) ∷
     (turned "s SATISFIABLE\n" 18 14) ∷
@@ -123,12 +129,16 @@ table =
     (turned "s SATISFIABLE\nv 1 -2\n" 18 21) ∷  -- no 0
     (turned "s SATISFIABLE\nv 1 -3 0\n" 18 18) ∷  -- beyond N
     (turned "s SATISFIABLE\nv 1 25 0\n" 18 18) ∷
+    (turned "s SATISFIABLE\nv -0\n" 18 17) ∷  -- a signed 0
+    (turned "s SATISFIABLE\nv 01 0\n" 18 17) ∷  -- a leading zero
     (reply 0 "s SATISFIABLE\nv -1 0\n" [] ⇒ replied (refused 18 16 leaves [])) ∷
     -- 19: missing, present twice, present with each sign; the least; before 11
     (turned "s SATISFIABLE\nv 0\n" 19 1) ∷
     (turned "s SATISFIABLE\nv 1 0\n" 19 2) ∷
     (turned "s SATISFIABLE\nv 2 2 1 0\n" 19 2) ∷
     (turned "s SATISFIABLE\nv 1 2 -1 0\n" 19 1) ∷
+    (turned "s SATISFIABLE\nv 1 1 0\n" 19 1) ∷  -- 1 is there twice, and 2 is missing
+    (turned "s SATISFIABLE\nv 2 2 0\n" 19 1) ∷
     (reply 2 "s SATISFIABLE\nv 1 0\n" [] ⇒ replied (refused 19 2 leaves [])) ∷
     (reply 2 "s SATISFIABLE\nv 1 2 0\n" (7 ∷ []) ⇒ replied (refused 11 2 leaves (7 ∷ []))) ∷
     []
@@ -138,4 +148,4 @@ Holds r = ask (r .question) ≡ r .document
 
 pub the-text-examples-hold : All Holds table
 unfolding all-open
-the-text-examples-hold = (refl, (refl, (refl, (refl, (refl, (refl, (refl, (refl, (refl, (refl, (refl, (refl, (refl, (refl, (refl, (refl, (refl, (refl, (refl, (refl, (refl, (refl, (refl, (refl, (refl, (refl, (refl, (refl, (refl, (refl, (refl, (refl, (refl, (refl, (refl, (refl, (refl, (refl, (refl, (refl, (refl, (refl, (refl, (refl, (refl, (refl, (refl, (refl, (refl, (refl, (refl, (refl, (refl, (refl, (refl, (refl, (refl, (refl, (refl, (refl, (refl, (refl, (refl, (refl, (refl, (refl, tt))))))))))))))))))))))))))))))))))))))))))))))))))))))))))))))))))
+the-text-examples-hold = (refl, (refl, (refl, (refl, (refl, (refl, (refl, (refl, (refl, (refl, (refl, (refl, (refl, (refl, (refl, (refl, (refl, (refl, (refl, (refl, (refl, (refl, (refl, (refl, (refl, (refl, (refl, (refl, (refl, (refl, (refl, (refl, (refl, (refl, (refl, (refl, (refl, (refl, (refl, (refl, (refl, (refl, (refl, (refl, (refl, (refl, (refl, (refl, (refl, (refl, (refl, (refl, (refl, (refl, (refl, (refl, (refl, (refl, (refl, (refl, (refl, (refl, (refl, (refl, (refl, (refl, (refl, (refl, (refl, (refl, (refl, (refl, (refl, tt)))))))))))))))))))))))))))))))))))))))))))))))))))))))))))))))))))))))))

@@ -1,12 +1,11 @@
 -- The writer, the reader of text and the reader of a reply: what they answer and leave (02, P2).
-use Rattle.definitions.specs.Tools.{ℕ, suc, Bool, true, false, List, [], _∷_, _++_, map, length, drop, leb, eqb, ℤ, pos, any, countUp, eqZ, if_then_else_}
-use lib.IntN.{natAbs}
+use Rattle.definitions.specs.Tools.{ℕ, suc, Bool, true, false, List, [], _∷_, _++_, map, length, drop, leb, eqb, ℤ, pos, natAbs, any, countUp, eqZ, if_then_else_}
 use Rattle.definitions.specs.Board.{Board}
 use Rattle.definitions.specs.Result.{Result, _>>=_, _>>_, need, each, done}
 use Rattle.definitions.specs.Encoding.{clauseList}
 use Rattle.definitions.specs.Operations.{accepted, Outcome, lending, long, Sizes, sizesOf}
 use Rattle.definitions.specs.Dimacs.{shown}
-use Rattle.definitions.specs.TextReading.{Reply, model, none, readText, readReply}
+use Rattle.definitions.specs.TextReading.{Reply, model, unsatisfiable, readText, readReply}
 
 -- an accepted record's text, as the program prints it
 unfoldable pub textOf : Board → List ℕ
@@ -36,7 +35,7 @@ modelOf N ns = map (λ v. if any (eqZ (pos v)) ns then 1 else 0) (countUp 1 N)
 
 -- true: a model; false: 'none', without 19 or 11
 abbrev pub taken : ℕ → List ℕ → Reply → Result (Bool × List ℕ)
-taken N lent none = done (false, lent)
+taken N lent unsatisfiable = done (false, lent)
 taken N lent (model ns) = do
   each 19 1 (map (λ v. eqb (often v ns) 1) (countUp 1 N))
   long N lent

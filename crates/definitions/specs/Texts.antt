@@ -1,9 +1,8 @@
 -- Good text and good replies, said by how they are written (02, P2); bytes by number.
-use Rattle.definitions.specs.Tools.{ℕ, suc, _≤_, _≡_, _⊎_, Bool, true, false, _||_, List, [], _∷_, _++_, T, eqb, ℤ, pos, negsuc, if_then_else_, All, eqZ}
-use lib.IntN.{natAbs}
+use Rattle.definitions.specs.Tools.{ℕ, suc, _≤_, _≡_, _⊎_, Bool, true, false, _||_, List, [], _∷_, _++_, T, eqb, ℤ, pos, negsuc, natAbs, if_then_else_, All, eqZ}
 use Rattle.definitions.specs.Dimacs.{ascii, decimal}
 
--- a number: no plus, no leading zero, no signed 0
+-- a number below 10^20 in size, as `decimal` has 20 digits: no plus, no leading zero, no signed 0
 abbrev pub numeral : ℤ → List ℕ
 numeral (pos v) = decimal v
 numeral (negsuc v) = ascii "-" ++ decimal (suc v)
@@ -15,7 +14,7 @@ blank b = eqb b 32 || eqb b 10
 -- numbers parted by runs of spaces or newlines, which may also stand before and after them; `true` where the next number may
 -- follow at once
 pub data Spaced : Bool → List ℤ → List ℕ → Type 0 where
-  none : Spaced true [] []
+  nothing : Spaced true [] []
   gap : (b : ℕ) → T (blank b) → {free : Bool} {ns : List ℤ} {t : List ℕ} → Spaced free ns t → Spaced true ns (t ++ (b ∷ []))
   number : (n : ℤ) {ns : List ℤ} {t : List ℕ} → Spaced true ns t → Spaced false (ns ++ (n ∷ [])) (t ++ numeral n)
 

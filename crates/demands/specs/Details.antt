@@ -15,9 +15,8 @@ use Rattle.definitions.specs.Dimacs.{ascii, decimal}
 use Rattle.laws.specs.Readings.{same, never}
 use Rattle.laws.specs.Refusals.{refusal-is}
 use Rattle.laws.specs.Decimals.{decimal-one, decimal-more}
-use Rattle.definitions.specs.Texts.{numeral, blank, Spaced, none, gap, number, zeros, most, firstLine}
-use Rattle.definitions.specs.TextReading as reading
-use Rattle.definitions.specs.TextReading.{digit, Number, valueOf, whole, begun, further, longer, grown, Count, variables, clauses, Kind, text, reply, Reply, model, State, word, count, countOn, verdict, within, over, awaits, counted, stops, beyond, step, fed}
+use Rattle.definitions.specs.Texts.{numeral, blank, Spaced, nothing, gap, number, zeros, most, firstLine}
+use Rattle.definitions.specs.TextReading.{digit, Number, numberRead, whole, begun, further, longer, grown, Count, countN, countM, Kind, text, reply, Reply, model, State, word, count, countOn, verdict, inNumber, over, awaits, counted, stops, beyond, step, fed, atNumber, unsatisfiable}
 use Rattle.laws.specs.Stepping.{cases, fed-append, fed-on, fed-one, num, free, negative, numeral-fed}
 use Rattle.demands.specs.Reached.{passed, made, both, digit-is, wide, bytes, whole-bytes, longer-bytes, value-size, Which, ofText, ofReply, Before, Inside, Reached, Narrow, narrow-head, onto}
 use Rattle.demands.specs.GoodTexts.{textStart, line-fed, snoc-same, yes}
@@ -37,7 +36,7 @@ abbrev pub Head : Which → ℕ → List ℕ → Type 0
 Head ofText N h = TextHead N h
 Head (ofReply N′) N h = (N ≡ N′) × ((u : List ℕ) × (h ≡ ascii "s SATISFIABLE\n" ++ (u ++ ascii " ")))
 
--- a numeral is of 64 bits at most
+-- below 2^64, where `decimal` has every digit; a number is beyond N by its eleventh digit, so none is left out
 pub record Beyond (q : Which) (u : List ℕ) (d : ℕ) : Type 0 where
   pub N : ℕ
   pub head : List ℕ
@@ -75,25 +74,25 @@ begun-here N at b =
     here-if at (eqb b 45) (here-need at (leb 1 N) (here-done at (num at true 0)))
     (here-need at (digit b && leb (b - 48) N) (here-done at (num at false (b - 48))))
 
-starts-here : (k : Kind) (ns : List ℤ) (at b : ℕ) → Here at (begun (beyond k) at b >>= λ p. done (within k ns p))
-starts-here k ns at b = here-bind at (begun (beyond k) at b) (λ p. done (within k ns p)) (begun-here (beyond k) at b) (λ p. here-done at (within k ns p))
+starts-here : (k : Kind) (ns : List ℤ) (at b : ℕ) → Here at (begun (beyond k) at b >>= λ p. done (inNumber k ns p))
+starts-here k ns at b = here-bind at (begun (beyond k) at b) (λ p. done (inNumber k ns p)) (begun-here (beyond k) at b) (λ p. here-done at (inNumber k ns p))
 
 counted-here : (c : Count) (v at b : ℕ) → Here at (counted c v at b)
-counted-here variables v at b = here-need at (eqb b 32) (here-done at (count (clauses v)))
-counted-here (clauses N) v at b = here-need at (eqb b 10) (here-done at (reading.number (text N v) []))
+counted-here countN v at b = here-need at (eqb b 32) (here-done at (count (countM v)))
+counted-here (countM N) v at b = here-need at (eqb b 10) (here-done at (atNumber (text N v) []))
 
 stops-here : (k : Kind) (ns : List ℤ) (p : Number) (at b : ℕ) → Here at (stops k ns p at b)
-stops-here (text N M) ns p at b = here-done at (reading.number (text N M) (ns ++ (valueOf p ∷ [])))
+stops-here (text N M) ns p at b = here-done at (atNumber (text N M) (ns ++ (numberRead p ∷ [])))
 stops-here (reply N) ns p at b =
     here-if at (eqb (p .size) 0) (here-need at (eqb b 10) (here-done at (over (model ns))))
-    (here-done at (awaits (if eqb b 10 then ascii "v " else []) (reading.number (reply N) (ns ++ (valueOf p ∷ [])))))
+    (here-done at (awaits (if eqb b 10 then ascii "v " else []) (atNumber (reply N) (ns ++ (numberRead p ∷ [])))))
 
 -- or where a digit more takes a number beyond N
 record Grew (s : State) (b d : ℕ) : Type 0 where
   kind : Kind
   ns : List ℤ
   p : Number
-  is : s ≡ within kind ns p
+  is : s ≡ inNumber kind ns p
   further : further p b ≡ true
   far : beyond kind < longer p b .size
   starts : d ≡ p .start
@@ -105,14 +104,14 @@ step-why (countOn c v) at b n d h =
     let r = here-if at (ltb 0 v && digit b) (here-need at (leb (10 * v + (b - 48)) most) (here-done at (countOn c (10 * v + (b - 48))))) (counted-here c v at b) n d h in
     (r .0, inl (r .1))
 step-why (verdict N) at b n d h =
-    let r = here-if at (eqb b 85) (here-done at (awaits (ascii "NSATISFIABLE\n") (over reading.none)))
-    (here-need at (eqb b 83) (here-done at (awaits (ascii "ATISFIABLE\nv ") (reading.number (reply N) [])))) n d h in
+    let r = here-if at (eqb b 85) (here-done at (awaits (ascii "NSATISFIABLE\n") (over unsatisfiable)))
+    (here-need at (eqb b 83) (here-done at (awaits (ascii "ATISFIABLE\nv ") (atNumber (reply N) [])))) n d h in
     (r .0, inl (r .1))
-step-why (reading.number (text N M) ns) at b n d h =
-    let r = here-if at (blank b) (here-done at (reading.number (text N M) ns)) (here-need at (ltb (zeros ns) M) (starts-here (text N M) ns at b)) n d h in
+step-why (atNumber (text N M) ns) at b n d h =
+    let r = here-if at (blank b) (here-done at (atNumber (text N M) ns)) (here-need at (ltb (zeros ns) M) (starts-here (text N M) ns at b)) n d h in
     (r .0, inl (r .1))
-step-why (reading.number (reply N) ns) at b n d h = let r = starts-here (reply N) ns at b n d h in (r .0, inl (r .1))
-step-why (within k ns p) at b n d h = elim (cases (blank b)) [
+step-why (atNumber (reply N) ns) at b n d h = let r = starts-here (reply N) ns at b n d h in (r .0, inl (r .1))
+step-why (inNumber k ns p) at b n d h = elim (cases (blank b)) [
   | inl e ↦ (let r = here-need at (whole p) (stops-here k ns p at b) n d (rw e at h) in (r .0, inl (r .1)))
   | inr e ↦ elim (cases (further p b)) [
     | inr f ↦ (let r = refusal-is (rw (e, f) at h) in (sym (r .0), inl (sym (r .1))))
@@ -127,7 +126,7 @@ step-why (over r) at b n d h = let r = here-refused at n d h in (r .0, inl (r .1
 
 -- ---- of the bytes read so far
 parted : {f : Bool} {ns : List ℤ} {t : List ℕ} → Spaced f ns t → f ≡ true → (t ≡ []) ⊎ ((u : List ℕ) × ((b : ℕ) × ((t ≡ u ++ (b ∷ [])) × (blank b ≡ true))))
-parted none e = inl refl
+parted nothing e = inl refl
 parted (gap b w {t = t} s) e = inr (t, (b, (refl, yes (blank b) w)))
 parted (number n s) e = absurd (let z : _≡_ {A = ℕ} 0 1 = cc in omega arith)
 
@@ -152,7 +151,7 @@ module _ (q : Which) (narrow : Narrow q) where
           N = beyond k;
           head = i .head;
           after = head-of q k ns (i .head) (i .before);
-          x = valueOf y;
+          x = numberRead y;
           is = onto (i .head) (bytes p) b (i .is) ∙ ap (λ x. i .head ++ x) (sym (longer-bytes p b wide-size f) ∙ whole-bytes y z);
           starts = e ∙ i .begins;
           far = (omega (arith, value-size y, g), omega (arith, value-size y, wide-size, wide-digit));
@@ -190,13 +189,13 @@ split-done : (t u : List ℕ) (s : State) (at : ℕ) {s′ : State} → fed s at
 split-done t u s at h = made (fed s at t) (λ s₁. fed s₁ (at + length t) u) (sym (fed-append t u s at) ∙ h)
 
 -- a number beyond N, where one may begin, is refused at its first byte
-far-refused : (k : Kind) (ns : List ℤ) (at : ℕ) (x : ℤ) → beyond k < natAbs x → natAbs x < 2 ^ 64 → fed (reading.number k ns) at (numeral x) ≡ refused 18 at
+far-refused : (k : Kind) (ns : List ℤ) (at : ℕ) (x : ℤ) → beyond k < natAbs x → natAbs x < 2 ^ 64 → fed (atNumber k ns) at (numeral x) ≡ refused 18 at
 far-refused k ns at x far m =
-    numeral-fed k ns at x m ∙ rw (lt-leb (natAbs x) (beyond k) far) (none-free at (free k ns) (within k ns (num at (negative x) (natAbs x))))
+    numeral-fed k ns at x m ∙ rw (lt-leb (natAbs x) (beyond k) far) (none-free at (free k ns) (inNumber k ns (num at (negative x) (natAbs x))))
 
 -- where a number may begin
 abbrev pub Free : ℕ → State → Type 0
-Free N s = (k : Kind) × ((ns : List ℤ) × ((s ≡ reading.number k ns) × (beyond k ≡ N)))
+Free N s = (k : Kind) × ((ns : List ℤ) × ((s ≡ atNumber k ns) × (beyond k ≡ N)))
 
 free-refused : (N : ℕ) (s : State) (at : ℕ) (x : ℤ) → Free N s → N < natAbs x → natAbs x < 2 ^ 64 → fed s at (numeral x) ≡ refused 18 at
 free-refused N s at x f far m = ap (λ s. fed s at (numeral x)) (f .1 .1 .0) ∙ far-refused (f .0) (f .1 .0) at x (omega (arith, f .1 .1 .1, far)) m
@@ -219,46 +218,46 @@ module _ (P : State → Type 0) (keeps : (s : State) (at b : ℕ) (s′ : State)
   stays (b ∷ t) s at s′ p h = let m = made (step s at b) (λ s″. fed s″ (suc at) t) h in stays t (m .0) (suc at) s′ (keeps s at b (m .0) p (m .1 .0)) (m .1 .1)
 
 data Listing (N M : ℕ) : State → Type 0 where
-  textFree : (ns : List ℤ) → Listing N M (reading.number (text N M) ns)
-  textInside : (ns : List ℤ) (p : Number) → Listing N M (within (text N M) ns p)
+  textFree : (ns : List ℤ) → Listing N M (atNumber (text N M) ns)
+  textInside : (ns : List ℤ) (p : Number) → Listing N M (inNumber (text N M) ns p)
 
 data Saying (N : ℕ) : State → Type 0 where
-  replyLetter : (ns : List ℤ) → Saying N (word 118 (32 ∷ []) (reading.number (reply N) ns))
-  replySpace : (ns : List ℤ) → Saying N (word 32 [] (reading.number (reply N) ns))
-  replyFree : (ns : List ℤ) → Saying N (reading.number (reply N) ns)
-  replyInside : (ns : List ℤ) (p : Number) → Saying N (within (reply N) ns p)
+  replyLetter : (ns : List ℤ) → Saying N (word 118 (32 ∷ []) (atNumber (reply N) ns))
+  replySpace : (ns : List ℤ) → Saying N (word 32 [] (atNumber (reply N) ns))
+  replyFree : (ns : List ℤ) → Saying N (atNumber (reply N) ns)
+  replyInside : (ns : List ℤ) (p : Number) → Saying N (inNumber (reply N) ns p)
   replyOver : (r : Reply) → Saying N (over r)
 
 module _ (N M : ℕ) where
   listing-keeps : (s : State) (at b : ℕ) (s′ : State) → Listing N M s → step s at b ≡ done s′ → Listing N M s′
   listing-keeps s at b s′ (textFree ns) h = elim (cases (blank b)) [
     | inl e ↦ subst (Listing N M) (same (rw e at h)) (textFree ns)
-    | inr e ↦ (let k = passed at (ltb (zeros ns) M) (begun N at b >>= λ p. done (within (text N M) ns p)) (rw e at h) in
-        let m = made (begun N at b) (λ p. done (within (text N M) ns p)) (k .1) in
+    | inr e ↦ (let k = passed at (ltb (zeros ns) M) (begun N at b >>= λ p. done (inNumber (text N M) ns p)) (rw e at h) in
+        let m = made (begun N at b) (λ p. done (inNumber (text N M) ns p)) (k .1) in
         subst (Listing N M) (same (m .1 .1)) (textInside ns (m .0)))
   ]
   listing-keeps s at b s′ (textInside ns p) h = elim (cases (blank b)) [
-    | inl e ↦ subst (Listing N M) (same (passed at (whole p) (done (reading.number (text N M) (ns ++ (valueOf p ∷ [])))) (rw e at h) .1)) (textFree (ns ++ (valueOf p ∷ [])))
-    | inr e ↦ (let m = made (grown N p at b) (λ p. done (within (text N M) ns p)) (rw e at h) in subst (Listing N M) (same (m .1 .1)) (textInside ns (m .0)))
+    | inl e ↦ subst (Listing N M) (same (passed at (whole p) (done (atNumber (text N M) (ns ++ (numberRead p ∷ [])))) (rw e at h) .1)) (textFree (ns ++ (numberRead p ∷ [])))
+    | inr e ↦ (let m = made (grown N p at b) (λ p. done (inNumber (text N M) ns p)) (rw e at h) in subst (Listing N M) (same (m .1 .1)) (textInside ns (m .0)))
   ]
 
-  listing-blank : (s : State) (at b : ℕ) (s′ : State) → Listing N M s → blank b ≡ true → step s at b ≡ done s′ → (ns : List ℤ) × (s′ ≡ reading.number (text N M) ns)
+  listing-blank : (s : State) (at b : ℕ) (s′ : State) → Listing N M s → blank b ≡ true → step s at b ≡ done s′ → (ns : List ℤ) × (s′ ≡ atNumber (text N M) ns)
   listing-blank s at b s′ (textFree ns) e h = (ns, sym (same (rw e at h)))
-  listing-blank s at b s′ (textInside ns p) e h = (ns ++ (valueOf p ∷ []), sym (same (passed at (whole p) (done (reading.number (text N M) (ns ++ (valueOf p ∷ [])))) (rw e at h) .1)))
+  listing-blank s at b s′ (textInside ns p) e h = (ns ++ (numberRead p ∷ []), sym (same (passed at (whole p) (done (atNumber (text N M) (ns ++ (numberRead p ∷ [])))) (rw e at h) .1)))
 
 pub text-head : (N : ℕ) (h : List ℕ) → TextHead N h → (s : State) → fed textStart 0 h ≡ done s → Free N s
 text-head N h t s e =
     let M = t .M in
     let line : List ℕ = firstLine N M in
     let i = split-done line (t .gap) textStart 0 (ap (fed textStart 0) (sym (t .is)) ∙ e) in
-    let first : reading.number (text N M) [] ≡ i .0 = same (sym (line-fed N M (t .small .0) (t .small .1)) ∙ i .1 .0) in
-    let free : fed (reading.number (text N M) []) (0 + length line) (t .gap) ≡ done s = ap (λ s. fed s (0 + length line) (t .gap)) first ∙ i .1 .1 in
+    let first : atNumber (text N M) [] ≡ i .0 = same (sym (line-fed N M (t .small .0) (t .small .1)) ∙ i .1 .0) in
+    let free : fed (atNumber (text N M) []) (0 + length line) (t .gap) ≡ done s = ap (λ s. fed s (0 + length line) (t .gap)) first ∙ i .1 .1 in
     elim (t .parts) [
-      | inl g ↦ (text N M, ([], (sym (same (ap (fed (reading.number (text N M) []) (0 + length line)) (sym g) ∙ free)), refl)))
+      | inl g ↦ (text N M, ([], (sym (same (ap (fed (atNumber (text N M) []) (0 + length line)) (sym g) ∙ free)), refl)))
       | inr g ↦ (let u = g .0 in
           let b = g .1 .0 in
-          let j = split-done u (b ∷ []) (reading.number (text N M) []) (0 + length line) (ap (fed (reading.number (text N M) []) (0 + length line)) (sym (g .1 .1 .0)) ∙ free) in
-          let l = stays (Listing N M) (listing-keeps N M) u (reading.number (text N M) []) (0 + length line) (j .0) (textFree []) (j .1 .0) in
+          let j = split-done u (b ∷ []) (atNumber (text N M) []) (0 + length line) (ap (fed (atNumber (text N M) []) (0 + length line)) (sym (g .1 .1 .0)) ∙ free) in
+          let l = stays (Listing N M) (listing-keeps N M) u (atNumber (text N M) []) (0 + length line) (j .0) (textFree []) (j .1 .0) in
           let on : ℕ = 0 + length line + length u in
           let z = listing-blank N M (j .0) on b s l (g .1 .1 .1) (sym (fed-one (j .0) on b) ∙ j .1 .1) in
           (text N M, (z .0, (z .1, refl))))
@@ -266,23 +265,23 @@ text-head N h t s e =
 
 module _ (N : ℕ) where
   saying-keeps : (s : State) (at b : ℕ) (s′ : State) → Saying N s → step s at b ≡ done s′ → Saying N s′
-  saying-keeps s at b s′ (replyLetter ns) h = subst (Saying N) (same (passed at (eqb b 118) (done (word 32 [] (reading.number (reply N) ns))) h .1)) (replySpace ns)
-  saying-keeps s at b s′ (replySpace ns) h = subst (Saying N) (same (passed at (eqb b 32) (done (reading.number (reply N) ns)) h .1)) (replyFree ns)
-  saying-keeps s at b s′ (replyFree ns) h = let m = made (begun N at b) (λ p. done (within (reply N) ns p)) h in subst (Saying N) (same (m .1 .1)) (replyInside ns (m .0))
+  saying-keeps s at b s′ (replyLetter ns) h = subst (Saying N) (same (passed at (eqb b 118) (done (word 32 [] (atNumber (reply N) ns))) h .1)) (replySpace ns)
+  saying-keeps s at b s′ (replySpace ns) h = subst (Saying N) (same (passed at (eqb b 32) (done (atNumber (reply N) ns)) h .1)) (replyFree ns)
+  saying-keeps s at b s′ (replyFree ns) h = let m = made (begun N at b) (λ p. done (inNumber (reply N) ns p)) h in subst (Saying N) (same (m .1 .1)) (replyInside ns (m .0))
   saying-keeps s at b s′ (replyInside ns p) h = elim (cases (blank b)) [
-    | inr e ↦ (let m = made (grown N p at b) (λ p. done (within (reply N) ns p)) (rw e at h) in subst (Saying N) (same (m .1 .1)) (replyInside ns (m .0)))
+    | inr e ↦ (let m = made (grown N p at b) (λ p. done (inNumber (reply N) ns p)) (rw e at h) in subst (Saying N) (same (m .1 .1)) (replyInside ns (m .0)))
     | inl e ↦ (let k = passed at (whole p) (stops (reply N) ns p at b) (rw e at h) .1 in
         elim (cases (eqb (p .size) 0)) [
           | inl f ↦ subst (Saying N) (same (passed at (eqb b 10) (done (over (model ns))) (rw f at k) .1)) (replyOver (model ns))
           | inr f ↦ elim (cases (eqb b 10)) [
-            | inl g ↦ subst (Saying N) (same (rw (f, g) at k)) (replyLetter (ns ++ (valueOf p ∷ [])))
-            | inr g ↦ subst (Saying N) (same (rw (f, g) at k)) (replyFree (ns ++ (valueOf p ∷ [])))
+            | inl g ↦ subst (Saying N) (same (rw (f, g) at k)) (replyLetter (ns ++ (numberRead p ∷ [])))
+            | inr g ↦ subst (Saying N) (same (rw (f, g) at k)) (replyFree (ns ++ (numberRead p ∷ [])))
           ]
         ])
   ]
   saying-keeps s at b s′ (replyOver r) h = never h
 
-  saying-space : (s : State) (at : ℕ) (s′ : State) → Saying N s → step s at 32 ≡ done s′ → (ns : List ℤ) × (s′ ≡ reading.number (reply N) ns)
+  saying-space : (s : State) (at : ℕ) (s′ : State) → Saying N s → step s at 32 ≡ done s′ → (ns : List ℤ) × (s′ ≡ atNumber (reply N) ns)
   saying-space s at s′ (replyLetter ns) h = never h
   saying-space s at s′ (replySpace ns) h = (ns, sym (same h))
   saying-space s at s′ (replyFree ns) h = never h
@@ -290,13 +289,13 @@ module _ (N : ℕ) where
       let k = passed at (whole p) (stops (reply N) ns p at 32) h .1 in
       elim (cases (eqb (p .size) 0)) [
         | inl f ↦ never (rw f at k)
-        | inr f ↦ (ns ++ (valueOf p ∷ []), sym (same (rw f at k)))
+        | inr f ↦ (ns ++ (numberRead p ∷ []), sym (same (rw f at k)))
       ]
   saying-space s at s′ (replyOver r) h = never h
 
   pub reply-head : (u h : List ℕ) → h ≡ ascii "s SATISFIABLE\n" ++ (u ++ ascii " ") → (s : State) → fed (replyStart N) 0 h ≡ done s → Free N s
   reply-head u h is s e =
-      let lines : State = awaits (ascii "v ") (reading.number (reply N) []) in
+      let lines : State = awaits (ascii "v ") (atNumber (reply N) []) in
       let i = split-done (ascii "s SATISFIABLE\n") (u ++ ascii " ") (replyStart N) 0 (ap (fed (replyStart N) 0) (sym is) ∙ e) in
       let first : lines ≡ i .0 = same (i .1 .0) in
       let free : fed lines 14 (u ++ ascii " ") ≡ done s = ap (λ s. fed s 14 (u ++ ascii " ")) first ∙ i .1 .1 in

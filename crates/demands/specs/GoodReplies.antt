@@ -13,7 +13,7 @@ use Rattle.definitions.specs.Dimacs.{ascii}
 use Rattle.laws.specs.Readings.{same, never}
 use Rattle.laws.specs.Lists.{append-all}
 use Rattle.definitions.specs.Texts.{numeral, Values, first, onLine, newLine, GoodReply, noModel}
-use Rattle.definitions.specs.TextReading.{reply, Reply, model, none, State, word, count, countOn, verdict, number, within, over, awaits, fed, endReply, readReply}
+use Rattle.definitions.specs.TextReading.{reply, Reply, model, unsatisfiable, State, word, count, countOn, verdict, atNumber, inNumber, over, awaits, fed, endReply, readReply}
 use Rattle.laws.specs.Stepping.{fed-on}
 use Rattle.demands.specs.Reached.{made, wide, ofReply, Reached, all-kept}
 use Rattle.demands.specs.GoodTexts.{numberAt, numeral-whole, number-read}
@@ -24,19 +24,19 @@ replyStart N = awaits (ascii "s ") (verdict N)
 -- what is good for an answer
 abbrev pub Answers : ℕ → List ℕ → Reply → Type 0
 Answers N t (model ns) = GoodReply N ns t
-Answers N t none = t ≡ noModel
+Answers N t unsatisfiable = t ≡ noModel
 
 module _ (N : ℕ) (small : N ≤ wide) where
   -- ---- only a good reply is read
   ends-good : (t : List ℕ) (r : Reply) (s : State) → Reached (ofReply N) s t → endReply (length t) s ≡ done r → Answers N t r
   ends-good t r (over (model ns)) i h = subst (Answers N t) (same h) (subst (λ n. GoodReply n ns t) (i .1 .0) (i .1 .1))
-  ends-good t r (over none) i h = subst (Answers N t) (same h) (i .1 .1)
+  ends-good t r (over unsatisfiable) i h = subst (Answers N t) (same h) (i .1 .1)
   ends-good t r (word c cs s) i h = never h
   ends-good t r (count c) i h = never h
   ends-good t r (countOn c v) i h = never h
   ends-good t r (verdict n) i h = never h
-  ends-good t r (number k ns) i h = never h
-  ends-good t r (within k ns p) i h = never h
+  ends-good t r (atNumber k ns) i h = never h
+  ends-good t r (inNumber k ns p) i h = never h
 
   pub only-a-good-reply-is-read : (t : List ℕ) (r : Reply) → readReply N t ≡ done r → Answers N t r
   unfolding readReply
@@ -52,18 +52,18 @@ module _ (N : ℕ) (small : N ≤ wide) where
   from = 14
 
   abbrev lines : State
-  lines = awaits (ascii "v ") (number (reply N) [])
+  lines = awaits (ascii "v ") (atNumber (reply N) [])
 
   -- a literal has ended, and the next number may begin
   literal-ended : (ns : List ℤ) (x : ℤ) (start at : ℕ) → 1 ≤ natAbs x
-      → (fed (within (reply N) ns (numberAt start x)) at (ascii " ") ≡ done (number (reply N) (ns ++ (x ∷ []))))
-      × (fed (within (reply N) ns (numberAt start x)) at (ascii "\nv ") ≡ done (number (reply N) (ns ++ (x ∷ []))))
+      → (fed (inNumber (reply N) ns (numberAt start x)) at (ascii " ") ≡ done (atNumber (reply N) (ns ++ (x ∷ []))))
+      × (fed (inNumber (reply N) ns (numberAt start x)) at (ascii "\nv ") ≡ done (atNumber (reply N) (ns ++ (x ∷ []))))
   literal-ended ns x start at l =
       let w = numeral-whole start x in
       let z = ne-eqb (natAbs x) 0 (λ e. omega arith) in
       (rw (w .0, z, w .1), rw (w .0, z, w .1))
 
-  values-read : {ns : List ℤ} {n : ℤ} {t : List ℕ} → Values ns n t → Literals ns → natAbs n ≤ N → (start : ℕ) × (fed lines from t ≡ done (within (reply N) ns (numberAt start n)))
+  values-read : {ns : List ℤ} {n : ℤ} {t : List ℕ} → Values ns n t → Literals ns → natAbs n ≤ N → (start : ℕ) × (fed lines from t ≡ done (inNumber (reply N) ns (numberAt start n)))
   values-read (first n) a m = (from + 2, number-read (reply N) [] (from + 2) n refl m small)
   values-read (onLine n {ns = ns} {m = x} {t = t} v) a m =
       let b = append-all (λ n. (1 ≤ natAbs n) × (natAbs n ≤ N)) ns (x ∷ []) a in
@@ -71,7 +71,7 @@ module _ (N : ℕ) (small : N ≤ wide) where
       let at : ℕ = from + length t in (
         at + 1,
         fed-on t (ascii " " ++ numeral n) lines from (k .1)
-            (fed-on (ascii " ") (numeral n) (within (reply N) ns (numberAt (k .0) x)) at (literal-ended ns x (k .0) at (b .1 .0 .0) .0)
+            (fed-on (ascii " ") (numeral n) (inNumber (reply N) ns (numberAt (k .0) x)) at (literal-ended ns x (k .0) at (b .1 .0 .0) .0)
             (number-read (reply N) (ns ++ (x ∷ [])) (at + 1) n refl m small)),
       )
   values-read (newLine n {ns = ns} {m = x} {t = t} v) a m =
@@ -80,7 +80,7 @@ module _ (N : ℕ) (small : N ≤ wide) where
       let at : ℕ = from + length t in (
         at + 3,
         fed-on t (ascii "\nv " ++ numeral n) lines from (k .1)
-            (fed-on (ascii "\nv ") (numeral n) (within (reply N) ns (numberAt (k .0) x)) at (literal-ended ns x (k .0) at (b .1 .0 .0) .1)
+            (fed-on (ascii "\nv ") (numeral n) (inNumber (reply N) ns (numberAt (k .0) x)) at (literal-ended ns x (k .0) at (b .1 .0 .0) .1)
             (number-read (reply N) (ns ++ (x ∷ [])) (at + 3) n refl m small)),
       )
 
@@ -91,7 +91,7 @@ module _ (N : ℕ) (small : N ≤ wide) where
       ap (λ r. r >>= endReply (length t))
       (ap (fed (replyStart N) 0) (g .lined)
       ∙ fed-on (ascii "s SATISFIABLE\n") (g .values ++ ascii "\n") (replyStart N) 0 refl (fed-on (g .values) (ascii "\n") lines from (k .1) refl))
-  a-good-reply-is-read t none g = ap (λ t. fed (replyStart N) 0 t >>= endReply (length t)) g
+  a-good-reply-is-read t unsatisfiable g = ap (λ t. fed (replyStart N) 0 t >>= endReply (length t)) g
 
   -- its literals, or 'none'
   pub a-reply-is-read-exactly-if-good : (t : List ℕ) (r : Reply) → (readReply N t ≡ done r) ↔ Answers N t r

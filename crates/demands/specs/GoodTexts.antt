@@ -14,14 +14,13 @@ use Rattle.definitions.specs.Result.{_>>=_, _>>_, done}
 use Rattle.definitions.specs.Dimacs.{ascii, decimal}
 use Rattle.laws.specs.Readings.{same, never}
 use Rattle.laws.specs.Lists.{all-append, append-all}
-use Rattle.definitions.specs.Texts.{numeral, blank, Spaced, none, gap, number, zeros, Ended, most, firstLine, GoodText}
-use Rattle.definitions.specs.TextReading as reading
-use Rattle.definitions.specs.TextReading.{digit, Number, valueOf, whole, Count, variables, clauses, Kind, text, reply, State, word, count, countOn, verdict, within, over, awaits, counted, beyond, step, fed, Read, endText, readText}
+use Rattle.definitions.specs.Texts.{numeral, blank, Spaced, nothing, gap, number, zeros, Ended, most, firstLine, GoodText}
+use Rattle.definitions.specs.TextReading.{digit, Number, numberRead, whole, Count, countN, countM, Kind, text, reply, State, word, count, countOn, verdict, inNumber, over, awaits, counted, beyond, step, fed, Read, endText, readText, atNumber}
 use Rattle.laws.specs.Stepping.{fed-on, fed-awaits, count-fed, num, free, negative, numeral-fed}
 use Rattle.demands.specs.Reached.{passed, made, both, wide, bytes, whole-bytes, value-size, zeros-append, more-room, ofText, Reached, all-kept}
 
 abbrev pub textStart : State
-textStart = awaits (ascii "p cnf ") (count variables)
+textStart = awaits (ascii "p cnf ") (count countN)
 
 -- ---- only good text is read
 module _ (t : List ℕ) (r : Read) where
@@ -29,13 +28,13 @@ module _ (t : List ℕ) (r : Read) where
   Good r = GoodText (r .n) (r .m) (r .list) t
 
   ends-good : (s : State) → Reached ofText s t → endText (length t) s ≡ done r → Good r
-  ends-good (reading.number (text N M) ns) i h =
+  ends-good (atNumber (text N M) ns) i h =
       let k = passed (length t) (eqb (zeros ns) M) (done (record { n = N; m = M; list = ns })) h in
       let z = eqb-true (zeros ns) M (k .0) in
       let b = i .1 in
       subst Good (same (k .1)) (record { small = b .small; body = b .body; lined = b .lined; free = true; spaced = b .spaced; known = b .known; clauses = z; ended = b .room .ended z })
-  ends-good (within (text N M) ns p) i h =
-      let n = valueOf p in
+  ends-good (inNumber (text N M) ns p) i h =
+      let n = numberRead p in
       let all : List ℤ = ns ++ (n ∷ []) in
       let k = passed (length t) (whole p && eqb (zeros all) M) (done (record { n = N; m = M; list = all })) h in
       let l = both (whole p) (eqb (zeros all) M) (k .0) in
@@ -51,8 +50,8 @@ module _ (t : List ℕ) (r : Read) where
         clauses = z;
         ended = more-room M ns n (i .more) .ended z;
       })
-  ends-good (reading.number (reply N) ns) i h = never h
-  ends-good (within (reply N) ns p) i h = never h
+  ends-good (atNumber (reply N) ns) i h = never h
+  ends-good (inNumber (reply N) ns p) i h = never h
   ends-good (word c cs s) i h = never h
   ends-good (count c) i h = never h
   ends-good (countOn c v) i h = never h
@@ -73,29 +72,29 @@ count-ends c (suc v) at b e = rw (lt-ltb 0 (suc v) (omega arith), e)
 line-parts : (N M : ℕ) → firstLine N M ≡ ascii "p cnf " ++ (decimal N ++ (32 ∷ (decimal M ++ (10 ∷ []))))
 line-parts N M = simp append-assoc
 
-pub line-fed : (N M : ℕ) → N ≤ most → M ≤ most → fed textStart 0 (firstLine N M) ≡ done (reading.number (text N M) [])
+pub line-fed : (N M : ℕ) → N ≤ most → M ≤ most → fed textStart 0 (firstLine N M) ≡ done (atNumber (text N M) [])
 line-fed N M n m =
     let afterM : List ℕ = 10 ∷ [] in
     let afterN : List ℕ = 32 ∷ (decimal M ++ afterM) in
     let atM : ℕ = suc (6 + length (decimal N)) in
     ap (fed textStart 0) (line-parts N M)
-    ∙ fed-on (ascii "p cnf ") (decimal N ++ afterN) textStart 0 (fed-awaits (ascii "p cnf ") (count variables) 0)
-    (fed-on (decimal N) afterN (count variables) 6 (count-fed variables 6 N N (omega arith) n)
-    (ap (λ r. r >>= λ s. fed s atM (decimal M ++ afterM)) (count-ends variables N (6 + length (decimal N)) 32 refl)
-    ∙ fed-on (decimal M) afterM (count (clauses N)) atM (count-fed (clauses N) atM M M (omega arith) m)
-    (ap (λ r. r >>= λ s. fed s (suc (atM + length (decimal M))) []) (count-ends (clauses N) M (atM + length (decimal M)) 10 refl))))
+    ∙ fed-on (ascii "p cnf ") (decimal N ++ afterN) textStart 0 (fed-awaits (ascii "p cnf ") (count countN) 0)
+    (fed-on (decimal N) afterN (count countN) 6 (count-fed countN 6 N N (omega arith) n)
+    (ap (λ r. r >>= λ s. fed s atM (decimal M ++ afterM)) (count-ends countN N (6 + length (decimal N)) 32 refl)
+    ∙ fed-on (decimal M) afterM (count (countM N)) atM (count-fed (countM N) atM M M (omega arith) m)
+    (ap (λ r. r >>= λ s. fed s (suc (atM + length (decimal M))) []) (count-ends (countM N) M (atM + length (decimal M)) 10 refl))))
 
 -- a number, when it has been read
 abbrev pub numberAt : ℕ → ℤ → Number
 numberAt at x = num at (negative x) (natAbs x)
 
-pub numeral-whole : (at : ℕ) (x : ℤ) → (whole (numberAt at x) ≡ true) × (valueOf (numberAt at x) ≡ x)
+pub numeral-whole : (at : ℕ) (x : ℤ) → (whole (numberAt at x) ≡ true) × (numberRead (numberAt at x) ≡ x)
 numeral-whole at (pos zero) = (refl, refl)
 numeral-whole at (pos (suc v)) = (rw (lt-ltb 0 (suc v) (omega arith)), refl)
 numeral-whole at (negsuc v) = (rw (lt-ltb 0 (suc v) (omega arith)), refl)
 
 pub number-read : (k : Kind) (ns : List ℤ) (at : ℕ) (x : ℤ) → free k ns ≡ true → natAbs x ≤ beyond k → beyond k ≤ wide
-    → fed (reading.number k ns) at (numeral x) ≡ done (within k ns (numberAt at x))
+    → fed (atNumber k ns) at (numeral x) ≡ done (inNumber k ns (numberAt at x))
 number-read k ns at x f l w = numeral-fed k ns at x (omega arith) ∙ rw (f, le-leb (natAbs x) (beyond k) l)
 
 -- ---- the numbers, one after another
@@ -120,32 +119,32 @@ yes false t = absurd t
 module _ (N M : ℕ) (small : N ≤ most) where
   -- where a number may follow, and where one has just been read
   abbrev Said : Bool → List ℤ → State → Type 0
-  Said true ns s = s ≡ reading.number (text N M) ns
-  Said false ns s = (ms : List ℤ) × ((p : Number) × ((s ≡ within (text N M) ms p) × ((whole p ≡ true) × (ns ≡ ms ++ (valueOf p ∷ [])))))
+  Said true ns s = s ≡ atNumber (text N M) ns
+  Said false ns s = (ms : List ℤ) × ((p : Number) × ((s ≡ inNumber (text N M) ms p) × ((whole p ≡ true) × (ns ≡ ms ++ (numberRead p ∷ [])))))
 
-  blank-read : (f : Bool) (ns : List ℤ) (s : State) (at b : ℕ) → Said f ns s → blank b ≡ true → fed s at (b ∷ []) ≡ done (reading.number (text N M) ns)
+  blank-read : (f : Bool) (ns : List ℤ) (s : State) (at b : ℕ) → Said f ns s → blank b ≡ true → fed s at (b ∷ []) ≡ done (atNumber (text N M) ns)
   blank-read true ns s at b e w = ap (λ s. fed s at (b ∷ [])) e ∙ rw w
   blank-read false ns s at b e w =
       let p = e .1 .0 in
       let i = e .1 .1 in
-      ap (λ s. fed s at (b ∷ [])) (i .0) ∙ rw (w, i .1 .0) (ap (λ l. done (reading.number (text N M) l)) (sym (i .1 .1)))
+      ap (λ s. fed s at (b ∷ [])) (i .0) ∙ rw (w, i .1 .0) (ap (λ l. done (atNumber (text N M) l)) (sym (i .1 .1)))
 
   spaced-read : {f : Bool} {ns : List ℤ} {u : List ℕ} → Spaced f ns u → All (λ n. natAbs n ≤ N) ns → Fits M ns → (at : ℕ)
-      → (s : State) × ((fed (reading.number (text N M) []) at u ≡ done s) × Said f ns s)
-  spaced-read none a z at = (reading.number (text N M) [], (refl, refl))
+      → (s : State) × ((fed (atNumber (text N M) []) at u ≡ done s) × Said f ns s)
+  spaced-read nothing a z at = (atNumber (text N M) [], (refl, refl))
   spaced-read (gap b w {free = f} {ns = ns} {t = t} s) a z at =
       let k = spaced-read s a z at in
-      (reading.number (text N M) ns, (fed-on t (b ∷ []) (reading.number (text N M) []) at (k .1 .0) (blank-read f ns (k .0) (at + length t) b (k .1 .1) (yes (blank b) w)), refl))
+      (atNumber (text N M) ns, (fed-on t (b ∷ []) (atNumber (text N M) []) at (k .1 .0) (blank-read f ns (k .0) (at + length t) b (k .1 .1) (yes (blank b) w)), refl))
   spaced-read (number n {ns = ns} {t = t} s) a z at =
       let room = z ns n refl in
       let both = append-all (λ n. natAbs n ≤ N) ns (n ∷ []) a in
       let k = spaced-read s (both .0) (λ ms m e. omega (arith, room, ap zeros e, zeros-append ms (m ∷ []))) at in
-      let e : fed (reading.number (text N M) []) at t ≡ done (reading.number (text N M) ns) = k .1 .0 ∙ ap done (k .1 .1) in
+      let e : fed (atNumber (text N M) []) at t ≡ done (atNumber (text N M) ns) = k .1 .0 ∙ ap done (k .1 .1) in
       let p = numberAt (at + length t) n in
       let v = numeral-whole (at + length t) n in (
-        within (text N M) ns p,
+        inNumber (text N M) ns p,
         (
-          fed-on t (numeral n) (reading.number (text N M) []) at e
+          fed-on t (numeral n) (atNumber (text N M) []) at e
               (number-read (text N M) ns (at + length t) n (lt-ltb (zeros ns) M room) (both .1 .0) (omega arith)),
           (ns, (p, (refl, (v .0, ap (λ x. ns ++ (x ∷ [])) (sym (v .1)))))),
         ),
@@ -155,7 +154,7 @@ module _ (N M : ℕ) (small : N ≤ most) where
   ends-done true ns s at e z = ap (endText at) e ∙ rw (eq-eqb (zeros ns) M z)
   ends-done false ns s at e z =
       let i = e .1 .1 in
-      let all : List ℤ = e .0 ++ (valueOf (e .1 .0) ∷ []) in
+      let all : List ℤ = e .0 ++ (numberRead (e .1 .0) ∷ []) in
       ap (endText at) (i .0)
       ∙ rw (i .1 .0, eq-eqb (zeros all) M (ap zeros (sym (i .1 .1)) ∙ z))
       (ap (λ l. done (record { n = N; m = M; list = l })) (sym (i .1 .1)))

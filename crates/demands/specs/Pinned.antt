@@ -8,7 +8,7 @@ use lib.ListN.{length}
 use lib.IntN.{ℤ}
 use Rattle.definitions.specs.Result.{Result, _>>=_, done, refused}
 use Rattle.definitions.specs.Texts.{zeros, GoodText}
-use Rattle.definitions.specs.TextReading.{valueOf, whole, text, reply, Reply, State, word, count, countOn, verdict, number, within, over, fed, Read, endText, endReply, readText, readReply}
+use Rattle.definitions.specs.TextReading.{numberRead, whole, text, reply, Reply, State, word, count, countOn, verdict, atNumber, inNumber, over, fed, Read, endText, endReply, readText, readReply}
 use Rattle.laws.specs.Stepping.{fed-on}
 use Rattle.demands.specs.Reached.{wide, ofText, ofReply, Narrow, Reached, all-kept}
 use Rattle.demands.specs.GoodTexts.{textStart, only-good-text-is-read, good-text-is-read}
@@ -27,12 +27,12 @@ abbrev pub SomeText : List ℕ → Type 0
 SomeText t = (r : Read) × GoodText (r .n) (r .m) (r .list) t
 
 text-ends : (at : ℕ) (s : State) → Here at (endText at s)
-text-ends at (number (text N M) ns) = here-need at (eqb (zeros ns) M) (here-done at (record { n = N; m = M; list = ns }))
-text-ends at (within (text N M) ns p) =
-    let all : List ℤ = ns ++ (valueOf p ∷ []) in
+text-ends at (atNumber (text N M) ns) = here-need at (eqb (zeros ns) M) (here-done at (record { n = N; m = M; list = ns }))
+text-ends at (inNumber (text N M) ns p) =
+    let all : List ℤ = ns ++ (numberRead p ∷ []) in
     here-need at (whole p && eqb (zeros all) M) (here-done at (record { n = N; m = M; list = all }))
-text-ends at (number (reply N) ns) = here-refused at
-text-ends at (within (reply N) ns p) = here-refused at
+text-ends at (atNumber (reply N) ns) = here-refused at
+text-ends at (inNumber (reply N) ns p) = here-refused at
 text-ends at (word c cs s) = here-refused at
 text-ends at (count c) = here-refused at
 text-ends at (countOn c v) = here-refused at
@@ -75,8 +75,8 @@ module _ (N : ℕ) (small : N ≤ wide) where
   reply-ends at (count c) = here-refused at
   reply-ends at (countOn c v) = here-refused at
   reply-ends at (verdict n) = here-refused at
-  reply-ends at (number k ns) = here-refused at
-  reply-ends at (within k ns p) = here-refused at
+  reply-ends at (atNumber k ns) = here-refused at
+  reply-ends at (inNumber k ns p) = here-refused at
 
   only-this : Narrow (ofReply N)
   only-this n o = rw o small

@@ -63,6 +63,7 @@ pub record Pinned (Good : List ℕ → Type 0) (Beyond : List ℕ → ℕ → Ty
   pub a-wrong-byte : ¬ Begins Good t → (e : ℕ) × Wrong Good t e
   pub at-the-number : (e d′ : ℕ) → Wrong Good t e → Beyond (take (suc e) t) d′ → d ≡ d′
   pub at-the-byte : (e : ℕ) → Wrong Good t e → ((d′ : ℕ) → ¬ Beyond (take (suc e) t) d′) → d ≡ e
+  pub at-one-of-them : (e : ℕ) → Wrong Good t e → (d ≡ e) ⊎ Beyond (take (suc e) t) d
 
 -- what is good is read, what is not refused begins something good, and why a byte or the end is refused
 pub record Reader {A : Type 0} (start : State) (end : ℕ → State → Result A) (Good : List ℕ → Type 0) (Beyond : List ℕ → ℕ → Type 0) : Type 0 where
@@ -151,6 +152,14 @@ module _ {A : Type 0} (start : State) (end : ℕ → State → Result A) (Good :
             let r = refusal-is (sym (ap (λ m. m >>= end (length t)) (whole n′ d′ k)) ∙ h) in
             k ∙ ap (λ x. refused x d′) (r .0) ∙ ap (refused n) (r .1)
 
+    byte-or-number : (e : ℕ) → Wrong Good t e → (d ≡ e) ⊎ Beyond (take (suc e) t) d
+    byte-or-number e w =
+        let s = wrong-step e w in
+        let u : List ℕ = take e t in
+        let why = reader .steps u (s .0) (getD t e 0) n d (s .1 .0) (sym (one-more u (s .0) (getD t e 0) (s .1 .0)) ∙ s .1 .1) in
+        let long = length-take-le e t (omega (arith, w .inside)) in
+        elim (why .1) [ inl z ↦ inl (z ∙ long) | inr z ↦ inr (subst (λ u. Beyond u d) (sym (take-suc t e 0 (w .inside))) (z .0)) ]
+
     pub pinned : Pinned Good Beyond t n d
     pinned = record {
       is-18 = elim either [ inl k ↦ the-byte k .0 | inr k ↦ reader .ends (length t) (k .0) n d (k .1 .1) .0 ];
@@ -162,10 +171,6 @@ module _ {A : Type 0} (start : State) (end : ℕ → State → Result A) (Good :
       at-the-number = λ e d′ w b.
           let s = wrong-step e w in
           reader .numbers (take e t) (s .0) (getD t e 0) n d d′ (s .1 .0) (s .1 .1) (subst (λ u. Beyond u d′) (take-suc t e 0 (w .inside)) b);
-      at-the-byte = λ e w f.
-          let s = wrong-step e w in
-          let u : List ℕ = take e t in
-          let why = reader .steps u (s .0) (getD t e 0) n d (s .1 .0) (sym (one-more u (s .0) (getD t e 0) (s .1 .0)) ∙ s .1 .1) in
-          let long = length-take-le e t (omega (arith, w .inside)) in
-          (elim (why .1) [ inl z ↦ z ∙ long | inr z ↦ absurd (f d (subst (λ u. Beyond u d) (sym (take-suc t e 0 (w .inside))) (z .0))) ]);
+      at-the-byte = λ e w f. (elim (byte-or-number e w) [ inl z ↦ z | inr z ↦ absurd (f d z) ]);
+      at-one-of-them = byte-or-number;
     }

@@ -15,9 +15,8 @@ use Rattle.definitions.specs.Dimacs.{ascii, decimal}
 use Rattle.laws.specs.Readings.{same, never}
 use Rattle.laws.specs.Lists.{all-append}
 use Rattle.laws.specs.Decimals.{decimal-one, decimal-more}
-use Rattle.definitions.specs.Texts.{numeral, blank, Spaced, none, gap, number, zeros, Ended, most, firstLine, Values, first, onLine, newLine, GoodReply, noModel}
-use Rattle.definitions.specs.TextReading as reading
-use Rattle.definitions.specs.TextReading.{digit, Number, valueOf, whole, begun, further, longer, grown, Count, variables, clauses, Kind, text, reply, model, State, word, count, countOn, verdict, within, over, awaits, counted, stops, beyond, step, fed}
+use Rattle.definitions.specs.Texts.{numeral, blank, Spaced, nothing, gap, number, zeros, Ended, most, firstLine, Values, first, onLine, newLine, GoodReply, noModel}
+use Rattle.definitions.specs.TextReading.{digit, Number, numberRead, whole, begun, further, longer, grown, Count, countN, countM, Kind, text, reply, model, State, word, count, countOn, verdict, inNumber, over, awaits, counted, stops, beyond, step, fed, atNumber, unsatisfiable}
 use Rattle.laws.specs.Stepping.{cases, num, free}
 
 -- ---- what a step that was passed tells
@@ -64,7 +63,7 @@ decimal-longer v b l s h =
 abbrev pub bytes : Number → List ℕ
 bytes p = if p .minus then 45 ∷ (if eqb (p .size) 0 then [] else decimal (p .size)) else decimal (p .size)
 
-pub whole-bytes : (p : Number) → whole p ≡ true → bytes p ≡ numeral (valueOf p)
+pub whole-bytes : (p : Number) → whole p ≡ true → bytes p ≡ numeral (numberRead p)
 whole-bytes p h = go (p .minus) (p .size) h
   where
     go : (m : Bool) (v : ℕ) → (ltb 0 v || not m) ≡ true → (if m then 45 ∷ (if eqb v 0 then [] else decimal v) else decimal v) ≡ numeral (if m then neg v else pos v)
@@ -89,7 +88,7 @@ longer-bytes p b s h =
         rw (e, ne-eqb (b - 48) 0 (λ z. omega arith), decimal-first b d)
     go true (suc v) s o d = rw (ne-eqb (10 * suc v + (b - 48)) 0 (λ z. omega arith), ne-eqb (suc v) 0 (λ z. omega arith), decimal-longer (suc v) b (omega arith) s d)
 
-pub value-size : (p : Number) → natAbs (valueOf p) ≡ p .size
+pub value-size : (p : Number) → natAbs (numberRead p) ≡ p .size
 value-size p = go (p .minus) (p .size)
   where
     go : (m : Bool) (v : ℕ) → natAbs (if m then neg v else pos v) ≡ v
@@ -155,8 +154,8 @@ OfReply (ofReply N′) N = N ≡ N′
 
 -- up to a count of the first line
 abbrev pub UpTo : Count → List ℕ → Type 0
-UpTo variables w = w ≡ ascii "p cnf "
-UpTo (clauses N) w = (N ≤ most) × (w ≡ ascii "p cnf " ++ (decimal N ++ ascii " "))
+UpTo countN w = w ≡ ascii "p cnf "
+UpTo (countM N) w = (N ≤ most) × (w ≡ ascii "p cnf " ++ (decimal N ++ ascii " "))
 
 -- up to where a number may begin
 pub record InText (N M : ℕ) (ns : List ℤ) (w : List ℕ) : Type 0 where
@@ -192,10 +191,10 @@ Reached q (word c cs s) w = Reached q s (w ++ (c ∷ cs))
 Reached q (count c) w = OfText q × UpTo c w
 Reached q (countOn c v) w = OfText q × ((v ≤ most) × ((h : List ℕ) × (UpTo c h × (w ≡ h ++ decimal v))))
 Reached q (verdict N) w = OfReply q N × (w ≡ ascii "s ")
-Reached q (reading.number k ns) w = Before q k ns w
-Reached q (within k ns p) w = Inside q k ns p w
+Reached q (atNumber k ns) w = Before q k ns w
+Reached q (inNumber k ns p) w = Inside q k ns p w
 Reached q (over (model ns)) w = (N : ℕ) × (OfReply q N × GoodReply N ns w)
-Reached q (over reading.none) w = (N : ℕ) × (OfReply q N × (w ≡ noModel))
+Reached q (over unsatisfiable) w = (N : ℕ) × (OfReply q N × (w ≡ noModel))
 
 -- no number of more than 32 bits is asked for
 abbrev pub Narrow : Which → Type 0
@@ -219,31 +218,31 @@ module _ (q : Which) (narrow : Narrow q) where
 
   count-kept : (c : Count) (w : List ℕ) (b v : ℕ) (s′ : State) → OfText q → v ≤ most → UpTo c w → counted c v (length (w ++ decimal v)) b ≡ done s′
       → Reached q s′ ((w ++ decimal v) ++ (b ∷ []))
-  count-kept variables w b v s′ o m u h =
-      let k = passed (length (w ++ decimal v)) (eqb b 32) (done (count (clauses v))) h in
+  count-kept countN w b v s′ o m u h =
+      let k = passed (length (w ++ decimal v)) (eqb b 32) (done (count (countM v))) h in
       subst (λ s. Reached q s ((w ++ decimal v) ++ (b ∷ []))) (same (k .1))
       (o, (m, append-assoc w (decimal v) (b ∷ []) ∙ ap (λ x. x ++ (decimal v ++ (b ∷ []))) u ∙ ap (λ c. ascii "p cnf " ++ (decimal v ++ (c ∷ []))) (eqb-true b 32 (k .0))))
-  count-kept (clauses N) w b v s′ o m u h =
-      let k = passed (length (w ++ decimal v)) (eqb b 10) (done (reading.number (text N v) [])) h in
+  count-kept (countM N) w b v s′ o m u h =
+      let k = passed (length (w ++ decimal v)) (eqb b 10) (done (atNumber (text N v) [])) h in
       let line : (w ++ decimal v) ++ (b ∷ []) ≡ firstLine N v ++ [] =
       ap (λ c. (w ++ decimal v) ++ (c ∷ [])) (eqb-true b 10 (k .0)) ∙ ap (λ x. (x ++ decimal v) ++ (10 ∷ [])) (u .1) ∙ simp append-assoc in
       subst (λ s. Reached q s ((w ++ decimal v) ++ (b ∷ []))) (same (k .1))
-      (o, record { small = (u .0, m); body = []; lined = line; spaced = none; known = tt; room = record { few = omega arith; ended = λ e. inl refl } })
+      (o, record { small = (u .0, m); body = []; lined = line; spaced = nothing; known = tt; room = record { few = omega arith; ended = λ e. inl refl } })
 
   begun-kept : (k : Kind) (ns : List ℤ) (w : List ℕ) (b : ℕ) (s′ : State) → Before q k ns w → free k ns ≡ true
-      → (begun (beyond k) (length w) b >>= λ p. done (within k ns p)) ≡ done s′ → Reached q s′ (w ++ (b ∷ []))
+      → (begun (beyond k) (length w) b >>= λ p. done (inNumber k ns p)) ≡ done s′ → Reached q s′ (w ++ (b ∷ []))
   begun-kept k ns w b s′ r f h =
-      let m = made (begun (beyond k) (length w) b) (λ p. done (within k ns p)) h in
+      let m = made (begun (beyond k) (length w) b) (λ p. done (inNumber k ns p)) h in
       let g = begun-fresh (beyond k) (length w) b (m .0) (m .1 .0) in
       subst (λ s. Reached q s (w ++ (b ∷ []))) (same (m .1 .1))
       (record { head = w; before = r; is = ap (λ x. w ++ x) (sym (g .is)); begins = g .begins; more = f; small = g .small; room = g .room })
 
   -- a number ends in text
   text-ended : (N M : ℕ) (ns : List ℤ) (p : Number) (w : List ℕ) (b : ℕ) → blank b ≡ true → whole p ≡ true → Inside q (text N M) ns p w
-      → Before q (text N M) (ns ++ (valueOf p ∷ [])) (w ++ (b ∷ []))
+      → Before q (text N M) (ns ++ (numberRead p ∷ [])) (w ++ (b ∷ []))
   text-ended N M ns p w b e z i =
       let t = i .before .1 in
-      let n = valueOf p in (
+      let n = numberRead p in (
         i .before .0,
         record {
           small = t .small;
@@ -257,10 +256,10 @@ module _ (q : Which) (narrow : Narrow q) where
 
   -- a literal ends in a reply, and a number may follow these bytes
   reply-goes-on : (N : ℕ) (ns : List ℤ) (p : Number) (w u u′ : List ℕ) → u ≡ u′ ++ ascii " " → whole p ≡ true → (p .size ≡ 0 → ⊥) → Inside q (reply N) ns p w
-      → ((m n : ℤ) (t : List ℕ) → Values ns m t → Values (ns ++ (m ∷ [])) n (t ++ (u ++ numeral n))) → Before q (reply N) (ns ++ (valueOf p ∷ [])) (w ++ u)
+      → ((m n : ℤ) (t : List ℕ) → Values ns m t → Values (ns ++ (m ∷ [])) n (t ++ (u ++ numeral n))) → Before q (reply N) (ns ++ (numberRead p ∷ [])) (w ++ u)
   reply-goes-on N ns p w u u′ y z f i on =
       let r = i .before .1 in
-      let n = valueOf p in
+      let n = numberRead p in
       let v : List ℕ = r .values ++ numeral n in
       let size = value-size p in (
         i .before .0,
@@ -282,7 +281,7 @@ module _ (q : Which) (narrow : Narrow q) where
   reply-ended : (N : ℕ) (ns : List ℤ) (p : Number) (w : List ℕ) (b : ℕ) → b ≡ 10 → whole p ≡ true → p .size ≡ 0 → Inside q (reply N) ns p w → GoodReply N ns (w ++ (b ∷ []))
   reply-ended N ns p w b e z f i =
       let r = i .before .1 in
-      let value : numeral (valueOf p) ≡ numeral (pos 0) = ap numeral (zero-value (valueOf p) (value-size p ∙ f)) in
+      let value : numeral (numberRead p) ≡ numeral (pos 0) = ap numeral (zero-value (numberRead p) (value-size p ∙ f)) in
       record {
         values = r .values ++ numeral (pos 0);
         lined = onto (ascii "s SATISFIABLE\n") (r .values ++ numeral (pos 0)) b (i .is ∙ ap (λ x. x ++ bytes p) (r .lined) ∙ ap (λ x. (ascii "s SATISFIABLE\n" ++ r .values) ++ x) (whole-bytes p z ∙ value)
@@ -307,11 +306,11 @@ module _ (q : Which) (narrow : Narrow q) where
         subst (λ s. Reached q s (w ++ (b ∷ []))) (same (k .1)) (N, (i .before .0, reply-ended N ns p w b (eqb-true b 10 (k .0)) z (eqb-true (p .size) 0 f) i)))
     | inr f ↦ elim (cases (eqb b 10)) [
       | inl g ↦ (let r = reply-goes-on N ns p w (ascii "\nv ") (ascii "\nv") refl z (eqb-false (p .size) 0 f) i (λ m n t v. newLine n v) in
-          let y : awaits (ascii "v ") (reading.number (reply N) (ns ++ (valueOf p ∷ []))) ≡ s′ = same (rw (f, g) at h) in
-          subst (λ s. Reached q s (w ++ (b ∷ []))) y (subst (Before q (reply N) (ns ++ (valueOf p ∷ []))) (snoc-assoc w (ascii "v ") b 10 (eqb-true b 10 g)) r))
+          let y : awaits (ascii "v ") (atNumber (reply N) (ns ++ (numberRead p ∷ []))) ≡ s′ = same (rw (f, g) at h) in
+          subst (λ s. Reached q s (w ++ (b ∷ []))) y (subst (Before q (reply N) (ns ++ (numberRead p ∷ []))) (snoc-assoc w (ascii "v ") b 10 (eqb-true b 10 g)) r))
       | inr g ↦ (let r = reply-goes-on N ns p w (ascii " ") [] refl z (eqb-false (p .size) 0 f) i (λ m n t v. onLine n v) in
-          let y : reading.number (reply N) (ns ++ (valueOf p ∷ [])) ≡ s′ = same (rw (f, g) at h) in
-          subst (λ s. Reached q s (w ++ (b ∷ []))) y (subst (λ c. Before q (reply N) (ns ++ (valueOf p ∷ [])) (w ++ (c ∷ []))) (sym (space-is b e g)) r))
+          let y : atNumber (reply N) (ns ++ (numberRead p ∷ [])) ≡ s′ = same (rw (f, g) at h) in
+          subst (λ s. Reached q s (w ++ (b ∷ []))) y (subst (λ c. Before q (reply N) (ns ++ (numberRead p ∷ [])) (w ++ (c ∷ []))) (sym (space-is b e g)) r))
     ]
   ]
 
@@ -320,13 +319,13 @@ module _ (q : Which) (narrow : Narrow q) where
   narrow-head (reply N) ns w r = narrow N (r .0)
 
   grown-kept : (k : Kind) (ns : List ℤ) (p : Number) (w : List ℕ) (b : ℕ) (s′ : State) → Inside q k ns p w
-      → (grown (beyond k) p (length w) b >>= λ p. done (within k ns p)) ≡ done s′ → Reached q s′ (w ++ (b ∷ []))
+      → (grown (beyond k) p (length w) b >>= λ p. done (inNumber k ns p)) ≡ done s′ → Reached q s′ (w ++ (b ∷ []))
   grown-kept k ns p w b s′ i h =
-      let m = made (grown (beyond k) p (length w) b) (λ p. done (within k ns p)) h in
+      let m = made (grown (beyond k) p (length w) b) (λ p. done (inNumber k ns p)) h in
       let f = passed (length w) (further p b) (need 18 (p .start) (leb (longer p b .size) (beyond k)) >> done (longer p b)) (m .1 .0) in
       let g = passed (p .start) (leb (longer p b .size) (beyond k)) (done (longer p b)) (f .1) in
       let wide-size : p .size ≤ wide = omega (arith, narrow-head k ns (i .head) (i .before), i .small) in
-      subst (λ s. Reached q s (w ++ (b ∷ []))) (ap (within k ns) (same (g .1)) ∙ same (m .1 .1))
+      subst (λ s. Reached q s (w ++ (b ∷ []))) (ap (inNumber k ns) (same (g .1)) ∙ same (m .1 .1))
       (record {
         head = i .head;
         before = i .before;
@@ -359,7 +358,7 @@ module _ (q : Which) (narrow : Narrow q) where
   ]
   kept (verdict N) w b s′ r h = elim (cases (eqb b 85)) [
     | inl e ↦ subst (λ s. Reached q s (w ++ (b ∷ []))) (same (rw e at h)) (N, (r .0, ap (λ x. (x ++ (b ∷ [])) ++ ascii "NSATISFIABLE\n") (r .1) ∙ ap (λ c. ascii "s " ++ (c ∷ ascii "NSATISFIABLE\n")) (eqb-true b 85 e)))
-    | inr e ↦ (let k = passed (length w) (eqb b 83) (done (awaits (ascii "ATISFIABLE\nv ") (reading.number (reply N) []))) (rw e at h) in
+    | inr e ↦ (let k = passed (length w) (eqb b 83) (done (awaits (ascii "ATISFIABLE\nv ") (atNumber (reply N) []))) (rw e at h) in
         subst (λ s. Reached q s (w ++ (b ∷ []))) (same (k .1)) (
           r .0,
           record {
@@ -371,7 +370,7 @@ module _ (q : Which) (narrow : Narrow q) where
           },
         ))
   ]
-  kept (reading.number (text N M) ns) w b s′ r h = elim (cases (blank b)) [
+  kept (atNumber (text N M) ns) w b s′ r h = elim (cases (blank b)) [
     | inl e ↦ (let t = r .1 in
         subst (λ s. Reached q s (w ++ (b ∷ []))) (same (rw e at h)) (
           r .0,
@@ -384,11 +383,11 @@ module _ (q : Which) (narrow : Narrow q) where
             room = t .room;
           },
         ))
-    | inr e ↦ (let k = passed (length w) (ltb (zeros ns) M) (begun N (length w) b >>= λ p. done (within (text N M) ns p)) (rw e at h) in
+    | inr e ↦ (let k = passed (length w) (ltb (zeros ns) M) (begun N (length w) b >>= λ p. done (inNumber (text N M) ns p)) (rw e at h) in
         begun-kept (text N M) ns w b s′ r (k .0) (k .1))
   ]
-  kept (reading.number (reply N) ns) w b s′ r h = begun-kept (reply N) ns w b s′ r refl h
-  kept (within k ns p) w b s′ r h = elim (cases (blank b)) [
+  kept (atNumber (reply N) ns) w b s′ r h = begun-kept (reply N) ns w b s′ r refl h
+  kept (inNumber k ns p) w b s′ r h = elim (cases (blank b)) [
     | inl e ↦ (let m = passed (length w) (whole p) (stops k ns p (length w) b) (rw e at h) in stops-kept k ns p w b s′ e (m .0) r (m .1))
     | inr e ↦ grown-kept k ns p w b s′ r (rw e at h)
   ]

@@ -18,7 +18,7 @@ use Rattle.laws.specs.Some.{some}
 use Rattle.laws.specs.Reads.{equalsZ}
 use Rattle.demands.specs.Flat.{TrueIn}
 use Rattle.definitions.specs.Texts.{GoodReply, noModel}
-use Rattle.definitions.specs.TextReading.{model, none, readReply}
+use Rattle.definitions.specs.TextReading.{model, unsatisfiable, readReply}
 use Rattle.definitions.specs.TextOperations.{often, modelOf, ReadReply}
 use Rattle.laws.specs.Stepping.{cases}
 use Rattle.demands.specs.Reached.{wide}
@@ -72,7 +72,7 @@ module _ (f : ℕ → Bool) where
 
 -- ---- 19
 -- d is the least of 1..N that is missing or present more than once, with either sign
-pub record Least (N : ℕ) (ns : List ℤ) (d : ℕ) : Type 0 where
+pub record LeastNotOnce (N : ℕ) (ns : List ℤ) (d : ℕ) : Type 0 where
   pub from : 1 ≤ d
   pub below : d ≤ N
   pub not-once : often d ns ≢ 1
@@ -88,11 +88,11 @@ module _ (N : ℕ) (ns : List ℤ) where
   all-pass : AllOnce N ns → each 19 1 (map once (countUp 1 N)) ≡ done tt
   all-pass a = every-passes once 1 N (λ v l m. eq-eqb (often v ns) 1 (a v l (omega arith)))
 
-  least-refused : (d : ℕ) → Least N ns d → each 19 1 (map once (countUp 1 N)) ≡ refused 19 d
+  least-refused : (d : ℕ) → LeastNotOnce N ns d → each 19 1 (map once (countUp 1 N)) ≡ refused 19 d
   least-refused d q =
       first-refused once 1 N d (record { from = q .from; below = omega (arith, q .below); fails = ne-eqb (often d ns) 1 (q .not-once); least = λ v l m. eq-eqb (often v ns) 1 (q .least v l m) })
 
-  pub all-once-or-one-is-least : AllOnce N ns ⊎ ((d : ℕ) × Least N ns d)
+  pub all-once-or-one-is-least : AllOnce N ns ⊎ ((d : ℕ) × LeastNotOnce N ns d)
   all-once-or-one-is-least = elim (every-or-first once 1 N) [
     | inl h ↦ inl (λ v l m. eqb-true (often v ns) 1 (h v l (omega arith)))
     | inr h ↦ (let q = h .1 in
@@ -104,14 +104,14 @@ module _ (N : ℕ) (ns : List ℤ) where
 module _ (N : ℕ) (small : N ≤ wide) (t lent : List ℕ) where
   pub none-is-none : t ≡ noModel → ReadReply N t lent ≡ (done false leaves lent)
   unfolding ReadReply
-  none-is-none e = rw (a-good-reply-is-read N small t none e)
+  none-is-none e = rw (a-good-reply-is-read N small t unsatisfiable e)
 
   module _ (ns : List ℤ) (g : GoodReply N ns t) where
     read : readReply N t ≡ done (model ns)
     read = a-good-reply-is-read N small t (model ns) g
 
     -- "then 19, a variable missing or present twice, detail the least such number"
-    pub refused-with-19-at-the-least : (d : ℕ) → Least N ns d → ReadReply N t lent ≡ (refused 19 d leaves lent)
+    pub refused-with-19-at-the-least : (d : ℕ) → LeastNotOnce N ns d → ReadReply N t lent ≡ (refused 19 d leaves lent)
     unfolding ReadReply
     refused-with-19-at-the-least d q = rw (read, least-refused N ns d q)
 

@@ -13,7 +13,7 @@ use Rattle.definitions.specs.Board.{Board}
 use Rattle.definitions.specs.Result.{Result, done, refused, _>>=_}
 use Rattle.definitions.specs.Operations.{accepted, Outcome, _leaves_, Sizes}
 use Rattle.definitions.specs.Texts.{GoodText, GoodReply, noModel}
-use Rattle.definitions.specs.TextReading.{Read, Reply, model, none, readText, readReply}
+use Rattle.definitions.specs.TextReading.{Read, Reply, model, unsatisfiable, readText, readReply}
 use Rattle.definitions.specs.TextOperations.{textOf, taken, WriteText, ReadText, ReadReply}
 use Rattle.laws.specs.Readings.{same, never}
 use Rattle.laws.specs.Stepping.{cases}
@@ -111,7 +111,7 @@ module _ (N : ℕ) (small : N ≤ wide) (t lent : List ℕ) where
     where
       to : (m : Result Reply) → readReply N t ≡ m → ReadReply N t lent .answer ≡ done true → OfModel
       to (done (model ns)) e h = given ns (only-a-good-reply-is-read N small t (model ns) e) h .1
-      to (done none) e h = not-both (same (sym (ap answered (none-is-none N small t lent (only-a-good-reply-is-read N small t none e))) ∙ h))
+      to (done unsatisfiable) e h = not-both (same (sym (ap answered (none-is-none N small t lent (only-a-good-reply-is-read N small t unsatisfiable e))) ∙ h))
       to (refused n d) e h = never (sym (ap answered (read-reply-passes-it-on n d e)) ∙ h)
 
   pub none-is-answered-exactly : (ReadReply N t lent .answer ≡ done false) ↔ (t ≡ noModel)
@@ -119,7 +119,7 @@ module _ (N : ℕ) (small : N ≤ wide) (t lent : List ℕ) where
     where
       to : (m : Result Reply) → readReply N t ≡ m → ReadReply N t lent .answer ≡ done false → t ≡ noModel
       to (done (model ns)) e h = not-both (given ns (only-a-good-reply-is-read N small t (model ns) e) h .0)
-      to (done none) e h = only-a-good-reply-is-read N small t none e
+      to (done unsatisfiable) e h = only-a-good-reply-is-read N small t unsatisfiable e
       to (refused n d) e h = never (sym (ap answered (read-reply-passes-it-on n d e)) ∙ h)
 
   pub read-reply-refusal-changes-nothing : (n d : ℕ) → ReadReply N t lent .answer ≡ refused n d → ReadReply N t lent .left ≡ lent

@@ -22,7 +22,7 @@ use Rattle.laws.specs.Mentions.{InList, literals-numbered}
 use Rattle.laws.specs.Sizes.{M-is, K-is}
 use Rattle.laws.specs.Fits.{N-fits}
 use Rattle.demands.specs.Flat.{list-numbers}
-use Rattle.definitions.specs.Texts.{numeral, blank, Spaced, none, gap, number, zeros, Ended, firstLine, GoodText}
+use Rattle.definitions.specs.Texts.{numeral, blank, Spaced, nothing, gap, number, zeros, Ended, firstLine, GoodText}
 use Rattle.definitions.specs.TextReading.{readText}
 use Rattle.definitions.specs.TextOperations.{textOf, WriteText, ReadText}
 use Rattle.demands.specs.Reached.{zeros-append, zero-or}
@@ -103,7 +103,7 @@ module _ (s : List ℕ) (B : Board) (e : accepted s ≡ done B) where
     body = flatten (map entry (clauseList B));
     lined = ap (λ l. firstLine (N B) (M B) ++ flatten (map entry l)) (take-all (K B) (clauseList B) (omega (arith, K-is B)));
     free = true;
-    spaced = spaced-entries (clauseList B) [] [] none;
+    spaced = spaced-entries (clauseList B) [] [] nothing;
     known = list-numbers B good;
     clauses = list-zeros;
     ended = list-ended;

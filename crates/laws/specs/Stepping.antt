@@ -14,7 +14,7 @@ use Rattle.definitions.specs.Result.{Result, _>>=_, _>>_, need, done, refused}
 use Rattle.definitions.specs.Dimacs.{decimal}
 use Rattle.laws.specs.Decimals.{decimal-one, decimal-more}
 use Rattle.definitions.specs.Texts.{numeral, blank, zeros, most}
-use Rattle.definitions.specs.TextReading.{digit, Number, begun, Count, Kind, text, reply, State, count, countOn, number, within, awaits, starts, beyond, step, fed}
+use Rattle.definitions.specs.TextReading.{digit, Number, begun, Count, Kind, text, reply, State, count, countOn, atNumber, inNumber, awaits, starts, beyond, step, fed}
 
 pub cases : (b : Bool) → (b ≡ true) ⊎ (b ≡ false)
 cases true = inl refl
@@ -85,9 +85,9 @@ free (reply N) ns = true
 module _ (k : Kind) (ns : List ℤ) (start : ℕ) (minus more : Bool) where
   -- the digits of v have been read, or are beyond N
   abbrev pub spelled : ℕ → Result State
-  spelled v = need 18 start (more && leb v (beyond k)) >> done (within k ns (num start minus v))
+  spelled v = need 18 start (more && leb v (beyond k)) >> done (inNumber k ns (num start minus v))
 
-  grows : (p : Number) (t : Bool) → (((need 18 start t >> done p) >>= λ q. done (within k ns q)) >>= λ s. done s) ≡ (need 18 start t >> done (within k ns p))
+  grows : (p : Number) (t : Bool) → (((need 18 start t >> done p) >>= λ q. done (inNumber k ns q)) >>= λ s. done s) ≡ (need 18 start t >> done (inNumber k ns p))
   grows p true = refl
   grows p false = refl
 
@@ -95,8 +95,8 @@ module _ (k : Kind) (ns : List ℤ) (start : ℕ) (minus more : Bool) where
   digit-more v d at l h = go more (leb v (beyond k)) refl
     where
       go : (g t : Bool) → leb v (beyond k) ≡ t
-          → ((need 18 start (g && t) >> done (within k ns (num start minus v))) >>= λ s. fed s at ((48 + d) ∷ []))
-          ≡ (need 18 start (g && leb (10 * v + d) (beyond k)) >> done (within k ns (num start minus (10 * v + d))))
+          → ((need 18 start (g && t) >> done (inNumber k ns (num start minus v))) >>= λ s. fed s at ((48 + d) ∷ []))
+          ≡ (need 18 start (g && leb (10 * v + d) (beyond k)) >> done (inNumber k ns (num start minus (10 * v + d))))
       go false t e = refl
       go true false e = rw (lt-leb (10 * v + d) (beyond k) (omega (arith, leb-false v (beyond k) e)))
       go true true e = rw (not-blank d h, is-digit d h, lt-ltb 0 v l, digit-worth d h) (grows (num start minus (10 * v + d)) (leb (10 * v + d) (beyond k)))
@@ -121,38 +121,38 @@ negative (pos v) = false
 negative (negsuc v) = true
 
 module _ (k : Kind) (ns : List ℤ) (at : ℕ) where
-  begins : (b : ℕ) → blank b ≡ false → step (number k ns) at b ≡ (need 18 at (free k ns) >> (begun (beyond k) at b >>= λ p. done (within k ns p)))
+  begins : (b : ℕ) → blank b ≡ false → step (atNumber k ns) at b ≡ (need 18 at (free k ns) >> (begun (beyond k) at b >>= λ p. done (inNumber k ns p)))
   begins b e = go k
     where
-      go : (k : Kind) → starts k ns at b ≡ (need 18 at (free k ns) >> (begun (beyond k) at b >>= λ p. done (within k ns p)))
+      go : (k : Kind) → starts k ns at b ≡ (need 18 at (free k ns) >> (begun (beyond k) at b >>= λ p. done (inNumber k ns p)))
       go (text N M) = rw e
       go (reply N) = refl
 
-  both-needed : (g t : Bool) (p : Number) → (need 18 at g >> ((need 18 at t >> done p) >>= λ p. done (within k ns p))) ≡ (need 18 at (g && t) >> done (within k ns p))
+  both-needed : (g t : Bool) (p : Number) → (need 18 at g >> ((need 18 at t >> done p) >>= λ p. done (inNumber k ns p))) ≡ (need 18 at (g && t) >> done (inNumber k ns p))
   both-needed false t p = refl
   both-needed true false p = refl
   both-needed true true p = refl
 
-  first-digit : (d : ℕ) → d < 10 → fed (number k ns) at ((48 + d) ∷ []) ≡ spelled k ns at false (free k ns) d
+  first-digit : (d : ℕ) → d < 10 → fed (atNumber k ns) at ((48 + d) ∷ []) ≡ spelled k ns at false (free k ns) d
   first-digit d h =
-      fed-one (number k ns) at (48 + d)
+      fed-one (atNumber k ns) at (48 + d)
       ∙ begins (48 + d) (not-blank d h)
       ∙ rw (not-minus d h, is-digit d h, digit-worth d h) (both-needed (free k ns) (leb d (beyond k)) (num at false d))
 
-  after-minus : (d : ℕ) → 1 ≤ d → d < 10 → fed (within k ns (num at true 0)) (suc at) ((48 + d) ∷ []) ≡ spelled k ns at true true d
+  after-minus : (d : ℕ) → 1 ≤ d → d < 10 → fed (inNumber k ns (num at true 0)) (suc at) ((48 + d) ∷ []) ≡ spelled k ns at true true d
   after-minus d l h =
       let e : 10 * 0 + ((48 + d) - 48) ≡ d = omega arith in
       rw (not-blank d h, is-digit d h, lt-ltb 48 (48 + d) (omega arith), e) (grows k ns at true true (num at true d) (leb d (beyond k)))
 
   -- a number where one may begin: read, or refused at its first byte
-  pub numeral-fed : (x : ℤ) → natAbs x < 2 ^ 64 → fed (number k ns) at (numeral x) ≡ spelled k ns at (negative x) (free k ns) (natAbs x)
+  pub numeral-fed : (x : ℤ) → natAbs x < 2 ^ 64 → fed (atNumber k ns) at (numeral x) ≡ spelled k ns at (negative x) (free k ns) (natAbs x)
   numeral-fed (pos zero) m = rw (decimal-one 0 (omega arith)) (first-digit 0 (omega arith))
-  numeral-fed (pos (suc v)) m = digits-fed k ns at false (free k ns) (number k ns) at (λ d l h. first-digit d h) (suc v) (suc v) (omega arith) (omega arith) m
+  numeral-fed (pos (suc v)) m = digits-fed k ns at false (free k ns) (atNumber k ns) at (λ d l h. first-digit d h) (suc v) (suc v) (omega arith) (omega arith) m
   numeral-fed (negsuc v) m = ap (λ m. m >>= λ s′. fed s′ (suc at) (decimal (suc v))) (begins 45 refl) ∙ go (free k ns) (leb 1 (beyond k)) refl
     where
       go : (g t : Bool) → leb 1 (beyond k) ≡ t
-          → ((need 18 at g >> ((need 18 at t >> done (num at true 0)) >>= λ p. done (within k ns p))) >>= λ s′. fed s′ (suc at) (decimal (suc v)))
+          → ((need 18 at g >> ((need 18 at t >> done (num at true 0)) >>= λ p. done (inNumber k ns p))) >>= λ s′. fed s′ (suc at) (decimal (suc v)))
           ≡ spelled k ns at true g (suc v)
       go false t e = refl
       go true false e = rw (lt-leb (suc v) (beyond k) (omega (arith, leb-false 1 (beyond k) e)))
-      go true true e = digits-fed k ns at true true (within k ns (num at true 0)) (suc at) after-minus (suc v) (suc v) (omega arith) (omega arith) m
+      go true true e = digits-fed k ns at true true (inNumber k ns (num at true 0)) (suc at) after-minus (suc v) (suc v) (omega arith) (omega arith) m

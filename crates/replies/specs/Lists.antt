@@ -15,7 +15,7 @@ use Rattle.definitions.specs.Dimacs.{ascii}
 use Rattle.laws.specs.Readings.{same, never}
 use Rattle.laws.specs.Written.{written, written-none, written-snoc, written-length}
 use Rattle.definitions.specs.Texts.{blank, zeros, most}
-use Rattle.definitions.specs.TextReading.{digit, Number, valueOf, whole, begun, further, longer, grown, text, State, number, within, step, Read, endText, readText}
+use Rattle.definitions.specs.TextReading.{digit, Number, numberRead, whole, begun, further, longer, grown, text, State, atNumber, inNumber, step, Read, endText, readText}
 use Rattle.definitions.specs.TextOperations.{ReadText}
 use Rattle.laws.specs.Stepping.{num}
 use Rattle.demands.specs.Reached.{passed, both, digit-is}
@@ -131,8 +131,8 @@ line-small t {N} {M} {next} {u} h = all (N, M, next, u) h
 
 -- ---- the list only grows
 data Holding (N M L : ℕ) : State → Type 0 where
-  free : (ns : List ℤ) → L ≤ length ns → Holding N M L (number (text N M) ns)
-  inside : (ns : List ℤ) (p : Number) → L ≤ length ns → Holding N M L (within (text N M) ns p)
+  free : (ns : List ℤ) → L ≤ length ns → Holding N M L (atNumber (text N M) ns)
+  inside : (ns : List ℤ) (p : Number) → L ≤ length ns → Holding N M L (inNumber (text N M) ns p)
 
 module _ (N M L : ℕ) where
   one-more : (ns : List ℤ) (v : ℤ) → L ≤ length ns → L ≤ length (ns ++ (v ∷ []))
@@ -140,14 +140,14 @@ module _ (N M L : ℕ) where
 
   holding-step : (s : State) (at b : ℕ) → Holding N M L s → Gives (Holding N M L) (step s at b)
   holding-step s at b (free ns l) =
-      gives-if (Holding N M L) (blank b) _ _ (gives-done (Holding N M L) (number (text N M) ns) (free ns l))
+      gives-if (Holding N M L) (blank b) _ _ (gives-done (Holding N M L) (atNumber (text N M) ns) (free ns l))
       (gives-need (Holding N M L) at (ltb (zeros ns) M) _
-      (λ e. gives-bind (Holding N M L) (begun N at b) (λ p. done (within (text N M) ns p)) (λ p k. gives-done (Holding N M L) (within (text N M) ns p) (inside ns p l))))
+      (λ e. gives-bind (Holding N M L) (begun N at b) (λ p. done (inNumber (text N M) ns p)) (λ p k. gives-done (Holding N M L) (inNumber (text N M) ns p) (inside ns p l))))
   holding-step s at b (inside ns p l) =
       gives-if (Holding N M L) (blank b) _ _
       (gives-need (Holding N M L) at (whole p) _
-      (λ e. gives-done (Holding N M L) (number (text N M) (ns ++ (valueOf p ∷ []))) (free (ns ++ (valueOf p ∷ [])) (one-more ns (valueOf p) l))))
-      (gives-bind (Holding N M L) (grown N p at b) (λ q. done (within (text N M) ns q)) (λ q k. gives-done (Holding N M L) (within (text N M) ns q) (inside ns q l)))
+      (λ e. gives-done (Holding N M L) (atNumber (text N M) (ns ++ (numberRead p ∷ []))) (free (ns ++ (numberRead p ∷ [])) (one-more ns (numberRead p) l))))
+      (gives-bind (Holding N M L) (grown N p at b) (λ q. done (inNumber (text N M) ns q)) (λ q k. gives-done (Holding N M L) (inNumber (text N M) ns q) (inside ns q l)))
 
   abbrev Long : Read → Type 0
   Long r = L ≤ length (r .list)
@@ -155,8 +155,8 @@ module _ (N M L : ℕ) where
   ends-long : (s : State) (at : ℕ) → Holding N M L s → Gives Long (endText at s)
   ends-long s at (free ns l) = gives-need Long at (eqb (zeros ns) M) _ (λ e. gives-done Long (record { n = N; m = M; list = ns }) l)
   ends-long s at (inside ns p l) =
-      let all : List ℤ = ns ++ (valueOf p ∷ []) in
-      gives-need Long at (whole p && eqb (zeros all) M) _ (λ e. gives-done Long (record { n = N; m = M; list = all }) (one-more ns (valueOf p) l))
+      let all : List ℤ = ns ++ (numberRead p ∷ []) in
+      gives-need Long at (whole p && eqb (zeros all) M) _ (λ e. gives-done Long (record { n = N; m = M; list = all }) (one-more ns (numberRead p) l))
 
   reads-long : (t : List ℕ) (s : State) (at : ℕ) → Holding N M L s → Gives Long (listFrom s at t)
   reads-long [] s at h = ends-long s (at + 0) h
@@ -177,11 +177,11 @@ module _ (N M from : ℕ) (t : List ℕ) (old : List ℤ) where
     abbrev soFar : List ℤ
     soFar = w .counts .ns
 
-    goes : listFrom (number (text N M) soFar) at (drop at t) ≡ done (f .read)
+    goes : listFrom (atNumber (text N M) soFar) at (drop at t) ≡ done (f .read)
     goes = w .counts .goes ∙ f .is
 
     so-far-fits : length soFar ≤ length old
-    so-far-fits = omega (arith, reads-long N M (length soFar) (drop at t) (number (text N M) soFar) at (free soFar (omega arith)) (f .read) goes, f .fits)
+    so-far-fits = omega (arith, reads-long N M (length soFar) (drop at t) (atNumber (text N M) soFar) at (free soFar (omega arith)) (f .read) goes, f .fits)
 
     pub now-length : length now ≡ length old
     now-length = ap length (w .list) ∙ written-length soFar old so-far-fits
@@ -189,7 +189,7 @@ module _ (N M from : ℕ) (t : List ℕ) (old : List ℤ) where
     -- one number more
     module _ (start : ℕ) (minus : Bool) (size next : ℕ) (h : foundFrom N (ltb clauses M) at (drop at t) ≡ done (holds (num start minus size) next (drop next t))) where
       abbrev value : ℤ
-      value = valueOf (num 0 minus size)
+      value = numberRead (num 0 minus size)
 
       pub number-fits : size ≤ N
       number-fits = found-small N (ltb clauses M) (drop at t) at (holds (num start minus size) next (drop next t)) h
@@ -197,8 +197,8 @@ module _ (N M from : ℕ) (t : List ℕ) (old : List ℤ) where
       pub writes-room : numbers < length old
       writes-room =
           let all : List ℤ = soFar ++ (value ∷ []) in
-          let on : listFrom (number (text N M) all) next (drop next t) ≡ done (f .read) = sym (next-is N M soFar at (drop at t) (w .counts .ended) h) ∙ goes in
-          omega (arith, reads-long N M (length all) (drop next t) (number (text N M) all) next (free all (omega arith)) (f .read) on, f .fits, length-append soFar (value ∷ []), w .counts .long)
+          let on : listFrom (atNumber (text N M) all) next (drop next t) ≡ done (f .read) = sym (next-is N M soFar at (drop at t) (w .counts .ended) h) ∙ goes in
+          omega (arith, reads-long N M (length all) (drop next t) (atNumber (text N M) all) next (free all (omega arith)) (f .read) on, f .fits, length-append soFar (value ∷ []), w .counts .long)
 
       pub writes-more : (after : ℕ) (stored : ℤ) → stored ≡ value → at < next → next ≤ length t → after ≡ (if eqb size 0 then suc clauses else clauses)
           → Writes N M from (numbers + 1) after next t old (set now numbers stored)

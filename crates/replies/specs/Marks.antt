@@ -16,7 +16,7 @@ use Rattle.definitions.specs.Result.{Result, _>>_, done, refused, each}
 use Rattle.laws.specs.Lists.{counted-at, length-countUp, countUp-append, all-countUp, map-same}
 use Rattle.laws.specs.Readings.{never}
 use Rattle.laws.specs.Search.{seek-append}
-use Rattle.definitions.specs.TextReading.{valueOf}
+use Rattle.definitions.specs.TextReading.{numberRead}
 use Rattle.definitions.specs.TextOperations.{often}
 use Rattle.laws.specs.Stepping.{num, cases}
 use Rattle.demands.specs.Reached.{value-size}
@@ -115,13 +115,13 @@ raised-once-more o = elim (cases (ltb o 2)) [
   | inr e ↦ (let l = ltb-false o 2 e in let y : min o 2 ≡ 2 = omega arith in rw y (omega arith))
 ]
 
-pub marks-more : (first k : ℕ) (ns : List ℤ) (minus : Bool) (size : ℕ) → changed raised first size (marksOf first k ns) ≡ marksOf first k (ns ++ (valueOf (num 0 minus size) ∷ []))
+pub marks-more : (first k : ℕ) (ns : List ℤ) (minus : Bool) (size : ℕ) → changed raised first size (marksOf first k ns) ≡ marksOf first k (ns ++ (numberRead (num 0 minus size) ∷ []))
 marks-more first k ns minus size = one-changed (λ v. min (often v ns) 2) (λ v. min (often v (ns ++ (z ∷ []))) 2) raised first k size
     (λ w l h. ap (λ o. min o 2) (sym (often-snoc w ns z ∙ ap (λ b. if b then suc (often w ns) else often w ns) (ne-eqb (natAbs z) w (λ y. h (sym (value-size (num 0 minus size)) ∙ y))))))
     (raised-once-more (often size ns) ∙ ap (λ o. min o 2) (sym (often-snoc size ns z ∙ ap (λ b. if b then suc (often size ns) else often size ns) (eq-eqb (natAbs z) size (value-size (num 0 minus size))))))
   where
     z : ℤ
-    z = valueOf (num 0 minus size)
+    z = numberRead (num 0 minus size)
 
 -- ---- the least that is not there once
 -- of marks

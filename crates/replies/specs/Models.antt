@@ -14,7 +14,7 @@ use Rattle.definitions.specs.Operations.{Outcome, lending, _leaves_}
 use Rattle.laws.specs.Reads.{equalsZ}
 use Rattle.laws.specs.Some.{any-append}
 use Rattle.laws.specs.Written.{written, written-snoc, written-all}
-use Rattle.definitions.specs.TextReading.{valueOf, Reply, model, none, readReply}
+use Rattle.definitions.specs.TextReading.{numberRead, Reply, model, unsatisfiable, readReply}
 use Rattle.definitions.specs.TextOperations.{modelOf, taken, ReadReply}
 use Rattle.demands.specs.GoodTexts.{yes}
 use Rattle.laws.specs.Stepping.{num, cases}
@@ -62,13 +62,13 @@ module _ (ns : List ℤ) (z : ℤ) (v : ℕ) where
       go false = refl
 
 -- no variable from 1 on has a literal with a minus
-no-minus : (v size : ℕ) → 1 ≤ v → pos v ≡ valueOf (num 0 true size) → ⊥
+no-minus : (v size : ℕ) → 1 ≤ v → pos v ≡ numberRead (num 0 true size) → ⊥
 no-minus v zero l e = let y : v ≡ 0 = cc in omega arith
 no-minus v (suc w) l e = let y : _≡_ {A = ℕ} 0 1 = cc in omega arith
 
-pub model-more : (N : ℕ) (ns : List ℤ) (minus : Bool) (size : ℕ) → withLiteral minus size (modelOf N ns) ≡ modelOf N (ns ++ (valueOf (num 0 minus size) ∷ []))
+pub model-more : (N : ℕ) (ns : List ℤ) (minus : Bool) (size : ℕ) → withLiteral minus size (modelOf N ns) ≡ modelOf N (ns ++ (numberRead (num 0 minus size) ∷ []))
 model-more N ns true size =
-    let z = valueOf (num 0 true size) in
+    let z = numberRead (num 0 true size) in
     unchanged (bit ns) (bit (ns ++ (z ∷ []))) (λ b. 1) 1 N size (λ w l h. bit-same ns z w (no-minus w size l)) (λ l. bit-same ns z size (no-minus size size l))
 model-more N ns false size =
     one-changed (bit ns) (bit (ns ++ (pos size ∷ []))) (λ b. 1) 1 N size (λ w l h. bit-same ns (pos size) w (λ e. h (sym (ap natAbs e)))) (bit-set ns (pos size) size refl)
@@ -106,12 +106,12 @@ module _ (N from : ℕ) (t lent : List ℕ) where
   answer-model e h out m = ap (λ o. done true leaves o) (m ∙ ap (λ k. modelOf k ns) h) ∙ rw (e, eq-eqb (length lent) N h)
 
 -- ---- the whole reply
-is-none : (r : Reply) → summary r ≡ without → r ≡ none
-is-none none e = refl
+is-none : (r : Reply) → summary r ≡ without → r ≡ unsatisfiable
+is-none unsatisfiable e = refl
 is-none (model ns) e = absurd (let z : _≡_ {A = ℕ} 0 1 = cc in omega arith)
 
 is-model : (r : Reply) {count : ℕ} {rising : Bool} → summary r ≡ literals count rising → (ns : List ℤ) × ((r ≡ model ns) × ((length ns ≡ count) × (inOrder 1 ns ≡ rising)))
-is-model none e = absurd (let z : _≡_ {A = ℕ} 0 1 = cc in omega arith)
+is-model unsatisfiable e = absurd (let z : _≡_ {A = ℕ} 0 1 = cc in omega arith)
 is-model (model ns) e = (ns, (refl, (cc, cc)))
 
 module _ (N : ℕ) (t lent : List ℕ) where

@@ -5,7 +5,7 @@ use Rattle.definitions.specs.Result.{Result, _>>=_, _>>_, need, done, refused}
 use Rattle.definitions.specs.Operations.{Sizes}
 use Rattle.definitions.specs.Dimacs.{ascii}
 use Rattle.definitions.specs.Texts.{blank, most}
-use Rattle.definitions.specs.TextReading.{digit, Number, valueOf, whole, begun, grown, text, reply, Reply, model, none, State, number, awaits, fed, Read, endText, endReply}
+use Rattle.definitions.specs.TextReading.{digit, Number, numberRead, whole, begun, grown, text, reply, Reply, model, unsatisfiable, State, atNumber, awaits, fed, Read, endText, endReply}
 
 -- these bytes
 abbrev pub wordAt : List ℕ → ℕ → List ℕ → Result (ℕ × List ℕ)
@@ -62,7 +62,7 @@ foundFrom N room at (b ∷ t) =
 
 -- the numbers of text are to come
 abbrev pub started : ℕ → ℕ → State
-started N M = number (text N M) []
+started N M = atNumber (text N M) []
 
 -- from a state on, to the end: text, with its N, M and K
 abbrev pub from : {A : Type 0} → (ℕ → State → Result A) → State → ℕ → List ℕ → Result A
@@ -86,7 +86,7 @@ replyFrom = from endReply
 
 -- a number is to come, at a line's beginning or in it; the first one
 abbrev pub wanted : ℕ → List ℤ → Bool → State
-wanted N ns line = awaits (if line then ascii "v " else []) (number (reply N) ns)
+wanted N ns line = awaits (if line then ascii "v " else []) (atNumber (reply N) ns)
 
 abbrev pub lines : ℕ → State
 lines N = wanted N [] true
@@ -104,7 +104,7 @@ abbrev pub afterNumber : Number → ℕ → List ℕ → Result Taken
 afterNumber p at [] = refused 18 at
 afterNumber p at (b ∷ t) =
     if eqb (p .size) 0 then need 18 at (eqb b 10) >> nothing last (suc at) t
-    else done (more (valueOf p) (eqb b 10) (suc at) t)
+    else done (more (numberRead p) (eqb b 10) (suc at) t)
 
 abbrev pub numberOn : ℕ → ℕ → List ℕ → Result Taken
 numberOn N at t = numberAt N at t >>= λ r. afterNumber (r .0) (r .1) (r .2)
@@ -123,7 +123,7 @@ pub data Summary : Type 0 where
   literals : ℕ → Bool → Summary
 
 abbrev pub summary : Reply → Summary
-summary none = without
+summary unsatisfiable = without
 summary (model ns) = literals (length ns) (inOrder 1 ns)
 
 abbrev pub summed : Result Reply → Result Summary
@@ -131,7 +131,7 @@ summed m = m >>= λ r. done (summary r)
 
 -- from the verdict's word on
 abbrev pub noneAt : ℕ → List ℕ → Result Reply
-noneAt at t = wordAt (ascii "UNSATISFIABLE\n") at t >>= λ p. nothing none (p .0) (p .1)
+noneAt at t = wordAt (ascii "UNSATISFIABLE\n") at t >>= λ p. nothing unsatisfiable (p .0) (p .1)
 
 abbrev pub modelAt : ℕ → ℕ → List ℕ → Result Reply
 modelAt N at t = wordAt (ascii "SATISFIABLE\n") at t >>= λ p. replyFrom (lines N) (p .0) (p .1)
@@ -139,7 +139,7 @@ modelAt N at t = wordAt (ascii "SATISFIABLE\n") at t >>= λ p. replyFrom (lines 
 -- the literals that are read from a place on, and that there a model is read
 abbrev pub literalsOf : Result Reply → List ℤ
 literalsOf (done (model ns)) = ns
-literalsOf (done none) = []
+literalsOf (done unsatisfiable) = []
 literalsOf (refused n d) = []
 
 abbrev pub literalsFrom : ℕ → ℕ → List ℕ → List ℤ

@@ -17,7 +17,7 @@ use Rattle.definitions.specs.Result.{Result, _>>=_, _>>_, need, done, refused}
 use Rattle.definitions.specs.Dimacs.{ascii}
 use Rattle.laws.specs.Readings.{never}
 use Rattle.definitions.specs.Texts.{blank}
-use Rattle.definitions.specs.TextReading.{Number, valueOf, whole, begun, grown, reply, Reply, model, none, State, verdict, number, within, over, awaits, stops, fed, endReply, readReply}
+use Rattle.definitions.specs.TextReading.{Number, numberRead, whole, begun, grown, reply, Reply, model, unsatisfiable, State, verdict, atNumber, inNumber, over, awaits, stops, fed, endReply, readReply}
 use Rattle.definitions.specs.TextOperations.{often}
 use Rattle.laws.specs.Stepping.{num, cases}
 use Rattle.demands.specs.Reached.{value-size}
@@ -34,7 +34,7 @@ module _ (p : Number) (t : List ℕ) (at : ℕ) where
   after-none h = rw (nothing-left t at h)
 
   module _ (h : at < length t) where
-    pub after-literal : (p .size ≡ 0 → ⊥) → afterNumber p at (drop at t) ≡ done (more (valueOf p) (eqb (getD t at 0) 10) (at + 1) (drop (at + 1) t))
+    pub after-literal : (p .size ≡ 0 → ⊥) → afterNumber p at (drop at t) ≡ done (more (numberRead p) (eqb (getD t at 0) 10) (at + 1) (drop (at + 1) t))
     after-literal s = rw (add-one at, drop-cons t at 0 h, ne-eqb (p .size) 0 s)
 
     module _ (z : p .size ≡ 0) where
@@ -101,21 +101,21 @@ module _ (N : ℕ) (ns : List ℤ) where
   stopped p at b t = go (eqb (p .size) 0) (eqb b 10)
     where
       all : State
-      all = wanted N (ns ++ (valueOf p ∷ [])) (eqb b 10)
+      all = wanted N (ns ++ (numberRead p ∷ [])) (eqb b 10)
 
       go : (z e : Bool) → ((if z then need 18 at e >> done (over (model ns)) else done all) >>= λ s. replyFrom s (suc at) t)
-          ≡ ((if z then need 18 at e >> nothing last (suc at) t else done (more (valueOf p) (eqb b 10) (suc at) t)) >>= onTaken)
+          ≡ ((if z then need 18 at e >> nothing last (suc at) t else done (more (numberRead p) (eqb b 10) (suc at) t)) >>= onTaken)
       go true true = over-parts (model ns) (suc at) t ∙ nothing-on (suc at) t
       go true false = refl
       go false e = refl
 
-  within-goes : (p : Number) (at : ℕ) (t : List ℕ) → replyFrom (within (reply N) ns p) at t ≡ (numberFrom N p at t >>= goOn)
+  within-goes : (p : Number) (at : ℕ) (t : List ℕ) → replyFrom (inNumber (reply N) ns p) at t ≡ (numberFrom N p at t >>= goOn)
   within-goes p at [] = rw (add-zero at) (go (whole p))
     where
       go : (w : Bool) → refused 18 at ≡ ((need 18 at w >> done (p, at, [])) >>= goOn)
       go true = refl
       go false = refl
-  within-goes p at (b ∷ t) = from-step endReply (within (reply N) ns p) at b t ∙ elim (cases (blank b)) [
+  within-goes p at (b ∷ t) = from-step endReply (inNumber (reply N) ns p) at b t ∙ elim (cases (blank b)) [
     | inl e ↦ rw e (blanks (whole p))
     | inr e ↦ rw e (grows (grown N p at b) (λ q. within-goes q (suc at) t))
   ]
@@ -124,16 +124,16 @@ module _ (N : ℕ) (ns : List ℤ) where
       blanks true = stopped p at b t
       blanks false = refl
 
-      grows : (g : Result Number) → ((q : Number) → replyFrom (within (reply N) ns q) (suc at) t ≡ (numberFrom N q (suc at) t >>= goOn))
-          → ((g >>= λ q. done (within (reply N) ns q)) >>= λ s. replyFrom s (suc at) t) ≡ ((g >>= λ q. numberFrom N q (suc at) t) >>= goOn)
+      grows : (g : Result Number) → ((q : Number) → replyFrom (inNumber (reply N) ns q) (suc at) t ≡ (numberFrom N q (suc at) t >>= goOn))
+          → ((g >>= λ q. done (inNumber (reply N) ns q)) >>= λ s. replyFrom s (suc at) t) ≡ ((g >>= λ q. numberFrom N q (suc at) t) >>= goOn)
       grows (done q) k = k q
       grows (refused n d) k = refl
 
-  number-goes : (at : ℕ) (t : List ℕ) → replyFrom (number (reply N) ns) at t ≡ (numberOn N at t >>= onTaken)
+  number-goes : (at : ℕ) (t : List ℕ) → replyFrom (atNumber (reply N) ns) at t ≡ (numberOn N at t >>= onTaken)
   number-goes at [] = rw (add-zero at)
-  number-goes at (b ∷ t) = from-step endReply (number (reply N) ns) at b t ∙ begins (begun N at b) ∙ regroup (begun N at b >>= λ p. numberFrom N p (suc at) t)
+  number-goes at (b ∷ t) = from-step endReply (atNumber (reply N) ns) at b t ∙ begins (begun N at b) ∙ regroup (begun N at b >>= λ p. numberFrom N p (suc at) t)
     where
-      begins : (g : Result Number) → ((g >>= λ p. done (within (reply N) ns p)) >>= λ s. replyFrom s (suc at) t) ≡ ((g >>= λ p. numberFrom N p (suc at) t) >>= goOn)
+      begins : (g : Result Number) → ((g >>= λ p. done (inNumber (reply N) ns p)) >>= λ s. replyFrom s (suc at) t) ≡ ((g >>= λ p. numberFrom N p (suc at) t) >>= goOn)
       begins (done p) = within-goes p (suc at) t
       begins (refused n d) = refl
 
@@ -143,9 +143,9 @@ module _ (N : ℕ) (ns : List ℤ) where
 
   values-go : (line : Bool) (at : ℕ) (t : List ℕ) → replyFrom (wanted N ns line) at t ≡ (valueAt N line at t >>= onTaken)
   values-go false at t = number-goes at t
-  values-go true at t = word-parts endReply (λ c cs s n. refl) (ascii "v ") [] (number (reply N) ns) at t ∙ go (wordAt (ascii "v ") at t)
+  values-go true at t = word-parts endReply (λ c cs s n. refl) (ascii "v ") [] (atNumber (reply N) ns) at t ∙ go (wordAt (ascii "v ") at t)
     where
-      go : (m : Result (ℕ × List ℕ)) → (m >>= λ p. replyFrom (number (reply N) ns) (p .0) (p .1)) ≡ ((m >>= λ p. numberOn N (p .0) (p .1)) >>= onTaken)
+      go : (m : Result (ℕ × List ℕ)) → (m >>= λ p. replyFrom (atNumber (reply N) ns) (p .0) (p .1)) ≡ ((m >>= λ p. numberOn N (p .0) (p .1)) >>= onTaken)
       go (done p) = number-goes (p .0) (p .1)
       go (refused n d) = refl
 
@@ -206,11 +206,11 @@ module _ (N from : ℕ) (t : List ℕ) where
 
   module _ {line : Bool} {count : ℕ} {rising : Bool} {at : ℕ} (k : Literals N from line count rising at t) where
     pub literals-more : (minus : Bool) (size : ℕ) (begins : Bool) (next : ℕ) (rises : Bool)
-        → valueAt N line at (drop at t) ≡ done (more (valueOf (num 0 minus size)) begins next (drop next t)) → at < next → next ≤ length t
+        → valueAt N line at (drop at t) ≡ done (more (numberRead (num 0 minus size)) begins next (drop next t)) → at < next → next ≤ length t
         → rises ≡ (rising && eqb size (count + 1)) → Literals N from begins (count + 1) rises next t
     unfolding passed-more
     literals-more minus size begins next rises f l m r =
-        let z = valueOf (num 0 minus size) in
+        let z = numberRead (num 0 minus size) in
         let ns = k .passed .ns in
         let e : 1 + length ns ≡ count + 1 = omega (arith, k .long) in
         record {
@@ -256,11 +256,11 @@ module _ {A : Type 0} (f : List ℤ → A) (N from : ℕ) (t : List ℕ) where
     passing-bad g h = never (sym (passed-bad N from t (k .passed) h) ∙ g .is)
 
 -- ---- a whole reply
-no-literals : {B : Type 0} {count : ℕ} {rising : Bool} (w : Result (ℕ × List ℕ)) → done (literals count rising) ≡ summed (w >>= λ p. nothing none (p .0) (p .1)) → B
+no-literals : {B : Type 0} {count : ℕ} {rising : Bool} (w : Result (ℕ × List ℕ)) → done (literals count rising) ≡ summed (w >>= λ p. nothing unsatisfiable (p .0) (p .1)) → B
 no-literals (refused n d) e = never (sym e)
 no-literals {B} {count} {rising} (done p) e = go (p .1) e
   where
-    go : (u : List ℕ) → done (literals count rising) ≡ summed (nothing none (p .0) u) → B
+    go : (u : List ℕ) → done (literals count rising) ≡ summed (nothing unsatisfiable (p .0) u) → B
     go [] e = absurd (let z : _≡_ {A = ℕ} 0 1 = cc in omega arith)
     go (b ∷ u) e = never (sym e)
 
@@ -271,17 +271,17 @@ module _ (at : ℕ) (t : List ℕ) where
   none-in N s m (Heard.Bad d) e = tt
 
   pub none-wrong : {n d : ℕ} → wordAt (ascii "UNSATISFIABLE\n") at t ≡ refused n d → refused n d ≡ summed (noneAt at t)
-  none-wrong h = sym (ap summed (ap (λ m. m >>= λ p. nothing none (p .0) (p .1)) h))
+  none-wrong h = sym (ap summed (ap (λ m. m >>= λ p. nothing unsatisfiable (p .0) (p .1)) h))
 
   module _ (s : List ℕ) {next : ℕ} (h : wordAt (ascii "UNSATISFIABLE\n") at t ≡ done (next, drop next s)) where
-    none-on : noneAt at t ≡ nothing none next (drop next s)
-    none-on = ap (λ m. m >>= λ p. nothing none (p .0) (p .1)) h
+    none-on : noneAt at t ≡ nothing unsatisfiable next (drop next s)
+    none-on = ap (λ m. m >>= λ p. nothing unsatisfiable (p .0) (p .1)) h
 
     pub none-ends : length s ≤ next → done without ≡ summed (noneAt at t)
-    none-ends l = sym (ap summed (none-on ∙ ap (nothing none next) (nothing-left s next l)))
+    none-ends l = sym (ap summed (none-on ∙ ap (nothing unsatisfiable next) (nothing-left s next l)))
 
     pub none-more : next < length s → refused 18 next ≡ summed (noneAt at t)
-    none-more l = sym (ap summed (none-on ∙ ap (nothing none next) (drop-cons s next 0 l)))
+    none-more l = sym (ap summed (none-on ∙ ap (nothing unsatisfiable next) (drop-cons s next 0 l)))
 
   module _ (N : ℕ) where
     abbrev onLines : ℕ × List ℕ → Result Reply
@@ -307,19 +307,19 @@ module _ (N : ℕ) where
   judged-none : (at : ℕ) (t : List ℕ) → judged at (85 ∷ t) ≡ noneAt at (85 ∷ t)
   judged-none at t =
       from-step endReply (verdict N) at 85 t
-      ∙ word-parts endReply (λ c cs s n. refl) (ascii "NSATISFIABLE\n") [] (over none) (suc at) t
+      ∙ word-parts endReply (λ c cs s n. refl) (ascii "NSATISFIABLE\n") [] (over unsatisfiable) (suc at) t
       ∙ go (wordAt (ascii "NSATISFIABLE\n") (suc at) t)
     where
-      go : (m : Result (ℕ × List ℕ)) → (m >>= λ p. replyFrom (over none) (p .0) (p .1)) ≡ (m >>= λ p. nothing none (p .0) (p .1))
-      go (done p) = over-parts none (p .0) (p .1)
+      go : (m : Result (ℕ × List ℕ)) → (m >>= λ p. replyFrom (over unsatisfiable) (p .0) (p .1)) ≡ (m >>= λ p. nothing unsatisfiable (p .0) (p .1))
+      go (done p) = over-parts unsatisfiable (p .0) (p .1)
       go (refused n d) = refl
 
   judged-model : (at b : ℕ) (t : List ℕ) → (b ≡ 85 → ⊥) → judged at (b ∷ t) ≡ modelAt N at (b ∷ t)
   judged-model at b t h = from-step endReply (verdict N) at b t ∙ rw (ne-eqb b 85 h) (go (eqb b 83))
     where
-      go : (e : Bool) → ((need 18 at e >> done (awaits (ascii "ATISFIABLE\nv ") (number (reply N) []))) >>= λ s. replyFrom s (suc at) t)
+      go : (e : Bool) → ((need 18 at e >> done (awaits (ascii "ATISFIABLE\nv ") (atNumber (reply N) []))) >>= λ s. replyFrom s (suc at) t)
           ≡ ((if e then wordAt (ascii "ATISFIABLE\n") (suc at) t else refused 18 at) >>= λ p. replyFrom (lines N) (p .0) (p .1))
-      go true = word-parts endReply (λ c cs s n. refl) (ascii "ATISFIABLE\n") (ascii "v ") (number (reply N) []) (suc at) t
+      go true = word-parts endReply (λ c cs s n. refl) (ascii "ATISFIABLE\n") (ascii "v ") (atNumber (reply N) []) (suc at) t
       go false = refl
 
 module _ (N : ℕ) (t : List ℕ) where

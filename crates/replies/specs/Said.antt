@@ -2,7 +2,7 @@
 use Rattle.definitions.specs.Tools.{ℕ, _≤_, _≡_, Bool, true, false, List, drop, length}
 use Prim.Native.Nat.{_<_}
 use Rattle.definitions.specs.Result.{Result, done, refused}
-use Rattle.definitions.specs.TextReading.{Number, valueOf, Reply}
+use Rattle.definitions.specs.TextReading.{Number, numberRead, Reply}
 use Rattle.laws.specs.Stepping.{num}
 use Rattle.definitions.specs.Operations.{Sizes}
 use Rattle.replies.specs.Parts.{Found, ends, holds, sizes, replyFrom, lines, Taken, last, more, Summary, without, literals}
@@ -73,7 +73,7 @@ saidChecked (Checked.Sizes n m k) = done (sizes n m k)
 saidChecked (Checked.Bad d) = refused 18 d
 
 abbrev pub saidValue : List ℕ → Value → Result Taken
-saidValue t (Value.Literal minus size line next) = done (more (valueOf (num 0 minus size)) line next (drop next t))
+saidValue t (Value.Literal minus size line next) = done (more (numberRead (num 0 minus size)) line next (drop next t))
 saidValue t Value.Last = done last
 saidValue t (Value.Bad d) = refused 18 d
 

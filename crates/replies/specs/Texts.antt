@@ -15,7 +15,7 @@ use Rattle.definitions.specs.Result.{Result, _>>=_, _>>_, need, done, refused}
 use Rattle.definitions.specs.Operations.{Sizes}
 use Rattle.definitions.specs.Dimacs.{ascii}
 use Rattle.definitions.specs.Texts.{blank, zeros, most}
-use Rattle.definitions.specs.TextReading.{digit, Number, valueOf, whole, begun, grown, Count, variables, clauses, text, State, word, count, countOn, number, within, awaits, counted, step, fed, Read, endText, readText}
+use Rattle.definitions.specs.TextReading.{digit, Number, numberRead, whole, begun, grown, Count, countN, countM, text, State, word, count, countOn, atNumber, inNumber, awaits, counted, step, fed, Read, endText, readText}
 use Rattle.laws.specs.Stepping.{num, cases}
 use Rattle.demands.specs.Reached.{zeros-append}
 use Rattle.replies.specs.declared.Count.{Count as CountAnswer}
@@ -43,41 +43,41 @@ list-step = from-step endText
 -- ---- the numbers, number by number
 module _ (N M : ℕ) (ns : List ℤ) where
   abbrev onNumber : Number × ℕ × List ℕ → Result Read
-  onNumber r = listFrom (number (text N M) (ns ++ (valueOf (r .0) ∷ []))) (r .1) (r .2)
+  onNumber r = listFrom (atNumber (text N M) (ns ++ (numberRead (r .0) ∷ []))) (r .1) (r .2)
 
   abbrev pub onFound : Found → Result Read
   onFound (ends at) = need 18 at (eqb (zeros ns) M) >> done (record { n = N; m = M; list = ns })
   onFound (holds p next rest) = onNumber (p, next, rest)
 
-  within-parts : (p : Number) (at : ℕ) (t : List ℕ) → listFrom (within (text N M) ns p) at t ≡ (numberFrom N p at t >>= onNumber)
+  within-parts : (p : Number) (at : ℕ) (t : List ℕ) → listFrom (inNumber (text N M) ns p) at t ≡ (numberFrom N p at t >>= onNumber)
   within-parts p at [] = rw (add-zero at) (go (whole p))
     where
       all : List ℤ
-      all = ns ++ (valueOf p ∷ [])
+      all = ns ++ (numberRead p ∷ [])
 
       go : (w : Bool) → (need 18 at (w && eqb (zeros all) M) >> done (record { n = N; m = M; list = all })) ≡ ((need 18 at w >> done (p, at, [])) >>= onNumber)
       go true = rw (add-zero at)
       go false = refl
-  within-parts p at (b ∷ t) = list-step (within (text N M) ns p) at b t ∙ elim (cases (blank b)) [
+  within-parts p at (b ∷ t) = list-step (inNumber (text N M) ns p) at b t ∙ elim (cases (blank b)) [
     | inl e ↦ rw e (blanks (whole p) e)
     | inr e ↦ rw e (grows (grown N p at b) (λ q. within-parts q (suc at) t))
   ]
     where
       all : List ℤ
-      all = ns ++ (valueOf p ∷ [])
+      all = ns ++ (numberRead p ∷ [])
 
-      blanks : (w : Bool) → blank b ≡ true → ((need 18 at w >> done (number (text N M) all)) >>= λ s′. listFrom s′ (suc at) t) ≡ ((need 18 at w >> done (p, at, b ∷ t)) >>= onNumber)
-      blanks true e = sym (list-step (number (text N M) all) at b t ∙ rw e)
+      blanks : (w : Bool) → blank b ≡ true → ((need 18 at w >> done (atNumber (text N M) all)) >>= λ s′. listFrom s′ (suc at) t) ≡ ((need 18 at w >> done (p, at, b ∷ t)) >>= onNumber)
+      blanks true e = sym (list-step (atNumber (text N M) all) at b t ∙ rw e)
       blanks false e = refl
 
-      grows : (g : Result Number) → ((q : Number) → listFrom (within (text N M) ns q) (suc at) t ≡ (numberFrom N q (suc at) t >>= onNumber))
-          → ((g >>= λ q. done (within (text N M) ns q)) >>= λ s′. listFrom s′ (suc at) t) ≡ ((g >>= λ q. numberFrom N q (suc at) t) >>= onNumber)
+      grows : (g : Result Number) → ((q : Number) → listFrom (inNumber (text N M) ns q) (suc at) t ≡ (numberFrom N q (suc at) t >>= onNumber))
+          → ((g >>= λ q. done (inNumber (text N M) ns q)) >>= λ s′. listFrom s′ (suc at) t) ≡ ((g >>= λ q. numberFrom N q (suc at) t) >>= onNumber)
       grows (done q) k = k q
       grows (refused n d) k = refl
 
-  free-parts : (at : ℕ) (t : List ℕ) → listFrom (number (text N M) ns) at t ≡ (foundFrom N (ltb (zeros ns) M) at t >>= onFound)
+  free-parts : (at : ℕ) (t : List ℕ) → listFrom (atNumber (text N M) ns) at t ≡ (foundFrom N (ltb (zeros ns) M) at t >>= onFound)
   free-parts at [] = rw (add-zero at)
-  free-parts at (b ∷ t) = list-step (number (text N M) ns) at b t ∙ elim (cases (blank b)) [
+  free-parts at (b ∷ t) = list-step (atNumber (text N M) ns) at b t ∙ elim (cases (blank b)) [
     | inl e ↦ rw e (free-parts (suc at) t)
     | inr e ↦ rw e (go (ltb (zeros ns) M))
   ]
@@ -86,29 +86,29 @@ module _ (N M : ℕ) (ns : List ℤ) where
       regroup (done r) = refl
       regroup (refused n d) = refl
 
-      begins : (g : Result Number) → ((g >>= λ p. done (within (text N M) ns p)) >>= λ s′. listFrom s′ (suc at) t)
+      begins : (g : Result Number) → ((g >>= λ p. done (inNumber (text N M) ns p)) >>= λ s′. listFrom s′ (suc at) t)
           ≡ (((g >>= λ p. numberFrom N p (suc at) t) >>= λ r. done (holds (r .0) (r .1) (r .2))) >>= onFound)
       begins (done p) = within-parts p (suc at) t ∙ regroup (numberFrom N p (suc at) t)
       begins (refused n d) = refl
 
-      go : (room : Bool) → ((need 18 at room >> (begun N at b >>= λ p. done (within (text N M) ns p))) >>= λ s′. listFrom s′ (suc at) t)
+      go : (room : Bool) → ((need 18 at room >> (begun N at b >>= λ p. done (inNumber (text N M) ns p))) >>= λ s′. listFrom s′ (suc at) t)
           ≡ ((need 18 at room >> ((begun N at b >>= λ p. numberFrom N p (suc at) t) >>= λ r. done (holds (r .0) (r .1) (r .2)))) >>= onFound)
       go true = begins (begun N at b)
       go false = refl
 
   module _ (at : ℕ) (t : List ℕ) {z : ℕ} (e : zeros ns ≡ z) where
-    pub next-is : {f : Found} → foundFrom N (ltb z M) at t ≡ done f → listFrom (number (text N M) ns) at t ≡ onFound f
+    pub next-is : {f : Found} → foundFrom N (ltb z M) at t ≡ done f → listFrom (atNumber (text N M) ns) at t ≡ onFound f
     next-is h = free-parts at t ∙ rw (e, h)
 
-    pub next-bad : {n d : ℕ} → foundFrom N (ltb z M) at t ≡ refused n d → listFrom (number (text N M) ns) at t ≡ refused n d
+    pub next-bad : {n d : ℕ} → foundFrom N (ltb z M) at t ≡ refused n d → listFrom (atNumber (text N M) ns) at t ≡ refused n d
     next-bad h = free-parts at t ∙ rw (e, h)
 
 pub at-most : (b : Bool) (n : ℕ) → (if b then suc n else n) ≤ suc n
 at-most true n = omega arith
 at-most false n = omega arith
 
-pub zeros-snoc : (ns : List ℤ) (minus : Bool) (size : ℕ) → zeros (ns ++ (valueOf (num 0 minus size) ∷ [])) ≡ (if eqb size 0 then suc (zeros ns) else zeros ns)
-zeros-snoc ns minus size = zeros-append ns (valueOf (num 0 minus size) ∷ []) ∙ go minus size
+pub zeros-snoc : (ns : List ℤ) (minus : Bool) (size : ℕ) → zeros (ns ++ (numberRead (num 0 minus size) ∷ [])) ≡ (if eqb size 0 then suc (zeros ns) else zeros ns)
+zeros-snoc ns minus size = zeros-append ns (numberRead (num 0 minus size) ∷ []) ∙ go minus size
   where
     go : (minus : Bool) (size : ℕ) → zeros ns + zeros ((if minus then neg size else pos size) ∷ []) ≡ (if eqb size 0 then suc (zeros ns) else zeros ns)
     go true zero = omega arith
@@ -117,45 +117,45 @@ zeros-snoc ns minus size = zeros-append ns (valueOf (num 0 minus size) ∷ []) �
     go false (suc v) = rw (leb·suc-zero v, ne-eqb (suc v) 0 (λ e. omega arith)) (omega arith)
 
 -- what is counted so far of the numbers from a place on
-pub record Counts (N M from numbers clauses at : ℕ) (t : List ℕ) : Type 0 where
+pub record Counts (N M from numbers countM at : ℕ) (t : List ℕ) : Type 0 where
   pub ns : List ℤ
   pub long : length ns ≡ numbers
-  pub ended : zeros ns ≡ clauses
-  pub few : clauses ≤ numbers
+  pub ended : zeros ns ≡ countM
+  pub few : countM ≤ numbers
   pub short : numbers ≤ at
   pub inside : at ≤ length t
-  pub goes : listFrom (number (text N M) ns) at (drop at t) ≡ listFrom (started N M) from (drop from t)
+  pub goes : listFrom (atNumber (text N M) ns) at (drop at t) ≡ listFrom (started N M) from (drop from t)
 
 module _ (N M from : ℕ) (t : List ℕ) where
   unfoldable pub counts-none : from ≤ length t → Counts N M from 0 0 from t
   counts-none h = record { ns = []; long = refl; ended = refl; few = omega arith; short = omega arith; inside = h; goes = refl }
 
-  module _ {numbers clauses at : ℕ} (k : Counts N M from numbers clauses at t) where
-    unfoldable pub counts-more : (start : ℕ) (minus : Bool) (size next after : ℕ) → foundFrom N (ltb clauses M) at (drop at t) ≡ done (holds (num start minus size) next (drop next t)) → at < next → next ≤ length t
-        → after ≡ (if eqb size 0 then suc clauses else clauses) → Counts N M from (numbers + 1) after next t
+  module _ {numbers countM at : ℕ} (k : Counts N M from numbers countM at t) where
+    unfoldable pub counts-more : (start : ℕ) (minus : Bool) (size next after : ℕ) → foundFrom N (ltb countM M) at (drop at t) ≡ done (holds (num start minus size) next (drop next t)) → at < next → next ≤ length t
+        → after ≡ (if eqb size 0 then suc countM else countM) → Counts N M from (numbers + 1) after next t
     counts-more start minus size next after f l m e =
         let p = num start minus size in
         let z = zeros-snoc (k .ns) minus size in
-        let w : zeros (k .ns ++ (valueOf p ∷ [])) ≡ after = z ∙ rw (k .ended) (sym e) in
+        let w : zeros (k .ns ++ (numberRead p ∷ [])) ≡ after = z ∙ rw (k .ended) (sym e) in
         record {
-          ns = k .ns ++ (valueOf p ∷ []);
-          long = omega (arith, length-append (k .ns) (valueOf p ∷ []), k .long);
+          ns = k .ns ++ (numberRead p ∷ []);
+          long = omega (arith, length-append (k .ns) (numberRead p ∷ []), k .long);
           ended = w;
-          few = omega (arith, e, at-most (eqb size 0) clauses, k .few);
+          few = omega (arith, e, at-most (eqb size 0) countM, k .few);
           short = omega (arith, k .short);
           inside = m;
           goes = sym (next-is N M (k .ns) at (drop at t) (k .ended) f) ∙ k .goes;
         }
 
-    pub counts-bad : (d : ℕ) → foundFrom N (ltb clauses M) at (drop at t) ≡ refused 18 d → refused 18 d ≡ sized (listFrom (started N M) from (drop from t))
+    pub counts-bad : (d : ℕ) → foundFrom N (ltb countM M) at (drop at t) ≡ refused 18 d → refused 18 d ≡ sized (listFrom (started N M) from (drop from t))
     counts-bad d f = ap sized (sym (next-bad N M (k .ns) at (drop at t) (k .ended) f) ∙ k .goes)
 
-    pub counts-all : (end : ℕ) → foundFrom N (ltb clauses M) at (drop at t) ≡ done (ends end) → clauses ≡ M → done (sizes N M numbers) ≡ sized (listFrom (started N M) from (drop from t))
+    pub counts-all : (end : ℕ) → foundFrom N (ltb countM M) at (drop at t) ≡ done (ends end) → countM ≡ M → done (sizes N M numbers) ≡ sized (listFrom (started N M) from (drop from t))
     counts-all end f e =
         let l : onFound N M (k .ns) (ends end) ≡ done (record { n = N; m = M; list = k .ns }) = rw (eq-eqb (zeros (k .ns)) M (k .ended ∙ e)) in
         ap (λ n. done (sizes N M n)) (sym (k .long)) ∙ ap sized (sym (next-is N M (k .ns) at (drop at t) (k .ended) f ∙ l) ∙ k .goes)
 
-    pub counts-short : (end : ℕ) → foundFrom N (ltb clauses M) at (drop at t) ≡ done (ends end) → (clauses ≡ M → ⊥) → refused 18 end ≡ sized (listFrom (started N M) from (drop from t))
+    pub counts-short : (end : ℕ) → foundFrom N (ltb countM M) at (drop at t) ≡ done (ends end) → (countM ≡ M → ⊥) → refused 18 end ≡ sized (listFrom (started N M) from (drop from t))
     counts-short end f e =
         let l : onFound N M (k .ns) (ends end) ≡ refused 18 end = rw (ne-eqb (zeros (k .ns)) M (λ z. e (sym (k .ended) ∙ z))) in
         ap sized (sym (next-is N M (k .ns) at (drop at t) (k .ended) f ∙ l) ∙ k .goes)
@@ -163,19 +163,19 @@ module _ (N M from : ℕ) (t : List ℕ) where
 -- ---- the first line
 -- the byte that stands after a count, and what follows it
 abbrev ender : Count → ℕ
-ender variables = 32
-ender (clauses N) = 10
+ender countN = 32
+ender (countM N) = 10
 
 abbrev following : Count → ℕ → State
-following variables v = count (clauses v)
-following (clauses N) v = started N v
+following countN v = count (countM v)
+following (countM N) v = started N v
 
 abbrev ended : Count → ℕ × ℕ × List ℕ → Result Read
 ended c p = wordAt (ender c ∷ []) (p .1) (p .2) >>= λ e. listFrom (following c (p .0)) (e .0) (e .1)
 
 counted-is : (c : Count) (v at b : ℕ) → counted c v at b ≡ (need 18 at (eqb b (ender c)) >> done (following c v))
-counted-is variables v at b = refl
-counted-is (clauses N) v at b = refl
+counted-is countN v at b = refl
+counted-is (countM N) v at b = refl
 
 abbrev past : ℕ → List ℕ → Result (ℕ × List ℕ)
 past at t = done (at, t)
@@ -223,10 +223,10 @@ end-parts N M at t = go (wordAt (ascii "\n") at t)
     go (refused n d) = refl
 
 -- after N: the space, M and the newline
-rest-parts : (N at : ℕ) (t : List ℕ) → (wordAt (ascii " ") at t >>= λ e. listFrom (count (clauses N)) (e .0) (e .1)) ≡ (restAt N at t >>= body)
-rest-parts N at t = sym (list-word (ascii " ") (count (clauses N)) at t) ∙ both-parts (ascii " ") (clauses N) at t ∙ go (wordCount (ascii " ") at t)
+rest-parts : (N at : ℕ) (t : List ℕ) → (wordAt (ascii " ") at t >>= λ e. listFrom (count (countM N)) (e .0) (e .1)) ≡ (restAt N at t >>= body)
+rest-parts N at t = sym (list-word (ascii " ") (count (countM N)) at t) ∙ both-parts (ascii " ") (countM N) at t ∙ go (wordCount (ascii " ") at t)
   where
-    go : (m : Result (ℕ × ℕ × List ℕ)) → (m >>= ended (clauses N)) ≡ ((m >>= λ m. endAt N (m .0) (m .1) (m .2)) >>= body)
+    go : (m : Result (ℕ × ℕ × List ℕ)) → (m >>= ended (countM N)) ≡ ((m >>= λ m. endAt N (m .0) (m .1) (m .2)) >>= body)
     go (done m) = end-parts N (m .0) (m .1) (m .2)
     go (refused n d) = refl
 
@@ -234,9 +234,9 @@ text-parts : (t : List ℕ) → readText t ≡ (lineAt t >>= body)
 unfolding readText
 text-parts t =
     let e : length t ≡ 0 + length t = omega arith in
-    ap (λ k. fed (awaits (ascii "p cnf ") (count variables)) 0 t >>= endText k) e ∙ both-parts (ascii "p cnf ") variables 0 t ∙ go (wordCount (ascii "p cnf ") 0 t)
+    ap (λ k. fed (awaits (ascii "p cnf ") (count countN)) 0 t >>= endText k) e ∙ both-parts (ascii "p cnf ") countN 0 t ∙ go (wordCount (ascii "p cnf ") 0 t)
   where
-    go : (m : Result (ℕ × ℕ × List ℕ)) → (m >>= ended variables) ≡ ((m >>= λ n. restAt (n .0) (n .1) (n .2)) >>= body)
+    go : (m : Result (ℕ × ℕ × List ℕ)) → (m >>= ended countN) ≡ ((m >>= λ n. restAt (n .0) (n .1) (n .2)) >>= body)
     go (done n) = rest-parts (n .0) (n .1) (n .2)
     go (refused n d) = refl
 

@@ -3,7 +3,7 @@ ghost use mathlib.Core.Path.{_≡_};
 ghost use Prim.Native.Nat.{_≤_, _<_};
 ghost use lib.ListN.{length};
 ghost use Rattle.laws.specs.Written.{written};
-ghost use Rattle.definitions.specs.TextReading.{valueOf};
+ghost use Rattle.definitions.specs.TextReading.{numberRead};
 ghost use Rattle.laws.specs.Stepping.{num};
 ghost use Rattle.replies.specs.Lists.{numbersFrom, Fits};
 ghost use Rattle.replies.specs.Outcome.{TextAllowed};
@@ -19,7 +19,7 @@ use definitions::Sizing;
 
 fn signed_of(minus: bool, size: u32) -> i32
     requires { ⌜ size < 2147483648 ⌝ }
-    ensures { λ r. ⌜ r ≡ valueOf (num 0 minus size) ⌝ }
+    ensures { λ r. ⌜ r ≡ numberRead (num 0 minus size) ⌝ }
 {
     if minus {
         return -(size as i32);

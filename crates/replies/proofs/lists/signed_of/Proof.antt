@@ -1,7 +1,7 @@
 -- `replies::lists::signed_of` meets its contract.
 use mathlib.Core.Path.{sym, ap, _∙_}
 use native.Mathlib.Omega.{arith}
-use Rattle.definitions.specs.TextReading.{valueOf}
+use Rattle.definitions.specs.TextReading.{numberRead}
 use Rattle.laws.specs.Stepping.{num}
 use Rattle.laws.specs.Signs.{plus-is, minus-fits, minus-is}
 use borrow.Author.Needs.{needs}
@@ -17,14 +17,14 @@ sub-result c =
 
 returns : tie.Need-returns
 returns c =
-    minus-is (c .before .args .size) (omega (arith, c .before .pre)) ∙ ap (λ t. valueOf (num 0 t (c .before .args .size))) (sym (c .if1 .taken))
+    minus-is (c .before .args .size) (omega (arith, c .before .pre)) ∙ ap (λ t. numberRead (num 0 t (c .before .args .size))) (sym (c .if1 .taken))
 
 cast-result-2 : tie.Need-cast-result-2
 cast-result-2 c = search needs
 
 returns-2 : tie.Need-returns-2
 returns-2 c =
-    plus-is (c .before .args .size) (omega (arith, c .before .pre)) ∙ ap (λ t. valueOf (num 0 t (c .before .args .size))) (sym (c .if1 .left))
+    plus-is (c .before .args .size) (omega (arith, c .before .pre)) ∙ ap (λ t. numberRead (num 0 t (c .before .args .size))) (sym (c .if1 .left))
 
 pub signed-of-spec : {M : Type 1} → statement M
 signed-of-spec = tie.close (tie.spec cast-result sub-result returns cast-result-2 returns-2)
