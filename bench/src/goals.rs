@@ -31,6 +31,8 @@ pub fn goals(all: &[Measured], others: &[&str]) -> String {
         |kinds: &[Kind]| over(all, Operation::Compile, strong, |kind| kinds.contains(&kind));
     let decode =
         |kinds: &[Kind]| over(all, Operation::Decode, earlier, |kind| kinds.contains(&kind));
+    let write =
+        |kinds: &[Kind]| over(all, Operation::WriteText, strong, |kind| kinds.contains(&kind));
     let (most, least) = (Limit::AtMost, Limit::AtLeast);
     let goals = [
         goal("Compile over strong, wide boards", most(2.5), compile(&[Kind::Wide])),
@@ -46,7 +48,9 @@ pub fn goals(all: &[Measured], others: &[&str]) -> String {
         goal("Compile on 1,024 variables over that on 16", most(1.5), many_over_few(all)),
         goal("Decode over earlier, wide boards", most(0.333), decode(&[Kind::Wide])),
         goal("Decode over earlier, others", Limit::Nothing, decode(OTHERS)),
-        goal("WriteText over strong", most(3.0), over(all, Operation::WriteText, strong, |_| true)),
+        goal("WriteText over strong, wide boards", most(3.0), write(&[Kind::Wide])),
+        goal("WriteText over strong, Boolean and small boards", most(3.0), write(&[Kind::Small])),
+        goal("WriteText over strong, worst records", Limit::Nothing, write(&[Kind::Worst])),
         goal("ReadText over minisat's parser", most(1.0), over_solver(all, "minisat")),
         goal("ReadText over cadical's parser", most(1.0), over_solver(all, "cadical")),
     ];

@@ -43,12 +43,12 @@ fn triples(u: u32, a: u32, b: u32, c: u32) -> u64
     more - fewer
 }
 
-// The sum of a tuple's offsets and 1 more.
-fn over(c: Comparison) -> u32
-    requires { ⌜ FairComparison c × (pos 0 ≤ℤ overLeast c) ⌝ }
+// The sum of a tuple's offsets, which is t, and 1 more.
+fn over(c: Comparison, t: i32) -> u32
+    requires { ⌜ FairComparison c × (t ≡ overLeast c) × (pos 0 ≤ℤ overLeast c) ⌝ }
     ensures { λ r. ⌜ (r ≡ places.over c) × (r < 2 ^ 21) ⌝ }
 {
-    over_least(c) as u32 + 1
+    t as u32 + 1
 }
 
 // The width of the j-th of three places and 1 more.
@@ -60,10 +60,17 @@ fn wide(c: Comparison, j: usize) -> u32
     p.w + 1
 }
 
-// A comparison's tuples, where the sum of their offsets is not below 0.
+// A comparison's tuples, where the sum of their offsets is known, and not below 0.
+pub fn tuples_over(c: Comparison, t: i32) -> u64
+    requires { ⌜ FairComparison c × (t ≡ overLeast c) × (pos 0 ≤ℤ overLeast c) ⌝ }
+    ensures { λ r. ⌜ r ≡ length (literalsOf c) ⌝ }
+{
+    triples(over(c, t), wide(c, 0), wide(c, 1), wide(c, 2))
+}
+
 pub fn tuples_of(c: Comparison) -> u64
     requires { ⌜ FairComparison c × (pos 0 ≤ℤ overLeast c) ⌝ }
     ensures { λ r. ⌜ r ≡ length (literalsOf c) ⌝ }
 {
-    triples(over(c), wide(c, 0), wide(c, 1), wide(c, 2))
+    tuples_over(c, over_least(c))
 }

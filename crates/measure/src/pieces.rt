@@ -1,9 +1,9 @@
 // What a piece of the rules adds to the sizes.
 use crate::Share;
-use crate::count::tuples_of;
+use crate::count::tuples_over;
 use rules::Piece;
 use slots::comparisons::ready;
-use walk::tuples::least;
+use walk::tuples::over_least;
 ghost use Prim.Native.Nat.{_≤_, _<_, _^_};
 ghost use lib.ListN.{length};
 ghost use Rattle.definitions.specs.Board.{boundsOf};
@@ -21,14 +21,15 @@ fn comparison_share(bytes: &[u8], rules: &[u8], lead: u64, place: usize, constan
     // counting needs no first numbers
     let unnumbered = [0u32; 0];
     let c = ready(bytes, &unnumbered, rules, place, constant);
-    if constant < least(c) {
+    let t = over_least(c);
+    if t < 1 {
         return Share {
             clauses: 1,
             places: lead + 1,
             selectors: lead,
         };
     }
-    let tuples = tuples_of(c);
+    let tuples = tuples_over(c, t);
     Share {
         clauses: tuples,
         places: tuples * (lead + c.n as u64 + 1),

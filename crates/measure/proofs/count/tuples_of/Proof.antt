@@ -1,38 +1,21 @@
 -- `measure::count::tuples_of` meets its contract.
-use mathlib.Core.Path.{sym, _∙_}
-use native.Mathlib.Omega.{arith}
-use Rattle.measure.proofs.Tuples.{wide-some, over-some, tuples-are}
+use mir.Syntax.{w32}
+use mir.Val.{SFits}
+use mir.Facts.{toZ-ofZ}
 use borrow.Author.Needs.{needs}
 use Rattle.measure.proofs.count.tuples_of.Statement.{statement}
 use Rattle.measure.proofs.count.tuples_of.Tie as tie
 
-over-requires : tie.Need-over-requires
-over-requires c κs = search needs
+over-least-requires : tie.Need-over-least-requires
+over-least-requires c κs = search needs
 
-wide-requires : tie.Need-wide-requires
-wide-requires c κs = search needs
-
-wide-requires-2 : tie.Need-wide-requires-2
-wide-requires-2 c κs = search needs
-
-wide-requires-3 : tie.Need-wide-requires-3
-wide-requires-3 c κs = search needs
-
-triples-requires : tie.Need-triples-requires
-triples-requires c κs =
-    record {
-      sum = omega (arith, c .before .before .before .over .ensures .0, over-some (c .before .before .before .before .args .c));
-      small = c .before .before .before .over .ensures .1;
-      first = (omega (arith, c .before .before .wide .ensures .0, wide-some (c .before .before .before .before .args .c) 0), c .before .before .wide .ensures .1);
-      second = (omega (arith, c .before .wide2 .ensures .0, wide-some (c .before .before .before .before .args .c) 1), c .before .wide2 .ensures .1);
-      third = (omega (arith, c .wide3 .ensures .0, wide-some (c .before .before .before .before .args .c) 2), c .wide3 .ensures .1);
-    }
+tuples-over-requires : tie.Need-tuples-over-requires
+tuples-over-requires c κs =
+    let f : SFits w32 (c .over-least .result) = record { sfits = c .over-least .ok } in
+    (c .before .pre .0, rw (toZ-ofZ f) (c .over-least .ensures), c .before .pre .1)
 
 returns : tie.Need-returns
-returns c =
-    rw (c .before .before .before .before .over .ensures .0, c .before .before .before .wide .ensures .0, c .before .before .wide2 .ensures .0, c .before .wide3 .ensures .0) at (c .triples .ensures) ∙ sym (tuples-are (c .before .before .before .before .before .args .c) (c .before .before .before .before .before .pre .0) (c .before .before .before .before .before .pre .1))
+returns c = c .tuples-over .ensures
 
 pub tuples-of-spec : {M : Type 1} → statement M
-tuples-of-spec =
-    tie.close
-    (tie.spec over-requires wide-requires wide-requires-2 wide-requires-3 triples-requires returns)
+tuples-of-spec = tie.close (tie.spec over-least-requires tuples-over-requires returns)
