@@ -9,6 +9,7 @@ use super::Counted;
 use super::Next;
 use super::Numeral;
 use super::bytes::is_blank;
+use super::faults::of_numeral;
 use super::parts::number_at;
 
 // The next number, or the end. Where there is no room for a number, its first byte is refused.
@@ -22,19 +23,16 @@ pub fn next_number(text: &[u8], n: u32, room: bool, from: usize) -> Next
             if !room {
                 return Next::Bad(at);
             }
-            match number_at(text, n, at) {
-                Numeral::Number { minus, size, next } => {
-                    return Next::Number {
-                        start: at,
-                        minus,
-                        size,
-                        next,
-                    };
-                }
-                Numeral::Bad(d) => {
-                    return Next::Bad(d);
-                }
-            }
+            let read = number_at(text, n, at);
+            let Numeral::Number { minus, size, next } = read else {
+                return Next::Bad(of_numeral(read));
+            };
+            return Next::Number {
+                start: at,
+                minus,
+                size,
+                next,
+            };
         }
         at += 1;
     }

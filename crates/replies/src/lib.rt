@@ -1,5 +1,6 @@
 // DIMACS text and solvers' replies, read from bytes (02, P2).
 pub mod bytes; // bytes.rt: tests of a byte
+pub mod faults; // faults.rt: where a reading was refused
 pub mod parts; // parts.rt: a word, a count, a number
 pub mod clauses; // clauses.rt: the numbers of a clause list
 pub mod values; // values.rt: the numbers of a reply

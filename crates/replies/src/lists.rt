@@ -13,6 +13,8 @@ use super::Next;
 use super::clauses::clauses_after;
 use super::clauses::count_numbers;
 use super::clauses::next_number;
+use super::faults::of_counted;
+use super::faults::of_head;
 use super::line::first_line;
 use definitions::Refusal;
 use definitions::Sizing;
@@ -62,21 +64,25 @@ fn put_numbers(text: &[u8], n: u32, m: u32, from: usize, list: &mut [i32]) -> us
 pub fn read_text(text: &[u8], list: &mut [i32]) -> Sizing
     ensures { λ r. ⌜ TextAllowed (now (text .entry)) (now (list .entry)) r (now (list .exit)) ⌝ }
 {
-    match first_line(text) {
-        Head::Sizes { n, m, next } => match count_numbers(text, n, m, next) {
-            Counted::Numbers(k) => {
-                if list.len() < k {
-                    return Sizing::Unsized(Refusal::ListTooShort { wanted: k });
-                }
-                put_numbers(text, n, m, next, list);
-                Sizing::Sizes {
-                    n: n as usize,
-                    m: m as usize,
-                    k,
-                }
-            }
-            Counted::Bad(d) => Sizing::Unsized(Refusal::TextWrong { place: d }),
-        },
-        Head::Bad(d) => Sizing::Unsized(Refusal::TextWrong { place: d }),
+    let head = first_line(text);
+    let Head::Sizes { n, m, next } = head else {
+        return Sizing::Unsized(Refusal::TextWrong {
+            place: of_head(head),
+        });
+    };
+    let counted = count_numbers(text, n, m, next);
+    let Counted::Numbers(k) = counted else {
+        return Sizing::Unsized(Refusal::TextWrong {
+            place: of_counted(counted),
+        });
+    };
+    if list.len() < k {
+        return Sizing::Unsized(Refusal::ListTooShort { wanted: k });
+    }
+    put_numbers(text, n, m, next, list);
+    Sizing::Sizes {
+        n: n as usize,
+        m: m as usize,
+        k,
     }
 }

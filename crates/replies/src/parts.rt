@@ -16,6 +16,7 @@ use super::bytes::is_further;
 use super::bytes::is_more;
 use super::bytes::is_whole;
 use super::bytes::worth;
+use super::faults::of_grown;
 
 pub fn word_at(text: &[u8], word: &[u8], from: usize) -> Word
     requires { ⌜ from ≤ length (now text) ⌝ }
@@ -103,15 +104,12 @@ fn number_from(text: &[u8], n: u32, start: usize, minus: bool, first: u32, from:
             }
             return Numeral::Bad(at);
         }
-        match grow(n, start, minus, size, at, b) {
-            Grown::To(more) => {
-                size = more;
-                at += 1;
-            }
-            Grown::Bad(d) => {
-                return Numeral::Bad(d);
-            }
-        }
+        let read = grow(n, start, minus, size, at, b);
+        let Grown::To(more) = read else {
+            return Numeral::Bad(of_grown(read));
+        };
+        size = more;
+        at += 1;
     }
     if is_whole(minus, size) {
         return Numeral::Number {

@@ -8,6 +8,8 @@ ghost use Rattle.replies.specs.Said.{saidHeard, heardIn};
 use super::Heard;
 use super::Listed;
 use super::Word;
+use super::faults::of_listed;
+use super::faults::of_word;
 use super::parts::word_at;
 use super::values::count_values;
 
@@ -15,31 +17,32 @@ fn no_model(text: &[u8], from: usize) -> Heard
     requires { ⌜ from ≤ length (now text) ⌝ }
     ensures { λ r. ⌜ saidHeard r ≡ summed (noneAt from (drop from (now (text .entry)))) ⌝ }
 {
-    match word_at(text, b"UNSATISFIABLE\n", from) {
-        Word::Past(next) => {
-            if text.len() <= next {
-                return Heard::Nothing;
-            }
-            Heard::Bad(next)
-        }
-        Word::Bad(d) => Heard::Bad(d),
+    let read = word_at(text, b"UNSATISFIABLE\n", from);
+    let Word::Past(next) = read else {
+        return Heard::Bad(of_word(read));
+    };
+    if text.len() <= next {
+        return Heard::Nothing;
     }
+    Heard::Bad(next)
 }
 
 fn a_model(text: &[u8], n: u32, from: usize) -> Heard
     requires { ⌜ from ≤ length (now text) ⌝ }
     ensures { λ r. ⌜ (saidHeard r ≡ summed (modelAt n from (drop from (now (text .entry))))) × heardIn n (now (text .entry)) (modelAt n from (drop from (now (text .entry)))) r ⌝ }
 {
-    match word_at(text, b"SATISFIABLE\n", from) {
-        Word::Past(next) => match count_values(text, n, next) {
-            Listed::Literals { count, rising } => Heard::Literals {
-                from: next,
-                count,
-                rising,
-            },
-            Listed::Bad(d) => Heard::Bad(d),
-        },
-        Word::Bad(d) => Heard::Bad(d),
+    let word = word_at(text, b"SATISFIABLE\n", from);
+    let Word::Past(next) = word else {
+        return Heard::Bad(of_word(word));
+    };
+    let listed = count_values(text, n, next);
+    let Listed::Literals { count, rising } = listed else {
+        return Heard::Bad(of_listed(listed));
+    };
+    Heard::Literals {
+        from: next,
+        count,
+        rising,
     }
 }
 
@@ -47,16 +50,15 @@ fn a_model(text: &[u8], n: u32, from: usize) -> Heard
 pub fn check_reply(text: &[u8], n: u32) -> Heard
     ensures { λ r. ⌜ (saidHeard r ≡ summed (readReply n (now (text .entry)))) × heardIn n (now (text .entry)) (readReply n (now (text .entry))) r ⌝ }
 {
-    match word_at(text, b"s ", 0) {
-        Word::Past(next) => {
-            if text.len() <= next {
-                return Heard::Bad(next);
-            }
-            if text[next] == 85 {
-                return no_model(text, next);
-            }
-            a_model(text, n, next)
-        }
-        Word::Bad(d) => Heard::Bad(d),
+    let read = word_at(text, b"s ", 0);
+    let Word::Past(next) = read else {
+        return Heard::Bad(of_word(read));
+    };
+    if text.len() <= next {
+        return Heard::Bad(next);
     }
+    if text[next] == 85 {
+        return no_model(text, next);
+    }
+    a_model(text, n, next)
 }

@@ -10,6 +10,8 @@ use super::Listed;
 use super::Numeral;
 use super::Value;
 use super::Word;
+use super::faults::of_numeral;
+use super::faults::of_word;
 use super::parts::number_at;
 use super::parts::word_at;
 
@@ -46,10 +48,11 @@ fn number_on(text: &[u8], n: u32, from: usize) -> Value
     if text.len() <= from {
         return Value::Bad(from);
     }
-    match number_at(text, n, from) {
-        Numeral::Number { minus, size, next } => after_number(text, minus, size, next),
-        Numeral::Bad(d) => Value::Bad(d),
-    }
+    let read = number_at(text, n, from);
+    let Numeral::Number { minus, size, next } = read else {
+        return Value::Bad(of_numeral(read));
+    };
+    after_number(text, minus, size, next)
 }
 
 // The next number, at a line's beginning or in it.
@@ -58,10 +61,11 @@ pub fn value_at(text: &[u8], n: u32, line: bool, from: usize) -> Value
     ensures { λ r. ⌜ (saidValue (now (text .entry)) r ≡ valueAt n line from (drop from (now (text .entry)))) × valueIn from (now (text .entry)) r ⌝ }
 {
     if line {
-        return match word_at(text, b"v ", from) {
-            Word::Past(next) => number_on(text, n, next),
-            Word::Bad(d) => Value::Bad(d),
+        let read = word_at(text, b"v ", from);
+        let Word::Past(next) = read else {
+            return Value::Bad(of_word(read));
         };
+        return number_on(text, n, next);
     }
     number_on(text, n, from)
 }

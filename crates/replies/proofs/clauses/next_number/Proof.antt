@@ -37,8 +37,14 @@ returns c =
 number-at-requires : tie.Need-number-at-requires Inv-loop μ-loop
 number-at-requires c κs = search needs
 
-enum-known-minus : tie.Need-enum-known-minus Inv-loop μ-loop
-enum-known-minus c = search needs
+enum-known-read : tie.Need-enum-known-read Inv-loop μ-loop
+enum-known-read c = search needs
+
+enum-told : tie.Need-enum-told Inv-loop μ-loop
+enum-told c = search needs
+
+of-numeral-requires : tie.Need-of-numeral-requires Inv-loop μ-loop
+of-numeral-requires c κs = search needs
 
 returns-2 : tie.Need-returns-2 Inv-loop μ-loop
 returns-2 c =
@@ -48,10 +54,7 @@ returns-2 c =
     let if1 = c .before .before .before .before .before .if1 in
     let if2 = c .before .before .before .before .if2 in
     let number-at = c .before .before .before .number-at in
-    let h = rw (c .before .minus .given .1) at (number-at .ensures .1) in (sym (found-number _ _ (loop-test .taken) _ _ (via (is-blank .ensures) (not-true _ (if1 .taken))) (not-false _ (if2 .left)) (told (saidNumeral _ _) (number-at .ensures .0) (c .before .minus .given .1))) ∙ loop .inv .0, (omega (arith, h .0, loop .inv .1), h .1))
-
-enum-known-d : tie.Need-enum-known-d Inv-loop μ-loop
-enum-known-d c = search needs
+    (sym (found-bad _ _ (loop-test .taken) _ _ (via (is-blank .ensures) (not-true _ (if1 .taken))) (not-false _ (if2 .left)) (told (saidNumeral _ _) (number-at .ensures .0) (c .of-numeral .ensures))) ∙ loop .inv .0, tt)
 
 returns-3 : tie.Need-returns-3 Inv-loop μ-loop
 returns-3 c =
@@ -61,7 +64,8 @@ returns-3 c =
     let if1 = c .before .before .before .before .before .if1 in
     let if2 = c .before .before .before .before .if2 in
     let number-at = c .before .before .before .number-at in
-    (sym (found-bad _ _ (loop-test .taken) _ _ (via (is-blank .ensures) (not-true _ (if1 .taken))) (not-false _ (if2 .left)) (told (saidNumeral _ _) (number-at .ensures .0) (c .before .d .given .1))) ∙ loop .inv .0, tt)
+    let h = rw (c .before .read .given .1) at (number-at .ensures .1) in
+    (sym (found-number _ _ (loop-test .taken) _ _ (via (is-blank .ensures) (not-true _ (if1 .taken))) (not-false _ (if2 .left)) (told (saidNumeral _ _) (number-at .ensures .0) (c .before .read .given .1))) ∙ loop .inv .0, (omega (arith, h .0, loop .inv .1), h .1))
 
 add-at : tie.Need-add-at Inv-loop μ-loop
 add-at c = search needs
@@ -90,9 +94,10 @@ next-number-spec =
     is-blank-requires
     returns
     number-at-requires
-    enum-known-minus
+    enum-known-read
+    enum-told
+    of-numeral-requires
     returns-2
-    enum-known-d
     returns-3
     add-at
     loop-less

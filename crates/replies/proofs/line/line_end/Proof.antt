@@ -14,23 +14,26 @@ slice-aggregate-word-at c = search needs
 word-at-requires : tie.Need-word-at-requires
 word-at-requires c κs = search needs
 
-enum-known-next : tie.Need-enum-known-next
-enum-known-next c = search needs
+enum-known-read : tie.Need-enum-known-read
+enum-known-read c = search needs
 
-enum-known-d : tie.Need-enum-known-d
-enum-known-d c = search needs
+enum-told : tie.Need-enum-told
+enum-told c = search needs
+
+of-word-requires : tie.Need-of-word-requires
+of-word-requires c κs = search needs
 
 returns : tie.Need-returns
 returns c =
     let args = c .before .before .before .before .before .before .args in
     let word-at = c .before .before .before .word-at in
-    (sym (end-is (args .n) (args .m) (args .from) (drop (args .from) (args .text .now)) (told (saidWord (args .text .now)) (word-at .ensures .0) (c .before .next .given .1))), (rw (c .before .next .given .1) at (word-at .ensures .1)) .1)
+    (sym (end-bad (args .n) (args .m) (args .from) (drop (args .from) (args .text .now)) (told (saidWord (args .text .now)) (word-at .ensures .0) (c .of-word .ensures))), tt)
 
 returns-2 : tie.Need-returns-2
 returns-2 c =
     let args = c .before .before .before .before .before .before .args in
     let word-at = c .before .before .before .word-at in
-    (sym (end-bad (args .n) (args .m) (args .from) (drop (args .from) (args .text .now)) (told (saidWord (args .text .now)) (word-at .ensures .0) (c .before .d .given .1))), tt)
+    (sym (end-is (args .n) (args .m) (args .from) (drop (args .from) (args .text .now)) (told (saidWord (args .text .now)) (word-at .ensures .0) (c .before .read .given .1))), (rw (c .before .read .given .1) at (word-at .ensures .1)) .1)
 
 pub line-end-spec : {M : Type 1} → statement M
 line-end-spec =
@@ -38,7 +41,8 @@ line-end-spec =
     (tie.spec
     slice-aggregate-word-at
     word-at-requires
-    enum-known-next
-    enum-known-d
+    enum-known-read
+    enum-told
+    of-word-requires
     returns
     returns-2)

@@ -14,29 +14,32 @@ slice-aggregate-word-count c = search needs
 word-count-requires : tie.Need-word-count-requires
 word-count-requires c κs = search needs
 
-enum-known-value : tie.Need-enum-known-value
-enum-known-value c = search needs
+enum-known-read : tie.Need-enum-known-read
+enum-known-read c = search needs
+
+enum-told : tie.Need-enum-told
+enum-told c = search needs
+
+of-count-requires : tie.Need-of-count-requires
+of-count-requires c κs = search needs
+
+returns : tie.Need-returns
+returns c =
+    let args = c .before .before .before .before .before .before .args in
+    let word-count = c .before .before .before .word-count in
+    (sym (rest-bad (args .n) (args .from) (drop (args .from) (args .text .now)) (told (saidCount (args .text .now)) (word-count .ensures .0) (c .of-count .ensures))), tt)
 
 line-end-requires : tie.Need-line-end-requires
 line-end-requires c κs =
     let word-count = c .before .before .before .word-count in
-    (rw (c .before .value .given .1) at (word-count .ensures .1)) .1
-
-enum-known-d : tie.Need-enum-known-d
-enum-known-d c = search needs
-
-returns : tie.Need-returns
-returns c =
-    let args = c .before .before .before .before .before .before .before .args in
-    let word-count = c .before .before .before .before .word-count in
-    let value = c .before .before .value in
-    (c .line-end .ensures .0 ∙ sym (rest-is (args .n) (args .from) (drop (args .from) (args .text .now)) (told (saidCount (args .text .now)) (word-count .ensures .0) (value .given .1))), c .line-end .ensures .1)
+    (rw (c .before .read .given .1) at (word-count .ensures .1)) .1
 
 returns-2 : tie.Need-returns-2
 returns-2 c =
-    let args = c .before .before .before .before .before .before .args in
-    let word-count = c .before .before .before .word-count in
-    (sym (rest-bad (args .n) (args .from) (drop (args .from) (args .text .now)) (told (saidCount (args .text .now)) (word-count .ensures .0) (c .before .d .given .1))), tt)
+    let args = c .before .before .before .before .before .before .before .args in
+    let word-count = c .before .before .before .before .word-count in
+    let read = c .before .before .read in
+    (c .line-end .ensures .0 ∙ sym (rest-is (args .n) (args .from) (drop (args .from) (args .text .now)) (told (saidCount (args .text .now)) (word-count .ensures .0) (read .given .1))), c .line-end .ensures .1)
 
 pub line-rest-spec : {M : Type 1} → statement M
 line-rest-spec =
@@ -44,8 +47,9 @@ line-rest-spec =
     (tie.spec
     slice-aggregate-word-count
     word-count-requires
-    enum-known-value
-    line-end-requires
-    enum-known-d
+    enum-known-read
+    enum-told
+    of-count-requires
     returns
+    line-end-requires
     returns-2)

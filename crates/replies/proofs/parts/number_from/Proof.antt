@@ -49,8 +49,23 @@ returns-2 c =
 grow-requires : tie.Need-grow-requires Inv-loop μ-loop
 grow-requires c κs = search needs
 
-enum-known-more : tie.Need-enum-known-more Inv-loop μ-loop
-enum-known-more c = search needs
+enum-known-read : tie.Need-enum-known-read Inv-loop μ-loop
+enum-known-read c = search needs
+
+enum-told : tie.Need-enum-told Inv-loop μ-loop
+enum-told c = search needs
+
+of-grown-requires : tie.Need-of-grown-requires Inv-loop μ-loop
+of-grown-requires c κs = search needs
+
+returns-3 : tie.Need-returns-3 Inv-loop μ-loop
+returns-3 c =
+    let loop = c .before .before .before .before .before .before .before .before .loop in
+    let loop-test = c .before .before .before .before .before .before .before .loop-test in
+    let is-blank = c .before .before .before .before .before .is-blank in
+    let if1 = c .before .before .before .before .if1 in
+    let grow = c .before .before .before .grow in
+    (sym (number-refused _ _ (loop-test .taken) _ _ (via (is-blank .ensures) (if1 .left)) (told (saidGrown _ _) (grow .ensures) (c .of-grown .ensures))) ∙ loop .inv .0, tt)
 
 add-at : tie.Need-add-at Inv-loop μ-loop
 add-at c = search needs
@@ -65,19 +80,7 @@ loop-again c =
     let is-blank = c .before .before .before .before .before .is-blank in
     let if1 = c .before .before .before .before .if1 in
     let grow = c .before .before .before .grow in
-    (sym (number-step _ _ (loop-test .taken) _ _ (via (is-blank .ensures) (if1 .left)) (told (saidGrown _ _) (grow .ensures) (c .before .more .given .1))) ∙ loop .inv .0, omega arith, omega arith)
-
-enum-known-d : tie.Need-enum-known-d Inv-loop μ-loop
-enum-known-d c = search needs
-
-returns-3 : tie.Need-returns-3 Inv-loop μ-loop
-returns-3 c =
-    let loop = c .before .before .before .before .before .before .before .before .loop in
-    let loop-test = c .before .before .before .before .before .before .before .loop-test in
-    let is-blank = c .before .before .before .before .before .is-blank in
-    let if1 = c .before .before .before .before .if1 in
-    let grow = c .before .before .before .grow in
-    (sym (number-refused _ _ (loop-test .taken) _ _ (via (is-blank .ensures) (if1 .left)) (told (saidGrown _ _) (grow .ensures) (c .before .d .given .1))) ∙ loop .inv .0, tt)
+    (sym (number-step _ _ (loop-test .taken) _ _ (via (is-blank .ensures) (if1 .left)) (told (saidGrown _ _) (grow .ensures) (c .before .read .given .1))) ∙ loop .inv .0, omega arith, omega arith)
 
 is-whole-requires-2 : tie.Need-is-whole-requires-2 Inv-loop μ-loop
 is-whole-requires-2 c κs = search needs
@@ -107,12 +110,13 @@ number-from-spec =
     returns
     returns-2
     grow-requires
-    enum-known-more
+    enum-known-read
+    enum-told
+    of-grown-requires
+    returns-3
     add-at
     loop-less
     loop-again
-    enum-known-d
-    returns-3
     is-whole-requires-2
     returns-4
     returns-5)

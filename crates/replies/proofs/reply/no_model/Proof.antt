@@ -13,31 +13,34 @@ slice-aggregate-word-at c = search needs
 word-at-requires : tie.Need-word-at-requires
 word-at-requires c κs = search needs
 
-enum-known-next : tie.Need-enum-known-next
-enum-known-next c = search needs
+enum-known-read : tie.Need-enum-known-read
+enum-known-read c = search needs
+
+enum-told : tie.Need-enum-told
+enum-told c = search needs
+
+of-word-requires : tie.Need-of-word-requires
+of-word-requires c κs = search needs
 
 returns : tie.Need-returns
 returns c =
-    let args = c .before .before .before .before .before .before .before .args in
-    let word-at = c .before .before .before .before .word-at in
-    let next = c .before .before .next in
-    none-ends (args .from) (drop (args .from) (args .text .now)) (args .text .now) (told (saidWord (args .text .now)) (word-at .ensures .0) (next .given .1)) (c .if1 .taken)
-
-enum-known-d : tie.Need-enum-known-d
-enum-known-d c = search needs
+    let args = c .before .before .before .before .before .before .args in
+    let word-at = c .before .before .before .word-at in
+    none-wrong (args .from) (drop (args .from) (args .text .now)) (told (saidWord (args .text .now)) (word-at .ensures .0) (c .of-word .ensures))
 
 returns-2 : tie.Need-returns-2
 returns-2 c =
     let args = c .before .before .before .before .before .before .before .args in
     let word-at = c .before .before .before .before .word-at in
-    let next = c .before .before .next in
-    none-more (args .from) (drop (args .from) (args .text .now)) (args .text .now) (told (saidWord (args .text .now)) (word-at .ensures .0) (next .given .1)) (c .if1 .left)
+    let read = c .before .before .read in
+    none-ends (args .from) (drop (args .from) (args .text .now)) (args .text .now) (told (saidWord (args .text .now)) (word-at .ensures .0) (read .given .1)) (c .if1 .taken)
 
 returns-3 : tie.Need-returns-3
 returns-3 c =
-    let args = c .before .before .before .before .before .before .args in
-    let word-at = c .before .before .before .word-at in
-    none-wrong (args .from) (drop (args .from) (args .text .now)) (told (saidWord (args .text .now)) (word-at .ensures .0) (c .before .d .given .1))
+    let args = c .before .before .before .before .before .before .before .args in
+    let word-at = c .before .before .before .before .word-at in
+    let read = c .before .before .read in
+    none-more (args .from) (drop (args .from) (args .text .now)) (args .text .now) (told (saidWord (args .text .now)) (word-at .ensures .0) (read .given .1)) (c .if1 .left)
 
 pub no-model-spec : {M : Type 1} → statement M
 no-model-spec =
@@ -45,8 +48,9 @@ no-model-spec =
     (tie.spec
     slice-aggregate-word-at
     word-at-requires
-    enum-known-next
+    enum-known-read
+    enum-told
+    of-word-requires
     returns
-    enum-known-d
     returns-2
     returns-3)

@@ -17,29 +17,33 @@ returns c =
 number-at-requires : tie.Need-number-at-requires
 number-at-requires c κs = search needs
 
-enum-known-minus : tie.Need-enum-known-minus
-enum-known-minus c = search needs
+enum-known-read : tie.Need-enum-known-read
+enum-known-read c = search needs
+
+enum-told : tie.Need-enum-told
+enum-told c = search needs
+
+of-numeral-requires : tie.Need-of-numeral-requires
+of-numeral-requires c κs = search needs
+
+returns-2 : tie.Need-returns-2
+returns-2 c =
+    let args = c .before .before .before .before .before .before .args in
+    let number-at = c .before .before .before .number-at in
+    (sym (number-not (args .n) (args .from) (drop (args .from) (args .text .now)) (told (saidNumeral (args .from) (args .text .now)) (number-at .ensures .0) (c .of-numeral .ensures))), tt)
 
 after-number-requires : tie.Need-after-number-requires
 after-number-requires c κs =
     let number-at = c .before .before .before .number-at in
-    (rw (c .before .minus .given .1) at (number-at .ensures .1)) .1
-
-enum-known-d : tie.Need-enum-known-d
-enum-known-d c = search needs
-
-returns-2 : tie.Need-returns-2
-returns-2 c =
-    let args = c .before .before .before .before .before .before .before .args in
-    let number-at = c .before .before .before .before .number-at in
-    let minus = c .before .before .minus in
-    let h = rw (minus .given .1) at (number-at .ensures .1) in (c .after-number .ensures .0 ∙ sym (number-then (args .n) (args .from) (drop (args .from) (args .text .now)) (told (saidNumeral (args .from) (args .text .now)) (number-at .ensures .0) (minus .given .1))), value-sooner (args .from) (minus .given .0 .1 .1 .0) (args .text .now) (c .after-number .result) (omega (arith, h .0)) (c .after-number .ensures .1))
+    (rw (c .before .read .given .1) at (number-at .ensures .1)) .1
 
 returns-3 : tie.Need-returns-3
 returns-3 c =
-    let args = c .before .before .before .before .before .before .args in
-    let number-at = c .before .before .before .number-at in
-    (sym (number-not (args .n) (args .from) (drop (args .from) (args .text .now)) (told (saidNumeral (args .from) (args .text .now)) (number-at .ensures .0) (c .before .d .given .1))), tt)
+    let args = c .before .before .before .before .before .before .before .args in
+    let number-at = c .before .before .before .before .number-at in
+    let read = c .before .before .read in
+    let h = rw (read .given .1) at (number-at .ensures .1) in
+    (c .after-number .ensures .0 ∙ sym (number-then (args .n) (args .from) (drop (args .from) (args .text .now)) (told (saidNumeral (args .from) (args .text .now)) (number-at .ensures .0) (read .given .1))), value-sooner (args .from) (read .given .0 .1 .1 .0) (args .text .now) (c .after-number .result) (omega (arith, h .0)) (c .after-number .ensures .1))
 
 pub number-on-spec : {M : Type 1} → statement M
 number-on-spec =
@@ -47,8 +51,9 @@ number-on-spec =
     (tie.spec
     returns
     number-at-requires
-    enum-known-minus
-    after-number-requires
-    enum-known-d
+    enum-known-read
+    enum-told
+    of-numeral-requires
     returns-2
+    after-number-requires
     returns-3)
