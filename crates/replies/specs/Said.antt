@@ -13,7 +13,6 @@ use Rattle.replies.specs.declared.Numeral.{Numeral}
 use Rattle.replies.specs.declared.Next.{Next}
 use Rattle.replies.specs.declared.Head.{Head}
 use Rattle.replies.specs.declared.Counted.{Counted}
-use Rattle.replies.specs.declared.Checked.{Checked}
 use Rattle.replies.specs.declared.Value.{Value}
 use Rattle.replies.specs.declared.Listed.{Listed}
 use Rattle.replies.specs.declared.Heard.{Heard}
@@ -67,10 +66,6 @@ headIn t (Head.Bad d) = Unit {0}
 abbrev pub saidCounted : ℕ → ℕ → Counted → Result Sizes
 saidCounted n m (Counted.Numbers k) = done (sizes n m k)
 saidCounted n m (Counted.Bad d) = refused 18 d
-
-abbrev pub saidChecked : Checked → Result Sizes
-saidChecked (Checked.Sizes n m k) = done (sizes n m k)
-saidChecked (Checked.Bad d) = refused 18 d
 
 abbrev pub saidValue : List ℕ → Value → Result Taken
 saidValue t (Value.Literal minus size line next) = done (more (numberRead (num 0 minus size)) line next (drop next t))

@@ -283,8 +283,5 @@ module _ (t : List ℕ) where
     text-sized : sized (readText t) ≡ sized (listFrom (started N M) next u)
     text-sized = ap sized text-read
 
-    pub text-is : {z : Sizes} → sized (listFrom (started N M) next u) ≡ done z → done z ≡ sized (readText t)
-    text-is e = sym (text-sized ∙ e)
-
     pub numbers-bad : {n d : ℕ} → sized (listFrom (started N M) next u) ≡ refused n d → refused n d ≡ sized (readText t)
     numbers-bad e = sym (text-sized ∙ e)

@@ -5,7 +5,7 @@ pub mod parts; // parts.rt: a word, a count, a number
 pub mod clauses; // clauses.rt: the numbers of a clause list
 pub mod values; // values.rt: the numbers of a reply
 pub mod reply; // reply.rt: a whole reply
-pub mod line; // line.rt: the first line, and the check of a whole text
+pub mod line; // line.rt: the first line of text
 pub mod lists; // lists.rt: text read into a lent list
 pub mod marks; // marks.rt: a variable that does not stand in a reply exactly once
 pub mod models; // models.rt: a reply read into a lent model
@@ -49,11 +49,6 @@ pub enum Head {
 
 pub enum Counted {
     Numbers(usize),
-    Bad(usize),
-}
-
-pub enum Checked {
-    Sizes { n: u32, m: u32, k: usize },
     Bad(usize),
 }
 

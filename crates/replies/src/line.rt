@@ -1,19 +1,13 @@
-// The first line, and the check of a whole text.
+// The first line of text.
 ghost use mathlib.Core.Path.{_≡_};
 ghost use Prim.Native.Nat.{_≤_};
 ghost use lib.ListN.{length, drop};
-ghost use Rattle.definitions.specs.TextReading.{readText};
-ghost use Rattle.replies.specs.Parts.{wordCount, endAt, restAt, lineAt, sized};
-ghost use Rattle.replies.specs.Said.{saidCount, countIn, saidHead, headIn, saidChecked};
-use super::Checked;
+ghost use Rattle.replies.specs.Parts.{wordCount, endAt, restAt, lineAt};
+ghost use Rattle.replies.specs.Said.{saidCount, countIn, saidHead, headIn};
 use super::Count;
-use super::Counted;
 use super::Head;
 use super::Word;
-use super::clauses::count_numbers;
 use super::faults::of_count;
-use super::faults::of_counted;
-use super::faults::of_head;
 use super::faults::of_word;
 use super::parts::count_at;
 use super::parts::word_at;
@@ -59,19 +53,4 @@ pub fn first_line(text: &[u8]) -> Head
         return Head::Bad(of_count(read));
     };
     line_rest(text, value, next)
-}
-
-// The whole text: N, M and how many numbers, or the detail of 18.
-pub fn check_text(text: &[u8]) -> Checked
-    ensures { λ r. ⌜ saidChecked r ≡ sized (readText (now (text .entry))) ⌝ }
-{
-    let head = first_line(text);
-    let Head::Sizes { n, m, next } = head else {
-        return Checked::Bad(of_head(head));
-    };
-    let counted = count_numbers(text, n, m, next);
-    let Counted::Numbers(k) = counted else {
-        return Checked::Bad(of_counted(counted));
-    };
-    Checked::Sizes { n, m, k }
 }
