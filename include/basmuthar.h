@@ -81,8 +81,9 @@
  *       23  replies are left over after the last question                                how many
  *   m is how many Boolean variables the record has. A place is the offset in the record of the first byte of the field
  *   that is wrong (the upper's, where it is below its lower), or of the first byte left over. A place in the text is the
- *   offset of the first number beyond N or past clause M (of its minus, where it has one), or of an earlier byte that no
- *   good text has there; where there is none, something is missing, and it is the text's length.
+ *   offset of the first number beyond N (as soon as its digits are, whatever follows) or past clause M, of its minus where
+ *   it has one; or of an earlier byte with which no good text can go on. Where the text is good as far as it goes, something
+ *   is missing, and the place is the text's length.
  *   All operations on a record look at it first, in this order: 1; fewer than 5 bytes (2); 3; the stated length (2); the
  *   body from left to right with 4 to 8 and 15 to 17, a field's missing bytes (8) before its value; bytes left over (8); 9. The
  *   first condition that is met is the refusal given. What each operation tests after that stands with it.
@@ -119,7 +120,7 @@ extern "C" {
  *
  *   Reads    record.
  *   Writes   nothing but the answer, { 0, N, M, K } where accepted.
- *   Refuses  with 1 to 9, as said above.
+ *   Refuses  with 1 to 9 and 15 to 17, as said above.
  */
 void basmuthar_size(const uint8_t *record, size_t record_len, uint64_t answer[4]);
 
@@ -128,7 +129,7 @@ void basmuthar_size(const uint8_t *record, size_t record_len, uint64_t answer[4]
  *   Reads    record.
  *   Writes   list[0] to list[K - 1]: each clause is its literals and then 0, a negated literal is a negative number.
  *            Later places keep their numbers. The answer is { 0, N, M, K }, the same as Size's.
- *   Refuses  with 1 to 9; then with 10 and detail K where list_len is below K. A longer list is welcome.
+ *   Refuses  with 1 to 9 and 15 to 17; then with 10 and detail K where list_len is below K. A longer list is welcome.
  *
  *   The numbers can be handed to the `add` of an IPASIR solver one after another.
  */
@@ -139,9 +140,9 @@ void basmuthar_compile(const uint8_t *record, size_t record_len, int32_t *list, 
  *   Reads    record, and model: N bytes, each 0 or 1; byte i is the truth of SAT variable i + 1.
  *   Writes   all of values, one number for each integer variable: the least c within its bounds whose p(x,c) is true;
  *            all of booleans, one byte for each Boolean variable, 0 or 1.
- *   Refuses  with 1 to 9; then with 11 where model_len is not N, then where values_len is not the number of integer
- *            variables, then where booleans_len is not the number of Boolean variables; then with 12 at the first
- *            model byte that is neither 0 nor 1; then with 13 at the first clause of Compile's list, axioms among
+ *   Refuses  with 1 to 9 and 15 to 17; then with 11 where model_len is not N, then where values_len is not the number of
+ *            integer variables, then where booleans_len is not the number of Boolean variables; then with 12 at the
+ *            first model byte that is neither 0 nor 1; then with 13 at the first clause of Compile's list, axioms among
  *            them and counted from 0, none of whose literals holds in the model.
  *
  *   So exactly the models of the clause list are accepted, and what is written is a solution of the board.
@@ -153,7 +154,7 @@ void basmuthar_decode(const uint8_t *record, size_t record_len, const uint8_t *m
  *
  *   Reads    record, values (one for each integer variable) and booleans (one byte for each Boolean variable).
  *   Writes   nothing but the answer.
- *   Refuses  with 1 to 9; then with 11 where values_len is not the number of integer variables, then where
+ *   Refuses  with 1 to 9 and 15 to 17; then with 11 where values_len is not the number of integer variables, then where
  *            booleans_len is not the number of Boolean variables; then with 12 at the first Boolean byte that is
  *            neither 0 nor 1; then with 14 at the first value outside its variable's bounds; then with 13 at the
  *            first clause of the record, counted from 0, none of whose literals holds.
@@ -184,8 +185,9 @@ void basmuthar_image(const uint8_t *record, size_t record_len, const int32_t *va
  *              { 0, BASMUTHAR_FOUND, 0, 0 }        hours is the value, three times
  *              { 0, BASMUTHAR_NONE, 0, 0 }         there is no solution; hours keeps its numbers
  *              { 0, BASMUTHAR_UNFINISHED, 0, 0 }   hours is low, high, and h, the question to put next
- *   Refuses  with 1 to 9; then with 22 where the record has no such variable; then with 12 at the first reply, used or
- *            left over, that is neither 0 nor 1; then with 23 where replies are left over after the last question.
+ *   Refuses  with 1 to 9 and 15 to 17; then with 22 where the record has no such variable; then with 12 at the first
+ *            reply, used or left over, that is neither 0 nor 1; then with 23 where replies are left over after the last
+ *            question.
  *
  *   Begin with no reply. As long as the answer is unfinished, ask the solver whether the board has a solution with the
  *   variable at most hours[2], put its reply at the end of replies, and call again. If every reply is true, the value
@@ -201,7 +203,8 @@ void basmuthar_closing(const uint8_t *record, size_t record_len, size_t variable
  *
  *   Reads    record.
  *   Writes   the first bytes of text, as many as answer[1] says: what the program `basmuthar` prints. Later bytes stay.
- *   Refuses  with 1 to 9; then with 10 and the length wanted where text_len is below it. Longer text is welcome.
+ *   Refuses  with 1 to 9 and 15 to 17; then with 10 and the length wanted where text_len is below it. Longer text is
+ *            welcome.
  *
  *   To learn the length, lend none (NULL, 0): every text has a first line, so 10 tells it. It can be above 2^32.
  */

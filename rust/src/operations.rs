@@ -21,7 +21,7 @@ pub struct Sizes {
 
 /// Size: the three numbers of a record.
 ///
-/// Refuses with 1 to 9.
+/// Refuses with 1 to 9 and 15 to 17.
 pub fn size(record: &[u8]) -> Result<Sizes, Refusal> {
     let mut answer = Answer::default();
     unsafe { basmuthar_size(record.as_ptr(), record.len(), &mut answer) };

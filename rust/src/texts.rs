@@ -79,8 +79,9 @@ pub fn read_text(text: &[u8], list: &mut [i32]) -> Result<Sizes, Refusal> {
 /// Read reply: a solver's reply about so many SAT variables as a model, or that there is none.
 ///
 /// The reply is the line `s SATISFIABLE`, then lines of `v` and numbers, each after one space, the last of them 0; or the line
-/// `s UNSATISFIABLE` alone. Byte i of `model` becomes the truth of SAT variable i + 1. Refuses with 18 for a bad reply; then,
-/// where it says yes, with 19 for a variable that it lacks or has more than once, and with 11 for the length of `model`.
+/// `s UNSATISFIABLE` alone. Every line ends with a newline, also the last. Byte i of `model` becomes the truth of SAT variable
+/// i + 1. Refuses with 18 for a bad reply; then, where it says yes, with 19 for a variable that it lacks or has more than once,
+/// and with 11 for the length of `model`.
 ///
 /// ```
 /// use basmuthar::{read_reply, Reply};

@@ -28,6 +28,10 @@ fn a_solver_that_gives_up_or_says_nothing_is_4() {
     ends("echo no idea", "x at most 7", 4, "line 1, column 1: refusal 18: expected a line of `c`");
     ends("echo s UNSATISFIABLE; echo or not", "x at most 7", 4, "its reply, line 2, column 1");
     ends("printf '\\377\\n'", "x at most 7", 4, "its reply, line 1, column 1");
+    for line in ["v 1 0", "v"] {
+        let script = format!("echo s UNSATISFIABLE; echo {line}; exit 20");
+        ends(&script, "x at most 7", 4, "refusal 18: expected no line of `v` beside a no");
+    }
 }
 
 #[test]

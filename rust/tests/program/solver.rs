@@ -61,6 +61,16 @@ fn a_model_in_the_form_of_minisat_is_read_back() {
 }
 
 #[test]
+fn bytes_that_are_no_utf_8_are_left_out_in_a_comment_and_refused_elsewhere() {
+    let (words, status) = replied(r"c caf\351\ns SATISFIABLE\nv -1 2 3 4 -5 -6 7 8 9 -10 0\n");
+    assert_eq!(words, "# a solution, decoded and judged\nx = 0\ny = 1\n");
+    assert_eq!(status, Some(0));
+    let (words, status) = replied(r"s UNSATISFIABLE\n\351\n");
+    assert!(words.starts_with("the reply, line 2, column 1: refusal 18: "), "{words}");
+    assert_eq!(status, Some(1));
+}
+
+#[test]
 fn a_solver_that_gave_up_has_a_status_of_its_own() {
     for reply in [r"s UNKNOWN\n", r"INDET\n"] {
         let expected = "the reply: the solver says neither yes nor no\n";

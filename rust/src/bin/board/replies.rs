@@ -1,10 +1,12 @@
 //! What solvers print, put into the one form of a reply that the library reads.
 //!
-//! Comments and blank lines are left out, the verdict comes first, minisat's words become those of competitions, numbers have one
-//! blank between them, and what a yes leaves out is false. All that the solver says of a variable stays as often and as it is said,
-//! and a line that is none of a reply stays too: what is wrong with them is for the library to say.
+//! Comments and blank lines are left out, spaces and carriage returns at the end of a line too, the verdict comes first, minisat's
+//! words become those of competitions, numbers have one space between them, and what a yes leaves out is false. All that the solver
+//! says of a variable stays as often and as it is said, and a line that is none of a reply stays too, as does a `v` without numbers:
+//! what is wrong with them is for the library to say.
 
 use crate::complaint::Spot;
+use std::collections::VecDeque;
 
 #[derive(Debug, Clone, Copy, PartialEq, Eq)]
 pub enum Verdict {
@@ -29,7 +31,8 @@ struct Line<'a> {
     spot: Spot,
 }
 
-/// A word of the text, the verdict's line, or a line that is none: where it begins in the text, and where the solver wrote it.
+/// A word of the text, the verdict's line, or a line that is none: where it begins in the text, and where the solver wrote it. What
+/// stands before a number in its line belongs to it; a `v` without numbers has an empty word.
 #[derive(Debug, Clone, Copy, PartialEq, Eq)]
 pub struct Piece<'a> {
     pub at: usize,
@@ -43,6 +46,8 @@ pub struct Piece<'a> {
 pub struct Formed<'a> {
     pub text: String,
     pub pieces: Vec<Piece<'a>>,
+    /// The variables that the solver leaves out and that are not yet in the text, in rising order.
+    left_out: VecDeque<u64>,
 }
 
 /// Puts what a solver prints about so many SAT variables into the library's form.
@@ -52,7 +57,7 @@ pub fn formed(printed: &str, variables: usize) -> Formed<'_> {
     let mut formed = Formed::default();
     lines.iter().filter(is_verdict).for_each(|line| formed.put_line(line));
     if formed.verdicts() == [Verdict::Yes] {
-        formed.put_left_out(&lines, variables);
+        formed.left_out = left_out(&lines, variables);
     }
     lines.iter().filter(|line| !is_verdict(line)).for_each(|line| formed.put_line(line));
     formed
@@ -64,20 +69,26 @@ fn lines_of(printed: &str) -> Vec<Line<'_>> {
     let mut lines = Vec::new();
     for (line, number) in printed.lines().zip(1..) {
         lines.extend(line_of(line, number, has_bare_numbers));
-        has_bare_numbers |= line.trim_end() == "SAT";
+        has_bare_numbers |= without_end(line) == "SAT";
     }
     lines
 }
 
-/// A line without the blanks and the carriage return at its end, unless it is blank or a comment.
+/// A line without the spaces and carriage returns at its end. Any other blank is for the library to refuse.
+fn without_end(line: &str) -> &str {
+    line.trim_end_matches([' ', '\r'])
+}
+
+/// A line without its end, unless it is blank or a comment.
 fn line_of(line: &str, number: usize, has_bare_numbers: bool) -> Option<Line<'_>> {
-    let (line, spot) = (line.trim_end(), Spot { line: number, column: 1 });
+    let (line, spot) = (without_end(line), Spot { line: number, column: 1 });
     if let Some(verdict) = verdict_in(line) {
         return Some(Line { kind: Kind::Verdict(verdict), words: line, spot });
     }
     match line.split_once(' ').unwrap_or((line, "")) {
         ("c", _) => None,
         _ if line.is_empty() => None,
+        ("v", "") => Some(Line { kind: Kind::Numbers, words: "", spot }),
         ("v", words) => Some(Line { kind: Kind::Numbers, words, spot: Spot { column: 3, ..spot } }),
         _ if has_bare_numbers && begins_with_a_number(line) => {
             Some(Line { kind: Kind::Numbers, words: line, spot })
@@ -97,10 +108,10 @@ fn verdict_in(line: &str) -> Option<Verdict> {
 }
 
 fn begins_with_a_number(line: &str) -> bool {
-    line.trim_start().starts_with(|first: char| first.is_ascii_digit() || first == '-')
+    line.trim_start_matches(' ').starts_with(|first: char| first.is_ascii_digit() || first == '-')
 }
 
-/// The words of a line that are parted by one blank or more, each with its spot.
+/// The words of a line that are parted by one space or more, each with its spot.
 fn words_of<'a>(line: &Line<'a>) -> Vec<(&'a str, Spot)> {
     let mut spot = line.spot;
     let mut words = Vec::new();
@@ -118,7 +129,7 @@ pub fn variable_of(word: &str) -> Option<u64> {
 }
 
 /// Of so many variables those that no line speaks of.
-fn left_out(lines: &[Line], variables: usize) -> Vec<usize> {
+fn left_out(lines: &[Line], variables: usize) -> VecDeque<u64> {
     let mut is_told = vec![false; variables + 1];
     for line in lines.iter().filter(|line| line.kind == Kind::Numbers) {
         for variable in words_of(line).iter().filter_map(|(word, _)| variable_of(word)) {
@@ -127,7 +138,7 @@ fn left_out(lines: &[Line], variables: usize) -> Vec<usize> {
             }
         }
     }
-    (1..=variables).filter(|variable| !is_told[*variable]).collect()
+    (1..=variables as u64).filter(|variable| !is_told[*variable as usize]).collect()
 }
 
 impl<'a> Formed<'a> {
@@ -156,16 +167,19 @@ impl<'a> Formed<'a> {
         self.text.push('\n');
     }
 
-    /// A line of `v` with these numbers; none where there are no numbers.
+    /// A line of `v` with these numbers, each behind the variables before it that are left out: a reply in rising order stays so.
     fn put_numbers(&mut self, line: &Line<'a>) {
         let words = words_of(line);
+        if words.is_empty() {
+            self.put("v", line.kind, "", line.spot);
+        }
         for (index, (word, spot)) in words.iter().enumerate() {
-            let lead = if index == 0 { "v " } else { " " };
-            self.put(&format!("{lead}{word}"), line.kind, word, *spot);
+            self.put(if index == 0 { "v" } else { "" }, line.kind, word, *spot);
+            self.put_left_out_before(word);
+            self.text.push(' ');
+            self.text += word;
         }
-        if !words.is_empty() {
-            self.text.push('\n');
-        }
+        self.text.push('\n');
     }
 
     fn put(&mut self, text: &str, kind: Kind, word: &'a str, spot: Spot) {
@@ -173,13 +187,12 @@ impl<'a> Formed<'a> {
         self.text += text;
     }
 
-    /// A line of `v` in which the variables that the solver leaves out are false.
-    fn put_left_out(&mut self, lines: &[Line], variables: usize) {
-        let left_out = left_out(lines, variables);
-        if !left_out.is_empty() {
-            self.text.push('v');
-            left_out.iter().for_each(|variable| self.text += &format!(" -{variable}"));
-            self.text.push('\n');
+    /// The variables that are left out, as false: the lesser ones before a number, all that remain before the 0.
+    fn put_left_out_before(&mut self, word: &str) {
+        let end = if word == "0" { u64::MAX } else { variable_of(word).unwrap_or(0) };
+        let count = self.left_out.partition_point(|variable| *variable < end);
+        for variable in self.left_out.drain(..count) {
+            self.text += &format!(" -{variable}");
         }
     }
 }
@@ -214,12 +227,8 @@ mod tests {
         assert_eq!(text("SAT\n1 -2 0\n", 2), "s SATISFIABLE\nv 1 -2 0\n");
         assert_eq!(text("SAT\n0\n", 0), "s SATISFIABLE\nv 0\n");
         assert_eq!(text("UNSAT\n", 2), "s UNSATISFIABLE\n");
-        assert_eq!(
-            text("s SATISFIABLE\n1 -2 0\n", 2),
-            "s SATISFIABLE\nv -1 -2\n1 -2 0\n",
-            "no `SAT`"
-        );
-        assert_eq!(text("1 0\nSAT\n", 1), "s SATISFIABLE\nv -1\n1 0\n", "numbers come after `SAT`");
+        assert_eq!(text("s SATISFIABLE\n1 -2 0\n", 2), "s SATISFIABLE\n1 -2 0\n", "no `SAT`");
+        assert_eq!(text("1 0\nSAT\n", 1), "s SATISFIABLE\n1 0\n", "numbers come after `SAT`");
     }
 
     #[test]
@@ -230,48 +239,51 @@ mod tests {
 
     #[test]
     fn blanks_carriage_returns_and_the_last_newline_are_set_right() {
-        let printed = "s SATISFIABLE \r\nv  1   -2 \r\nv\r\nv 0\r";
+        let printed = "s SATISFIABLE \r\nv  1   -2 \r\nv 0\r";
         assert_eq!(text(printed, 2), "s SATISFIABLE\nv 1 -2\nv 0\n");
         assert_eq!(text("s UNSATISFIABLE", 2), "s UNSATISFIABLE\n");
     }
 
     #[test]
     fn what_a_yes_leaves_out_is_false() {
-        assert_eq!(text("s SATISFIABLE\nv 2 0\n", 3), "s SATISFIABLE\nv -1 -3\nv 2 0\n");
-        assert_eq!(text("s SATISFIABLE\nv 0\n", 2), "s SATISFIABLE\nv -1 -2\nv 0\n");
+        assert_eq!(text("s SATISFIABLE\nv 2 0\n", 3), "s SATISFIABLE\nv -1 2 -3 0\n");
+        assert_eq!(text("s SATISFIABLE\nv 0\n", 2), "s SATISFIABLE\nv -1 -2 0\n");
+        assert_eq!(text("SAT\n-2 5\n0\n", 6), "s SATISFIABLE\nv -1 -2 -3 -4 5\nv -6 0\n");
+        assert_eq!(text("s SATISFIABLE\nv 4 -2 0\n", 4), "s SATISFIABLE\nv -1 -3 4 -2 0\n");
         assert_eq!(text("s UNSATISFIABLE\n", 2), "s UNSATISFIABLE\n");
         assert_eq!(text("v 2 0\n", 2), "v 2 0\n", "no verdict");
     }
 
     #[test]
     fn nothing_that_is_wrong_is_set_right() {
-        let yes = |rest: &str| format!("s SATISFIABLE\n{rest}");
-        for rest in ["v 1 -1 0\n", "v 1 1 0\n", "v 1\n", "v 1 0 0\n", "v 1 0\nv 1 0\n", "v 1 2 0\n"]
-        {
-            assert_eq!(text(&yes(rest), 1), yes(rest));
+        let rows = [
+            ["v 1 -1 0\n", "v 1 1 0\n", "v 1\n", "v 1 0 0\n", "v 1 0\nv 1 0\n", "v 1 2 0\n"],
+            ["v 1 x 0\n", "v 1 -0\n", "v 1 +1 0\n", "v 01 0\n", "v 1\t0\n", "v 1 0\nand so on\n"],
+            ["v\n", "v\nv 1 0\n", "v 1 0\nv\n", "v\t\nv 1 0\n", "v 1 0\t\n", "v 1 0\u{a0}\n"],
+        ];
+        for rest in rows.concat() {
+            let yes = format!("s SATISFIABLE\n{rest}");
+            assert_eq!(text(&yes, 1), yes);
         }
-        for rest in
-            ["v 1 x 0\n", "v 1 -0\n", "v 1 +1 0\n", "v 01 0\n", "v 1\t0\n", "v 1 0\nand so on\n"]
-        {
-            assert_eq!(text(&yes(rest), 1).replace("v -1\n", ""), yes(rest));
+        for verdicts in ["s SATISFIABLE\ns UNSATISFIABLE\n", "s UNSATISFIABLE\n"] {
+            for rest in ["v 1 0\n", "v\n"] {
+                let reply = format!("{verdicts}{rest}");
+                assert_eq!(text(&reply, 1), reply);
+            }
         }
-        let both = "s SATISFIABLE\ns UNSATISFIABLE\nv 1 0\n";
-        assert_eq!(text(both, 1), both);
-        let no_with_numbers = "s UNSATISFIABLE\nv 1 0\n";
-        assert_eq!(text(no_with_numbers, 1), no_with_numbers);
     }
 
     #[test]
     fn a_byte_of_the_text_is_found_where_the_solver_wrote_it() {
         let formed = formed("c hello\nSAT\n 1  -3 0\n", 3);
-        assert_eq!(formed.text, "s SATISFIABLE\nv -2\nv 1 -3 0\n");
+        assert_eq!(formed.text, "s SATISFIABLE\nv 1 -2 -3 0\n");
         let spot = |offset| formed.piece_at(offset).map(|piece| (piece.word, piece.spot));
         assert_eq!(spot(0), Some(("SAT", Spot { line: 2, column: 1 })));
-        for (offsets, word, column) in [(19..22, "1", 2), (22..25, "-3", 5), (25..28, "0", 8)] {
+        for (offsets, word, column) in [(14..17, "1", 2), (17..23, "-3", 5), (23..26, "0", 8)] {
             for offset in offsets {
                 assert_eq!(spot(offset), Some((word, Spot { line: 3, column })), "{offset}");
             }
         }
-        assert_eq!(spot(28), None);
+        assert_eq!(spot(26), None);
     }
 }

@@ -75,7 +75,7 @@ fn unread(formed: &Formed, variables: usize, refusal: Refusal, end: Spot) -> Unr
             let words = "expected a line `s SATISFIABLE` or `s UNSATISFIABLE`";
             (Fault::NoVerdict, words.to_string())
         }
-        _ => (Fault::NoVerdict, "expected no numbers beside a no".to_string()),
+        _ => (Fault::NoVerdict, "expected no line of `v` beside a no".to_string()),
     };
     let spot = piece.map_or(end, |piece| piece.spot);
     Unread {
@@ -95,7 +95,9 @@ fn second_of<'a, 'b>(formed: &'b Formed<'a>, variable: u64) -> Option<&'b Piece<
 fn number_words(formed: &Formed, piece: &Piece, most: usize, refusal: Refusal) -> String {
     let word = piece.word;
     let mut before = formed.pieces.iter().take_while(|other| other.at < piece.at);
-    if refusal.number == TWICE {
+    if word.is_empty() {
+        "expected a number in a line of `v`".to_string()
+    } else if refusal.number == TWICE {
         format!("expected each variable once, found `{word}` again")
     } else if before.any(|other| other.kind == Kind::Numbers && other.word == "0") {
         format!("expected nothing after the 0, found `{word}`")
@@ -135,6 +137,9 @@ mod tests {
         let beyond = "18: expected a number from -5 to 5, found `6`";
         let no_number = "18: expected a number from -5 to 5, found `x`";
         let after = "18: expected nothing after the 0, found `2`";
+        let bare = "18: expected a number in a line of `v`";
+        let beside_no = "18: expected no line of `v` beside a no";
+        let no_break = "18: expected a number from -5 to 5, found `0\u{a0}`";
         let again = "19: expected each variable once, found `-1` again";
         let rows = [
             ("", NoVerdict, 1, 1, verdict),
@@ -142,12 +147,17 @@ mod tests {
             ("c\nv 1 2 0\n", NoVerdict, 2, 3, verdict),
             ("SATISFIABLE\n", NoVerdict, 1, 1, line),
             ("s UNSATISFIABLE\ncalculated\n", NoVerdict, 2, 1, line),
-            ("s UNSATISFIABLE\nv 1 0\n", NoVerdict, 2, 3, "18: expected no numbers beside a no"),
+            ("s UNSATISFIABLE\nv 1 0\n", NoVerdict, 2, 3, beside_no),
+            ("s UNSATISFIABLE\nv\n", NoVerdict, 2, 1, beside_no),
+            ("s UNSATISFIABLE\u{a0}\n", NoVerdict, 1, 1, line),
             ("s SATISFIABLE\n1 -2 0\n", NoVerdict, 2, 1, line),
             ("s SATISFIABLE\ns SATISFIABLE\n", TwoVerdicts, 2, 1, two),
             ("SAT\n1 0\ns UNSATISFIABLE\n", TwoVerdicts, 3, 1, two),
             ("s SATISFIABLE\nv 1 -2\n", NoModel, 2, 1, end),
             ("SAT\n", NoModel, 1, 1, end),
+            ("s SATISFIABLE\nv\nv 1 0\n", NoModel, 2, 1, bare),
+            ("s SATISFIABLE\nv 1 0\nv \n", NoModel, 3, 1, bare),
+            ("s SATISFIABLE\nv 1 0\u{a0}\n", NoModel, 2, 5, no_break),
             ("s SATISFIABLE\nv 1 6 0\n", NoModel, 2, 5, beyond),
             ("SAT\n1 x 0\n", NoModel, 2, 3, no_number),
             ("s SATISFIABLE\nv 1 -1 0\n", NoModel, 2, 5, again),

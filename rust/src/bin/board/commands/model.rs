@@ -10,8 +10,9 @@ use std::io::{self, Read};
 
 pub fn run(file: &str) -> Result<bool, Trouble> {
     let opened = Opened::open(file)?;
-    let mut text = String::new();
-    io::stdin().read_to_string(&mut text).map_err(|error| format!("standard input: {error}"))?;
+    let mut bytes = Vec::new();
+    io::stdin().read_to_end(&mut bytes).map_err(|error| format!("standard input: {error}"))?;
+    let text = String::from_utf8_lossy(&bytes);
     let reply = read_reply(&text, opened.sizes.variables)
         .map_err(|unread| unread.complaint.shown("the reply", &text))?;
     match reply {
