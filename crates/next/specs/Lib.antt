@@ -1,0 +1,5 @@
+pub mod Once
+pub mod Equal
+pub mod Seen
+pub mod OnceLaws
+pub mod OnceRows
