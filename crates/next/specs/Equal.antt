@@ -35,7 +35,7 @@ atom-decides (selector i) (bool j) = never (λ t. t) (λ e. cc)
 atom-decides (selector i) (order y d) = never (λ t. t) (λ e. cc)
 atom-decides (selector i) (selector j) = let r = equals i j in record { sound = λ t. ap selector (r .sound t); full = λ e. r .full (cc) }
 
-literal-decides : (a b : SatLiteral) → Decides (sameLiteral a b) (a ≡ b)
+pub literal-decides : (a b : SatLiteral) → Decides (sameLiteral a b) (a ≡ b)
 literal-decides (plus a) (plus b) = let r = atom-decides a b in record { sound = λ t. ap plus (r .sound t); full = λ e. r .full (cc) }
 literal-decides (plus a) (minus b) = never (λ t. t) (λ e. cc)
 literal-decides (minus a) (plus b) = never (λ t. t) (λ e. cc)

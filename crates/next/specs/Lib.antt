@@ -3,3 +3,7 @@ pub mod Equal
 pub mod Seen
 pub mod OnceLaws
 pub mod OnceRows
+pub mod Classes
+pub mod FirstTuples
+pub mod TermClasses
+pub mod Kept
