@@ -7,3 +7,5 @@ pub mod Classes
 pub mod FirstTuples
 pub mod TermClasses
 pub mod Kept
+pub mod Bools
+pub mod OnceTheorems

@@ -1,7 +1,7 @@
 -- What is kept of a list whose equal entries are kept once: the same entries, pairwise different, each where it first stands. Assumes nothing.
 use mathlib.Core.Path.{_≡_, refl, sym, ap, ap₂, _∙_, subst}
 use mathlib.Core.Logic.{_⊎_, _↔_, _≢_, inl, inr}
-use mathlib.Core.Bool.{Bool, true, false, not, _||_}
+use mathlib.Core.Bool.{Bool, true, false, not, _||_, or-false}
 use mathlib.Core.List.{List, [], _∷_, _++_, map, append-assoc}
 use Prim.Native.Nat.{ℕ, suc, _≤_}
 use native.Mathlib.Omega.{arith}
@@ -61,16 +61,6 @@ keep-different f (x ∷ xs) d = go (f x) (keep-different f xs (d .1))
     go : (b : Bool) → Different (keep f xs) → Different (if b then x ∷ keep f xs else keep f xs)
     go true r = (keep-all f (λ y. x ≢ y) xs (d .0), r)
     go false r = r
-
--- nor what is made of them, where unequal entries give unequal things
-pub map-different : {A B : Type 0} (f : A → B) (P : A → Type 0) → ((x y : A) → P x → P y → f x ≡ f y → x ≡ y) → (xs : List A) → All P xs → Different xs
-    → Different (map f xs)
-map-different f P tells [] a d = tt
-map-different f P tells (x ∷ xs) a d = (apart xs (a .1) (d .0), map-different f P tells xs (a .1) (d .1))
-  where
-    apart : (ys : List _) → All P ys → All (λ y. x ≢ y) ys → All (λ z. f x ≢ z) (map f ys)
-    apart [] a d = tt
-    apart (y ∷ ys) b d = (λ e. d .0 (tells x y (a .0) (b .0) e), apart ys (b .1) (d .1))
 
 -- ---- no longer than the list
 pub once-most : {A : Type 0} (same : A → A → Bool) (xs : List A) → length (once same xs) ≤ length xs
@@ -158,17 +148,13 @@ module _ {A : Type 0} (same : A → A → Bool) (d : A) where
       longer : length (done ++ (x ∷ [])) ≡ suc (length done)
       longer = omega (arith, length-append done (x ∷ []))
 
-      none : (b : Bool) → (b || false) ≡ b
-      none true = refl
-      none false = refl
-
       Later : Type 0
       Later = unseen same (λ y. any (λ x. same x y) more) xs ≡ chosen (more ++ xs) (length more) (length xs)
 
       on : Later → unseen same (λ y. any (λ x. same x y) done || same x y) xs ≡ chosen (done ++ (x ∷ xs)) (suc (length done)) (length xs)
       on later =
           unseen-same same _ (λ y. any (λ x. same x y) more)
-          (λ y. sym (any-append (λ z. same z y) done (x ∷ []) ∙ ap (λ b. any (λ z. same z y) done || b) (none (same x y)))) xs
+          (λ y. sym (any-append (λ z. same z y) done (x ∷ []) ∙ ap (λ b. any (λ z. same z y) done || b) (or-false (same x y)))) xs
           ∙ later
           ∙ ap₂ (λ l n. chosen l n (length xs)) joined longer
 
@@ -181,3 +167,26 @@ module _ {A : Type 0} (same : A → A → Bool) (d : A) where
 
   pub once-places : (xs : List A) → once same xs ≡ chosen xs 0 (length xs)
   once-places xs = once-unseen same xs ∙ from-here [] xs
+
+-- ---- what is made of the entries is kept once alike, where equal things come of equal entries alone
+module _ {A B : Type 0} (f : A → B) (same : A → A → Bool) (same′ : B → B → Bool) (P : A → Type 0)
+    (agree : (x y : A) → P x → P y → same x y ≡ same′ (f x) (f y)) where
+  map-keep : (x : A) → P x → (ys : List A) → All P ys → map f (keep (λ y. not (same x y)) ys) ≡ keep (λ z. not (same′ (f x) z)) (map f ys)
+  map-keep x p [] a = refl
+  map-keep x p (y ∷ ys) a = rw (agree x y p (a .0)) (go (same′ (f x) (f y)) (map-keep x p ys (a .1)))
+    where
+      go : (b : Bool) → map f (keep (λ y. not (same x y)) ys) ≡ keep (λ z. not (same′ (f x) z)) (map f ys)
+          → map f (if not b then y ∷ keep (λ y. not (same x y)) ys else keep (λ y. not (same x y)) ys)
+          ≡ (if not b then f y ∷ keep (λ z. not (same′ (f x) z)) (map f ys) else keep (λ z. not (same′ (f x) z)) (map f ys))
+      go true e = e
+      go false e = ap (λ l. f y ∷ l) e
+
+  kept : (xs : List A) → All P xs → All P (once same xs)
+  unfolding once
+  kept [] a = tt
+  kept (x ∷ xs) a = (a .0, keep-all (λ y. not (same x y)) P (once same xs) (kept xs (a .1)))
+
+  pub once-map : (xs : List A) → All P xs → map f (once same xs) ≡ once same′ (map f xs)
+  unfolding once
+  once-map [] a = refl
+  once-map (x ∷ xs) a = ap (λ l. f x ∷ l) (map-keep x (a .0) (once same xs) (kept xs (a .1)) ∙ ap (keep (λ z. not (same′ (f x) z))) (once-map xs (a .1)))
