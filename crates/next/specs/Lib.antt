@@ -9,3 +9,13 @@ pub mod TermClasses
 pub mod Kept
 pub mod Bools
 pub mod OnceTheorems
+pub mod RunSums
+pub mod FirstCounts
+pub mod Pairs
+pub mod Remainders
+pub mod PairTests
+pub mod ClassEnds
+pub mod PairSteps
+pub mod ClosedPairs
+pub mod Totals
+pub mod FirstWalk
