@@ -19,3 +19,4 @@ pub mod PairSteps
 pub mod ClosedPairs
 pub mod Totals
 pub mod FirstWalk
+pub mod Shapes
