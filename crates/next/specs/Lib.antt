@@ -20,3 +20,4 @@ pub mod ClosedPairs
 pub mod Totals
 pub mod FirstWalk
 pub mod Shapes
+pub mod Hops
