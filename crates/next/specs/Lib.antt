@@ -21,3 +21,5 @@ pub mod Totals
 pub mod FirstWalk
 pub mod Shapes
 pub mod Hops
+pub mod Windows
+pub mod CountedPairs
