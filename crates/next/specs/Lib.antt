@@ -17,9 +17,9 @@ pub mod PairTests
 pub mod ClassEnds
 pub mod PairSteps
 pub mod ClosedPairs
-pub mod Totals
 pub mod FirstWalk
 pub mod Shapes
 pub mod Hops
 pub mod Windows
 pub mod CountedPairs
+pub mod Triples
