@@ -10,7 +10,6 @@ use Rattle.next.specs.Bools.{eqb-no, eqb-yes}
 use Rattle.next.specs.Classes.{Place, isLow, isHigh}
 use Rattle.next.specs.Remainders.{remainder}
 
-
 -- ---- classes of A offsets each: what lies between the ends of classes
 abbrev pub Every : {L : Type 0} → ℕ → Place L → Type 0
 Every A p = (k : ℕ) → p .cut k ≡ eqb (k % A) 0

@@ -23,3 +23,5 @@ pub mod Hops
 pub mod Windows
 pub mod CountedPairs
 pub mod Triples
+pub mod OnceBoard
+pub mod CaseTen

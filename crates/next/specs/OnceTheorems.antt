@@ -50,7 +50,6 @@ pub different : (lead : SatClause) (of : ℕ → Bounds) (q : Comparison) → Di
 unfolding clausesOnce
 different lead of q = once-different sameClause clause-decides (clausesUnder lead of q)
 
-
 -- a literal's number tells the literal, among those that speak of the board's atoms
 module _ (B : Board) where
   atom-told : (a b : Atom) → Has B a → Has B b → number B a ≡ number B b → a ≡ b

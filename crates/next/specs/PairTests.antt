@@ -11,7 +11,6 @@ use Rattle.laws.specs.Offsets.{offsets}
 use Rattle.next.specs.Once.{keep}
 use Rattle.next.specs.Classes.{Place, isLow, isHigh, pick}
 
-
 -- ---- the numbers of a run that pass a test: what fails may be stepped over
 pub keep-skip : (f : ℕ → Bool) (b m n : ℕ) → ((k : ℕ) → b ≤ k → k < b + m → f k ≡ false) → keep f (countUp b (m + n)) ≡ keep f (countUp (b + m) n)
 keep-skip f b zero n h = let e : 0 + n ≡ n = omega arith in let e′ : b + 0 ≡ b = omega arith in ap₂ (λ i j. keep f (countUp i j)) (sym e′) e
