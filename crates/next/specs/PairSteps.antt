@@ -1,7 +1,7 @@
 -- The steps of a walk over the first tuples of two places: from one straight to the next. Assumes nothing.
 use mathlib.Core.Path.{_≡_, refl, ap, _∙_}
 use mathlib.Core.Logic.{_≢_}
-use mathlib.Core.Bool.{Bool, true, false, not, _&&_, _||_, or-true, or-false}
+use mathlib.Core.Bool.{Bool, true, false, not, _&&_, _||_, or-true, or-false, and-true}
 use mathlib.Core.List.{[], _∷_}
 use Prim.Native.Nat.{ℕ, suc, min, _+_, _*_, _-_, _/_, _%_, _≤_, _<_}
 use native.Mathlib.Nat.{div-add-mod, mod-lt}
@@ -12,7 +12,7 @@ use Rattle.definitions.specs.Tools.{if_then_else_, countUp}
 use Rattle.next.specs.Once.{keep}
 use Rattle.next.specs.Bools.{eqb-no, eqb-yes}
 use Rattle.next.specs.Classes.{Place, isLow, isHigh}
-use Rattle.next.specs.Remainders.{remainder, Least, pair-test}
+use Rattle.next.specs.Remainders.{remainder, Least, bothMultiples, pair-test, pair-none}
 use Rattle.next.specs.PairTests.{good, keep-skip, keep-next, keep-end}
 use Rattle.next.specs.ClassEnds.{Every, nextLow, lastHigh, nextHigh, next-low, next-low-above, low-gap, last-high, last-high-below, high-gap, high-skip}
 
@@ -114,71 +114,58 @@ ahead-is P r b h = go (leb (b % P) r) (leb→le (b % P) r) (nleb→lt (b % P) r)
         }
 
 -- ---- two places, some before not at its least: both at their greatest
-and-no : (x y : Bool) → x ≡ false → (x && y) ≡ false
-and-no x y p = rw p refl
+module _ {L : Type 0} (A B : ℕ) (b c : Place L) (hb : Every A b) (hc : Every B c) (s : ℕ) where
+  -- where the window begins the second is at its width
+  pub full-entry : c .width ≤ s → good false b c s (s - c .width) ≡ isHigh b (s - c .width)
+  full-entry h =
+      let e : s - (s - c .width) ≡ c .width = omega arith in
+      rw (e, eqb-yes (c .width) (c .width) refl, or-true (c .cut (c .width))) (and-true (isHigh b (s - c .width)))
 
-module _ {L : Type 0} (A B : ℕ) (b c : Place L) (hb : Every A b) (hc : Every B c) (pa : 0 < A) (pb : 0 < B) (s : ℕ) where
-  -- scanning: from one greatest one of the first place to its next
-  pub full-scan : (k end : ℕ) → k < b .width → nextHigh A b hb pa k < end → isHigh c (s - nextHigh A b hb pa k) ≡ false
-      → keep (good false b c s) (countUp (suc k) (end - suc k)) ≡ keep (good false b c s) (countUp (suc (nextHigh A b hb pa k)) (end - suc (nextHigh A b hb pa k)))
-  full-scan k end w u t =
-      let j = nextHigh A b hb pa k in
-      let d = div-add-mod k A in
-      let m = mod-lt k pa in
-      let e : end - suc k ≡ (j - k) + (end - suc j) = omega arith in
-      let e′ : suc k + (j - k) ≡ suc j = omega arith in
-      ap (λ n. keep (good false b c s) (countUp (suc k) n)) e
-      ∙ keep-skip (good false b c s) (suc k) (j - k) (end - suc j) (λ i p q. miss i p (omega arith))
-      ∙ ap (λ i. keep (good false b c s) (countUp i (end - suc j))) e′
+  -- inside both widths both are multiples
+  inner-good : (k : ℕ) → k < b .width → k ≤ s → s < k + c .width → good false b c s k ≡ bothMultiples A B s k
+  inner-good k w l v =
+      rw (hb k, hc (s - k), eqb-no k (b .width) (λ e. omega arith), eqb-no (s - k) (c .width) (λ e. omega arith), or-false (eqb (k % A) 0), or-false (eqb ((s - k) % B) 0)) refl
+
+  -- no more inside, from lo on
+  abbrev pub Inside-none : ℕ → Type 0
+  Inside-none lo = (k : ℕ) → lo ≤ k → k < min (b .width) (suc s) → good false b c s k ≡ false
+
+  -- then the first place's width is what is left, if the second is at its greatest
+  pub full-last : (lo : ℕ) → Inside-none lo → lo ≤ b .width → b .width ≤ s
+      → keep (good false b c s) (countUp lo (suc (b .width) - lo)) ≡ (if isHigh c (s - b .width) then b .width ∷ [] else [])
+  full-last lo n v u =
+      let e : suc (b .width) - lo ≡ (b .width - lo) + 1 = omega arith in
+      let e′ : lo + (b .width - lo) ≡ b .width = omega arith in
+      ap (λ n. keep (good false b c s) (countUp lo n)) e
+      ∙ keep-skip (good false b c s) lo (b .width - lo) 1 (λ k p q. n k p (omega arith))
+      ∙ ap (λ i. keep (good false b c s) (countUp i 1)) e′
+      ∙ ap (λ x. if x then b .width ∷ [] else []) (ends (isHigh c (s - b .width)))
     where
-      miss : (i : ℕ) → suc k ≤ i → i ≤ nextHigh A b hb pa k → good false b c s i ≡ false
-      miss i p q = elim (decLe (suc i) (nextHigh A b hb pa k)) [
-        | yes y ↦ and-no (isHigh b i) (isHigh c (s - i)) (high-skip A b hb pa k i p y)
-        | no n ↦ at (isHigh b i) (same n)
-      ]
-        where
-          same : ¬ (suc i ≤ nextHigh A b hb pa k) → i ≡ nextHigh A b hb pa k
-          same n = omega arith
+      ends : (y : Bool) → (isHigh b (b .width) && y) ≡ y
+      ends y = rw (eqb-yes (b .width) (b .width) refl, or-true (b .cut (b .width))) refl
 
-          at : (x : Bool) → i ≡ nextHigh A b hb pa k → (x && isHigh c (s - i)) ≡ false
-          at x e = ap (λ z. x && isHigh c (s - z)) e ∙ off x t
-            where
-              off : (x : Bool) → isHigh c (s - nextHigh A b hb pa k) ≡ false → (x && isHigh c (s - nextHigh A b hb pa k)) ≡ false
-              off true t = t
-              off false t = refl
+  pub full-end : (lo : ℕ) → Inside-none lo → s < b .width → keep (good false b c s) (countUp lo (suc s - lo)) ≡ []
+  full-end lo n u = keep-end (good false b c s) lo (suc s) (λ k p q. n k p (omega arith))
 
-  -- inside both widths it is one remainder
-  module _ (P : ℕ) (least : Least A B P) (k0 : ℕ) (small : k0 < P) (first : k0 % A ≡ 0) (second : k0 % B ≡ s % B) where
-    pub inner-test : (k : ℕ) → k < b .width → k ≤ s → s - k < c .width → good false b c s k ≡ eqb (k % P) k0
-    inner-test k w l v =
-        rw (hb k, hc (s - k), eqb-no k (b .width) (λ e. omega arith), eqb-no (s - k) (c .width) (λ e. omega arith), or-false (eqb (k % A) 0), or-false (eqb ((s - k) % B) 0))
-        (pair-test A B P least k0 small first s second k l)
+  module _ (P : ℕ) (least : Least A B P) where
+    -- where the period has no start there is none
+    pub no-start : ((k : ℕ) → k < P → k % A ≡ 0 → k % B ≡ s % B → ⊥) → (lo : ℕ) → s < lo + c .width → Inside-none lo
+    no-start f lo l k p q = inner-good k (omega arith) (omega arith) (omega arith) ∙ pair-none A B P least s f k (omega arith)
 
-    -- leaping: straight to the next
-    pub full-leap : (lo end : ℕ) → s - c .width < lo → ahead P k0 lo < min (b .width) (suc s) → ahead P k0 lo < end
-        → keep (good false b c s) (countUp lo (end - lo)) ≡ ahead P k0 lo ∷ keep (good false b c s) (countUp (suc (ahead P k0 lo)) (end - suc (ahead P k0 lo)))
-    full-leap lo end l w u =
-        let r = ahead-is P k0 lo small in
-        keep-next (good false b c s) lo (ahead P k0 lo) end (r .reached) u
-        (λ k p q. inner-test k (omega arith) (omega arith) (omega arith) ∙ eqb-no (k % P) k0 (r .gap k p q))
-        (inner-test (ahead P k0 lo) (omega arith) (omega arith) (omega (arith, r .reached)) ∙ eqb-yes (ahead P k0 lo % P) k0 (r .leaves))
+    -- else they are those with one remainder
+    module _ (k0 : ℕ) (small : k0 < P) (first : k0 % A ≡ 0) (second : k0 % B ≡ s % B) where
+      inner-test : (k : ℕ) → k < b .width → k ≤ s → s < k + c .width → good false b c s k ≡ eqb (k % P) k0
+      inner-test k w l v = inner-good k w l v ∙ pair-test A B P least k0 small first s second k l
 
-    -- no more inside: the first place's width is what is left
-    pub full-last : (lo : ℕ) → s - c .width < lo → lo ≤ b .width → min (b .width) (suc s) ≤ ahead P k0 lo → b .width ≤ s
-        → keep (good false b c s) (countUp lo (suc (b .width) - lo)) ≡ (if isHigh c (s - b .width) then b .width ∷ [] else [])
-    full-last lo l v w u =
-        let r = ahead-is P k0 lo small in
-        let e : suc (b .width) - lo ≡ (b .width - lo) + 1 = omega arith in
-        let e′ : lo + (b .width - lo) ≡ b .width = omega arith in
-        ap (λ n. keep (good false b c s) (countUp lo n)) e
-        ∙ keep-skip (good false b c s) lo (b .width - lo) 1 (λ k p q. inner-test k (omega arith) (omega arith) (omega arith) ∙ eqb-no (k % P) k0 (r .gap k p (omega arith)))
-        ∙ ap (λ i. keep (good false b c s) (countUp i 1)) e′
-        ∙ ap (λ x. if x then b .width ∷ [] else []) (ends (isHigh c (s - b .width)))
-      where
-        ends : (y : Bool) → (isHigh b (b .width) && y) ≡ y
-        ends y = rw (eqb-yes (b .width) (b .width) refl, or-true (b .cut (b .width))) refl
+      -- straight to the next
+      pub full-leap : (lo end : ℕ) → s < lo + c .width → ahead P k0 lo < min (b .width) (suc s) → ahead P k0 lo < end
+          → keep (good false b c s) (countUp lo (end - lo)) ≡ ahead P k0 lo ∷ keep (good false b c s) (countUp (suc (ahead P k0 lo)) (end - suc (ahead P k0 lo)))
+      full-leap lo end l w u =
+          let r = ahead-is P k0 lo small in
+          keep-next (good false b c s) lo (ahead P k0 lo) end (r .reached) u
+          (λ k p q. inner-test k (omega arith) (omega arith) (omega arith) ∙ eqb-no (k % P) k0 (r .gap k p q))
+          (inner-test (ahead P k0 lo) (omega arith) (omega arith) (omega (arith, r .reached)) ∙ eqb-yes (ahead P k0 lo % P) k0 (r .leaves))
 
-    pub full-end : (lo : ℕ) → s - c .width < lo → min (b .width) (suc s) ≤ ahead P k0 lo → s < b .width → keep (good false b c s) (countUp lo (suc s - lo)) ≡ []
-    full-end lo l w u =
-        let r = ahead-is P k0 lo small in
-        keep-end (good false b c s) lo (suc s) (λ k p q. inner-test k (omega arith) (omega arith) (omega arith) ∙ eqb-no (k % P) k0 (r .gap k p (omega arith)))
+      pub none-ahead : (lo : ℕ) → s < lo + c .width → min (b .width) (suc s) ≤ ahead P k0 lo → Inside-none lo
+      none-ahead lo l w k p q =
+          inner-test k (omega arith) (omega arith) (omega arith) ∙ eqb-no (k % P) k0 (ahead-is P k0 lo small .gap k p (omega arith))

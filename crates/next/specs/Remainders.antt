@@ -163,11 +163,10 @@ pairs-within A B P h k0 l a s b n e u =
     ∙ remainder-within P k0 b n l
 
 -- none where no multiple of A below P has the remainder of s
+pub pair-none : (A B P : ℕ) → Least A B P → (s : ℕ) → ((k : ℕ) → k < P → k % A ≡ 0 → k % B ≡ s % B → ⊥) → (k : ℕ) → k ≤ s → bothMultiples A B s k ≡ false
+pair-none A B P h s f k v = fails _ (λ t. (let p = pair-decides A B s k .sound t in
+    f (k % P) (mod-lt k (h .some)) (sym (past-multiples A P k (h .one)) ∙ p .0) (sym (past-multiples B P k (h .two)) ∙ left-over B s k v .0 (p .1))))
+
 pub pairs-none : (A B P : ℕ) → Least A B P → (s b n : ℕ) → ((k : ℕ) → k < P → k % A ≡ 0 → k % B ≡ s % B → ⊥) → b + n ≤ suc s
     → hits (bothMultiples A B s) b n ≡ 0
-pairs-none A B P h s b n f u = total-none _ b n (λ k v w. unless (bothMultiples A B s k) 1 (fails _ (λ t. miss k (omega arith) (pair-decides A B s k .sound t))))
-  where
-    miss : (k : ℕ) → k ≤ s → (k % A ≡ 0) × ((s - k) % B ≡ 0) → ⊥
-    miss k v p =
-        f (k % P) (mod-lt k (h .some)) (sym (past-multiples A P k (h .one)) ∙ p .0)
-        (sym (past-multiples B P k (h .two)) ∙ left-over B s k v .0 (p .1))
+pairs-none A B P h s b n f u = total-none _ b n (λ k v w. unless (bothMultiples A B s k) 1 (pair-none A B P h s f k (omega arith)))
