@@ -67,6 +67,17 @@ module _ {L : Type 0} (a b c : Place L) (t : ℕ) where
       ∙ ap (over block (suc k)) n
       ∙ entered (suc k) h
 
+  -- over rows that have none
+  pub passes-rows : (k j lo : ℕ) → k < j → j ≤ min (a .width) t → seconds k lo ≡ [] → ((i : ℕ) → k < i → i < j → seconds i (entry i) ≡ []) → left k lo ≡ left j (entry j)
+  unfolding left
+  passes-rows k j lo l h e n =
+      let m = min (a .width) t in
+      let q : m - k ≡ suc m - suc k = omega arith in
+      ap (λ r. map (λ ks. k ∷ ks) (map (λ j. j ∷ (t - k - j) ∷ []) r) ++ over block (suc k) (m - k)) e
+      ∙ ap (over block (suc k)) q
+      ∙ over-window block (suc k) (suc m - suc k) j (suc m - j) l (omega arith) (λ i p u. ap (λ r. map (λ ks. i ∷ ks) (map (λ j. j ∷ (t - i - j) ∷ []) r)) (n i p u)) (λ i p u. absurd (omega arith))
+      ∙ entered j h
+
   pub ends : (k lo : ℕ) → seconds k lo ≡ [] → min (a .width) t ≤ k → left k lo ≡ []
   unfolding left over flatten
   ends k lo e h =

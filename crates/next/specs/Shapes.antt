@@ -6,7 +6,7 @@ use mathlib.Core.List.{List, [], _∷_, map}
 use Prim.Native.Nat.{ℕ, zero, suc, min, _-_, _%_}
 use native.Mathlib.Nat.{mod-one}
 use lib.Dec.{eqb}
-use lib.ListN.{length}
+use lib.ListN.{length, length-map}
 use lib.IntN.{ℤ, pos, natAbs, _-ℤ_}
 use lib.Signed.{_≤ℤ_}
 use Rattle.definitions.specs.Tools.{All, if_then_else_, size}
@@ -21,6 +21,7 @@ use Rattle.next.specs.Once.{clausesOnce}
 use Rattle.next.specs.Bools.{eqb-yes}
 use Rattle.next.specs.Classes.{Place, isLow, isHigh, pick, widthsOf}
 use Rattle.next.specs.FirstCounts.{firstCount}
+use Rattle.next.specs.PairTests.{pick-padded}
 use Rattle.next.specs.Kept.{placesOf, kept-count}
 
 -- a class ends at each multiple of a
@@ -84,3 +85,22 @@ module _ (of : ℕ → Bounds) (q : Comparison) (n : All (λ t. t .coef ≢ pos 
       kept-by-steps lead
       ∙ ap length (pick-all true (map (stepOf of) (q .terms)) (all-single of (q .terms) a) (above of q))
       ∙ ap (λ ws. ways ws (above of q)) (step-widths of (q .terms))
+
+-- ---- three places: those given, and in front as many of no width as are missing
+abbrev pub absent : Place ℕ
+absent = step 1 0
+
+abbrev pub filled : List (Place ℕ) → List (Place ℕ)
+filled [] = absent ∷ absent ∷ absent ∷ []
+filled (c ∷ []) = absent ∷ absent ∷ c ∷ []
+filled (b ∷ c ∷ []) = absent ∷ b ∷ c ∷ []
+filled (a ∷ b ∷ c ∷ ps) = a ∷ b ∷ c ∷ ps
+
+one-absent : (ps : List (Place ℕ)) (t : ℕ) → firstCount (absent ∷ ps) t ≡ firstCount ps t
+one-absent ps t = ap length (pick-padded absent ps t refl) ∙ length-map (pick true ps t) (λ ks. 0 ∷ ks)
+
+pub filled-count : (ps : List (Place ℕ)) (t : ℕ) → firstCount (filled ps) t ≡ firstCount ps t
+filled-count [] t = one-absent (absent ∷ absent ∷ []) t ∙ one-absent (absent ∷ []) t ∙ one-absent [] t
+filled-count (c ∷ []) t = one-absent (absent ∷ c ∷ []) t ∙ one-absent (c ∷ []) t
+filled-count (b ∷ c ∷ []) t = one-absent (b ∷ c ∷ []) t
+filled-count (a ∷ b ∷ c ∷ ps) t = refl
