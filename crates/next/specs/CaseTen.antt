@@ -22,13 +22,12 @@ use Rattle.laws.specs.Pieces.{compared, lone, piecesFrom}
 use Rattle.demands.specs.TooLarge.{ten}
 use Rattle.next.specs.Once.{clausesOnce}
 use Rattle.next.specs.OnceBoard.{pieceOnce, boardOnce, M-once, K-once, once-places-are}
-use Rattle.next.specs.FirstCounts.{firstCount}
-use Rattle.next.specs.Shapes.{step, stepOf, kept-by-steps}
+use Rattle.next.specs.Shapes.{step, stepOf, filled}
 use Rattle.next.specs.Remainders.{Least}
 use Rattle.next.specs.Hops.{hops}
 use Rattle.next.specs.Windows.{Starts, leaving, lowsIn, highsIn, meeting}
 use Rattle.next.specs.CountedPairs.{innerOf, mixedOf, firstPairs, fullPairs}
-use Rattle.next.specs.Triples.{strip, firstTriples, firstTriples-is}
+use Rattle.next.specs.Triples.{strip, firstTriples, kept-counted}
 
 -- ---- its board, with its clause n times
 abbrev wide : Bounds
@@ -72,7 +71,7 @@ unfolding firstTriples strip firstPairs fullPairs mixedOf innerOf meeting lowsIn
 counted = refl
 
 module _ (n : ℕ) where
-  shapes : map (stepOf (boundsOf (board n))) (sum .terms) ≡ step 64 524225 ∷ step 64 524225 ∷ step 64 524225 ∷ []
+  shapes : filled (map (stepOf (boundsOf (board n))) (sum .terms)) ≡ step 64 524225 ∷ step 64 524225 ∷ step 64 524225 ∷ []
   unfolding termBounds boundsOf
   shapes = refl
 
@@ -90,9 +89,9 @@ module _ (n : ℕ) where
 
   pub kept-clauses : length (clausesOnce [] (boundsOf (board n)) sum) ≡ 100675584
   kept-clauses =
-      kept-by-steps (boundsOf (board n)) sum (some, (some, (some, tt))) ordered some-sum []
-      ∙ ap₂ firstCount shapes height
-      ∙ sym (firstTriples-is 64 524225 64 524225 64 524225 64 start (omega arith) (omega arith) (omega arith) period starts 786433)
+      kept-counted (boundsOf (board n)) sum (some, (some, (some, tt))) ordered some-sum [] 64 524225 64 524225 64 524225 64 start
+      shapes (omega arith) (omega arith) (omega arith) period starts
+      ∙ ap (firstTriples 64 524225 64 524225 64 524225 64 start) height
       ∙ counted
     where
       some : pos 64 ≢ pos 0
