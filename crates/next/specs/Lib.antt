@@ -25,3 +25,4 @@ pub mod CountedPairs
 pub mod Triples
 pub mod OnceBoard
 pub mod CaseTen
+pub mod Periods
