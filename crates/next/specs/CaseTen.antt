@@ -1,15 +1,14 @@
 -- Case 10 of 01 with no clause twice: its list is counted, not written. It fits now; its clause ten times over does not. Assumes nothing.
-use mathlib.Core.Path.{_≡_, refl, sym, ap, ap₂, _∙_}
+use mathlib.Core.Path.{_≡_, refl, ap, _∙_}
 use mathlib.Core.Logic.{_≢_}
-use mathlib.Core.List.{List, [], _∷_, map}
-use Prim.Native.Nat.{ℕ, zero, suc, _+_, _*_, _%_, _≤_, _<_}
+use mathlib.Core.List.{[], _∷_, map}
+use Prim.Native.Nat.{ℕ, zero, suc, _%_, _≤_, _<_}
 use native.Mathlib.Nat.{mod-eq-of-lt}
 use native.Mathlib.Omega.{arith}
-use lib.Dec.{eqb}
 use lib.ListN.{length, replicate}
-use lib.IntN.{ℤ, pos}
+use lib.IntN.{pos}
 use lib.Signed.{_≤ℤ_}
-use Rattle.definitions.specs.Tools.{All, neg, if_then_else_}
+use Rattle.definitions.specs.Tools.{All, neg}
 use Rattle.definitions.specs.Board.{Bounds, Term, Comparison, Board, atMost, boundsOf}
 use Rattle.definitions.specs.Result.{done}
 use Rattle.definitions.specs.Encoding.{termBounds, least, comparisons, selected, width, N, places}

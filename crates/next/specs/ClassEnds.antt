@@ -60,9 +60,6 @@ module _ {L : Type 0} (A : ℕ) (p : Place L) (h : Every A p) (a : 0 < A) where
       rw (h j, e) (eqb-no j (p .width) (λ e. omega arith))
 
   -- from one greatest one to the next
-  abbrev pub nextHigh : ℕ → ℕ
-  nextHigh k = min (p .width) (A * suc (k / A))
-
   pub high-skip : (k j : ℕ) → k < j → j < min (p .width) (A * suc (k / A)) → isHigh p j ≡ false
   high-skip k j l u =
       let d = div-add-mod k A in

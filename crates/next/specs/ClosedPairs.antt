@@ -86,7 +86,10 @@ module _ {L : Type 0} (b c : Place L) where
       ap (λ d. hits f d (suc (min (b .width) (suc s)) - d)) z
       ∙ ap (hits f 0) n
       ∙ hits-first f 0 (min (b .width) (suc s))
-      ∙ ap₂ (λ p q. mark (isHigh c p) + q) y (mixed-moved s 0 (min (b .width) (suc s)) ∙ ap (hits (λ k. b .cut k && isHigh c (s - k)) 0) (sym n′) ∙ ap (λ d. hits (λ k. b .cut k && isHigh c (s - k)) d (min (b .width) (suc s) - d)) (sym z′))
+      ∙ ap₂ (λ p q. mark (isHigh c p) + q) y
+      (mixed-moved s 0 (min (b .width) (suc s))
+      ∙ ap (hits (λ k. b .cut k && isHigh c (s - k)) 0) (sym n′)
+      ∙ ap (λ d. hits (λ k. b .cut k && isHigh c (s - k)) d (min (b .width) (suc s) - d)) (sym z′))
 
   pub mixed-high : (s : ℕ) → c .width < suc s → mixed (suc s) ≡ inner s
   mixed-high s h =

@@ -1,7 +1,7 @@
 -- The counts of two places as they are computed: at once, whatever the widths. Assumes nothing.
 use mathlib.Core.Path.{_≡_, refl, sym, ap, ap₂, _∙_}
 use mathlib.Core.Bool.{Bool, true, false, not, _&&_, _||_}
-use mathlib.Core.List.{List, [], _∷_, map}
+use mathlib.Core.List.{[], _∷_, map}
 use Prim.Native.Nat.{ℕ, zero, suc, min, _+_, _-_, _%_, _≤_, _<_}
 use native.Mathlib.Nat.{zero-mod}
 use native.Mathlib.Omega.{arith}
@@ -55,7 +55,7 @@ module _ (a v b w P : ℕ) (start : ℕ → ℕ) where
     met : (s lo hi : ℕ) → lo ≤ hi → hi ≤ suc s → meeting b P start s lo hi ≡ hits (bothMultiples a b s) lo (hi - lo)
     met = meeting-is a b P start hb least starts
 
-    pub innerOf-is : (s : ℕ) → innerOf s ≡ inner one two s
+    innerOf-is : (s : ℕ) → innerOf s ≡ inner one two s
     unfolding innerOf
     innerOf-is s = go (ltb s w) (ltb→lt s w) (nltb→le s w) (leb v (s - w)) (leb→le v (s - w)) (nleb→lt v (s - w))
       where
@@ -71,7 +71,7 @@ module _ (a v b w P : ℕ) (start : ℕ → ℕ) where
             ap (λ n. mark (eqb ((s - w) % a) 0) + n) (met s (suc (s - w)) (min v (suc s)) (omega arith) (omega arith))
             ∙ sym (inner-high one two a b (λ k. refl) (λ k. refl) s q r)
 
-    pub mixedOf-is : (s : ℕ) → mixedOf s ≡ mixed one two s
+    mixedOf-is : (s : ℕ) → mixedOf s ≡ mixed one two s
     unfolding mixedOf total
     mixedOf-is zero =
         let z : 0 - w ≡ 0 = omega arith in

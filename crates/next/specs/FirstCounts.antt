@@ -1,17 +1,14 @@
 -- How many tuples are the first of their classes, place by place, and how many are of the greatest offsets alone. Over any number of places. Assumes nothing.
 use mathlib.Core.Path.{_≡_, refl, sym, ap, _∙_}
-use mathlib.Core.Bool.{Bool, true, false, _||_, or-true}
+use mathlib.Core.Bool.{Bool, true, false}
 use mathlib.Core.List.{List, [], _∷_, map}
 use Prim.Native.Nat.{ℕ, zero, suc, min, _+_, _-_, _≤_}
-use native.Mathlib.Decide.{decLe}
 use native.Mathlib.Omega.{arith}
-use lib.Dec.{eqb}
 use lib.ListN.{length, length-map}
 use Rattle.definitions.specs.Tools.{if_then_else_, countUp, sum}
 use Rattle.laws.specs.Offsets.{offsets}
 use Rattle.next.specs.Once.{keep}
 use Rattle.next.specs.RunSums.{total, length-over, total-same, total-cut, total-plus, sum-kept}
-use Rattle.next.specs.Bools.{eqb-no, eqb-yes}
 use Rattle.next.specs.Classes.{Place, isLow, isHigh, pick}
 
 -- ---- choices of one value from each list with a sum below t

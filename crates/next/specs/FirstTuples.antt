@@ -14,7 +14,7 @@ use Rattle.laws.specs.Offsets.{offsets}
 use Rattle.next.specs.Once.{once, sameList}
 use Rattle.next.specs.Equal.{sameList-decides}
 use Rattle.next.specs.Seen.{unseen, after, once-unseen, unseen-append, unseen-same, unseen-none, after-is}
-use Rattle.next.specs.Classes.{Place, Parted, isLow, isHigh, pick, lits, every, back, back-most, near, far, past, Meets, led, led-in, led-out, led-none, lits-led, every-more, in-meets, meets-in}
+use Rattle.next.specs.Classes.{Place, Parted, isLow, isHigh, pick, literalsAt, allClauses, overLow, overLow-most, near, far, past, Meets, led, led-in, led-out, led-none, literals-led, all-more, in-meets, meets-in}
 
 -- met by one of the m sums after s
 abbrev Occurs : {L : Type 0} → List (Place L) → ℕ → ℕ → List L → Type 0
@@ -29,12 +29,12 @@ abbrev fresh : ℕ → Bool
 fresh zero = true
 fresh (suc m) = false
 
-low-back : {L : Type 0} (p : Place L) (k : ℕ) → isLow p k ≡ fresh (back p k)
-unfolding back
-low-back p zero = refl
-low-back p (suc k) = go (p .cut k)
+low-over : {L : Type 0} (p : Place L) (k : ℕ) → isLow p k ≡ fresh (overLow p k)
+unfolding overLow
+low-over p zero = refl
+low-over p (suc k) = go (p .cut k)
   where
-    go : (b : Bool) → b ≡ fresh (if b then 0 else suc (back p k))
+    go : (b : Bool) → b ≡ fresh (if b then 0 else suc (overLow p k))
     go true = refl
     go false = refl
 
@@ -44,7 +44,7 @@ module _ {L : Type 0} (same : L → L → Bool) (decides : (x y : L) → Decides
 
   -- the statement, for the m sums after s seen
   abbrev Picks : List (Place L) → Type 0
-  Picks ps = (s m : ℕ) (seen : List L → Bool) → ((d : List L) → T (seen d) ↔ Occurs ps s m d) → unseen alike seen (every ps s) ≡ map (lits ps) (pick (fresh m) ps s)
+  Picks ps = (s m : ℕ) (seen : List L → Bool) → ((d : List L) → T (seen d) ↔ Occurs ps s m d) → unseen alike seen (allClauses ps s) ≡ map (literalsAt ps) (pick (fresh m) ps s)
 
   -- a common first literal
   alike-led : (l : L) (c d : List L) → alike (l ∷ c) (l ∷ d) ≡ alike c d
@@ -71,13 +71,13 @@ module _ {L : Type 0} (same : L → L → Bool) (decides : (x y : L) → Decides
     Before s m b d = Occurs (p ∷ ps) s m d ⊎ Early p ps s b d
 
     -- at b, the greatest of its class or with no sum seen: those seen are those of the sums after s - b, so many
-    to : (s m b r : ℕ) (d : List L) → b ≤ p .width → s ≡ b + r → (m ≡ 0) ⊎ (isHigh p b ≡ true) → Before s m b (p .lit b ∷ d) → Occurs ps r (m + back p b) d
+    to : (s m b r : ℕ) (d : List L) → b ≤ p .width → s ≡ b + r → (m ≡ 0) ⊎ (isHigh p b ≡ true) → Before s m b (p .lit b ∷ d) → Occurs ps r (m + overLow p b) d
     to s m b r d w e c (inl (r0, g, u, (k, r1, kw, q, le, n))) = go c
       where
-        reach : b ≤ k + back p b
-        reach = elim (decLe b (k + back p b)) [ yes y ↦ y | no z ↦ absurd (far p h b k w (low z) (sym le)) ]
+        reach : b ≤ k + overLow p b
+        reach = elim (decLe b (k + overLow p b)) [ yes y ↦ y | no z ↦ absurd (far p h b k w (low z) (sym le)) ]
           where
-            low : ¬ (b ≤ k + back p b) → k + back p b < b
+            low : ¬ (b ≤ k + overLow p b) → k + overLow p b < b
             low z = omega arith
 
         below : isHigh p b ≡ true → k ≤ b
@@ -86,31 +86,31 @@ module _ {L : Type 0} (same : L → L → Bool) (decides : (x y : L) → Decides
             over : ¬ (k ≤ b) → b < k
             over z = omega arith
 
-        go : (m ≡ 0) ⊎ (isHigh p b ≡ true) → Occurs ps r (m + back p b) d
+        go : (m ≡ 0) ⊎ (isHigh p b ≡ true) → Occurs ps r (m + overLow p b) d
         go (inl z) = absurd (omega arith)
         go (inr i) = let y = below i in let x = reach in (r1, omega arith, omega arith, n)
     to s m b r d w e c (inr (k, r1, kb, q, le, n)) = (r1, omega arith, (let x = reach in omega arith), n)
       where
-        reach : b ≤ k + back p b
-        reach = elim (decLe b (k + back p b)) [ yes y ↦ y | no z ↦ absurd (far p h b k w (low z) (sym le)) ]
+        reach : b ≤ k + overLow p b
+        reach = elim (decLe b (k + overLow p b)) [ yes y ↦ y | no z ↦ absurd (far p h b k w (low z) (sym le)) ]
           where
-            low : ¬ (b ≤ k + back p b) → k + back p b < b
+            low : ¬ (b ≤ k + overLow p b) → k + overLow p b < b
             low z = omega arith
 
-    from : (s m b r : ℕ) (d : List L) → b ≤ p .width → s ≡ b + r → Occurs ps r (m + back p b) d → Before s m b (p .lit b ∷ d)
-    from s m b r d w e (r1, g, u, n) = elim (decLe r1 (r + back p b)) [ yes y ↦ inr (early y) | no z ↦ inl (occurs (high z)) ]
+    from : (s m b r : ℕ) (d : List L) → b ≤ p .width → s ≡ b + r → Occurs ps r (m + overLow p b) d → Before s m b (p .lit b ∷ d)
+    from s m b r d w e (r1, g, u, n) = elim (decLe r1 (r + overLow p b)) [ yes y ↦ inr (early y) | no z ↦ inl (occurs (high z)) ]
       where
-        most : back p b ≤ b
-        most = back-most p h b
+        most : overLow p b ≤ b
+        most = overLow-most p h b
 
-        early : r1 ≤ r + back p b → Early p ps s b (p .lit b ∷ d)
+        early : r1 ≤ r + overLow p b → Early p ps s b (p .lit b ∷ d)
         early y = let x = most in (b - (r1 - r), r1, omega arith, omega arith, sym (near p h b (r1 - r) w (omega arith)), n)
 
-        high : ¬ (r1 ≤ r + back p b) → r + back p b < r1
+        high : ¬ (r1 ≤ r + overLow p b) → r + overLow p b < r1
         high z = omega arith
 
-        occurs : r + back p b < r1 → Occurs (p ∷ ps) s m (p .lit b ∷ d)
-        occurs y = let x = most in ((b - back p b) + r1, omega arith, omega arith, (b - back p b, r1, omega arith, refl, sym (near p h b (back p b) w (omega arith)), n))
+        occurs : r + overLow p b < r1 → Occurs (p ∷ ps) s m (p .lit b ∷ d)
+        occurs y = let x = most in ((b - overLow p b) + r1, omega arith, omega arith, (b - overLow p b, r1, omega arith, refl, sym (near p h b (overLow p b) w (omega arith)), n))
 
     -- not the greatest of its class, and a sum seen: all are seen, one offset further
     passed : (s m b r : ℕ) (d : List L) → b < p .width → p .cut b ≡ false → s ≡ b + r → Meets ps r d → Before s (suc m) b (p .lit b ∷ d)
@@ -118,20 +118,20 @@ module _ {L : Type 0} (same : L → L → Bool) (decides : (x y : L) → Decides
 
     -- the entries that begin with b
     abbrev block : ℕ → ℕ → List (List L)
-    block s b = led (p .lit b) (every ps (s - b))
+    block s b = led (p .lit b) (allClauses ps (s - b))
 
     abbrev chosen : ℕ → ℕ → ℕ → List (List ℕ)
     chosen zero s b = map (λ ks. b ∷ ks) (pick (isLow p b) ps (s - b))
     chosen (suc m) s b = if isHigh p b then map (λ ks. b ∷ ks) (pick false ps (s - b)) else []
 
-    all-seen : (seen : List L → Bool) (r : ℕ) → ((d : List L) → Meets ps r d → T (seen d)) → (ds : List (List L)) → ((d : List L) → Any (λ e. e ≡ d) ds → Any (λ e. e ≡ d) (every ps r))
+    all-seen : (seen : List L → Bool) (r : ℕ) → ((d : List L) → Meets ps r d → T (seen d)) → (ds : List (List L)) → ((d : List L) → Any (λ e. e ≡ d) ds → Any (λ e. e ≡ d) (allClauses ps r))
         → All (λ d. T (seen d)) ds
     all-seen seen r f [] i = tt
     all-seen seen r f (d ∷ ds) i = (f d (in-meets ps r d (i d (inl refl))), all-seen seen r f ds (λ e a. i e (inr a)))
 
     at : (ih : Picks ps) (s m b : ℕ) (seen : List L → Bool) → b ≤ p .width → b ≤ s → ((d : List L) → T (seen d) ↔ Before s m b d)
-        → unseen alike seen (block s b) ≡ map (lits (p ∷ ps)) (chosen m s b)
-    at ih s m b seen w l spec = unseen-led (p .lit b) seen (every ps (s - b)) ∙ go m spec
+        → unseen alike seen (block s b) ≡ map (literalsAt (p ∷ ps)) (chosen m s b)
+    at ih s m b seen w l spec = unseen-led (p .lit b) seen (allClauses ps (s - b)) ∙ go m spec
       where
         r : ℕ
         r = s - b
@@ -140,30 +140,30 @@ module _ {L : Type 0} (same : L → L → Bool) (decides : (x y : L) → Decides
         inner d = seen (p .lit b ∷ d)
 
         met : (m : ℕ) → ((d : List L) → T (seen d) ↔ Before s m b d) → (m ≡ 0) ⊎ (isHigh p b ≡ true)
-            → led (p .lit b) (unseen alike (λ d. seen (p .lit b ∷ d)) (every ps (s - b))) ≡ map (lits (p ∷ ps)) (map (λ ks. b ∷ ks) (pick (fresh (m + back p b)) ps (s - b)))
+            → led (p .lit b) (unseen alike (λ d. seen (p .lit b ∷ d)) (allClauses ps (s - b))) ≡ map (literalsAt (p ∷ ps)) (map (λ ks. b ∷ ks) (pick (fresh (m + overLow p b)) ps (s - b)))
         met m spec c =
-            ap (led (p .lit b)) (ih (s - b) (m + back p b) (λ d. seen (p .lit b ∷ d)) (λ d. (
+            ap (led (p .lit b)) (ih (s - b) (m + overLow p b) (λ d. seen (p .lit b ∷ d)) (λ d. (
               λ t. to s m b (s - b) d w (omega arith) c (spec (p .lit b ∷ d) .0 t),
               λ o. spec (p .lit b ∷ d) .1 (from s m b (s - b) d w (omega arith) o),
             )))
-            ∙ sym (lits-led p ps b (pick (fresh (m + back p b)) ps (s - b)))
+            ∙ sym (literals-led p ps b (pick (fresh (m + overLow p b)) ps (s - b)))
 
         go : (m : ℕ) → ((d : List L) → T (seen d) ↔ Before s m b d)
-            → led (p .lit b) (unseen alike (λ d. seen (p .lit b ∷ d)) (every ps (s - b))) ≡ map (lits (p ∷ ps)) (chosen m s b)
+            → led (p .lit b) (unseen alike (λ d. seen (p .lit b ∷ d)) (allClauses ps (s - b))) ≡ map (literalsAt (p ∷ ps)) (chosen m s b)
         go zero spec =
-            let z : 0 + back p b ≡ back p b = omega arith in
-            met 0 spec (inl refl) ∙ ap (λ f. map (lits (p ∷ ps)) (map (λ ks. b ∷ ks) (pick f ps (s - b)))) (ap fresh z ∙ sym (low-back p b))
+            let z : 0 + overLow p b ≡ overLow p b = omega arith in
+            met 0 spec (inl refl) ∙ ap (λ f. map (literalsAt (p ∷ ps)) (map (λ ks. b ∷ ks) (pick f ps (s - b)))) (ap fresh z ∙ sym (low-over p b))
         go (suc m) spec = high (isHigh p b) refl
           where
-            z : suc m + back p b ≡ suc (m + back p b)
+            z : suc m + overLow p b ≡ suc (m + overLow p b)
             z = omega arith
 
             high : (i : Bool) → isHigh p b ≡ i
-                → led (p .lit b) (unseen alike (λ d. seen (p .lit b ∷ d)) (every ps (s - b))) ≡ map (lits (p ∷ ps)) (if i then map (λ ks. b ∷ ks) (pick false ps (s - b)) else [])
-            high true e = met (suc m) spec (inr e) ∙ ap (λ n. map (lits (p ∷ ps)) (map (λ ks. b ∷ ks) (pick (fresh n) ps (s - b)))) z
+                → led (p .lit b) (unseen alike (λ d. seen (p .lit b ∷ d)) (allClauses ps (s - b))) ≡ map (literalsAt (p ∷ ps)) (if i then map (λ ks. b ∷ ks) (pick false ps (s - b)) else [])
+            high true e = met (suc m) spec (inr e) ∙ ap (λ n. map (literalsAt (p ∷ ps)) (map (λ ks. b ∷ ks) (pick (fresh n) ps (s - b)))) z
             high false e =
-                ap (led (p .lit b)) (unseen-none alike (λ d. seen (p .lit b ∷ d)) (every ps (s - b))
-                (all-seen (λ d. seen (p .lit b ∷ d)) (s - b) (λ d n. spec (p .lit b ∷ d) .1 (passed s m b (s - b) d (inside e) (uncut e) (omega arith) n)) (every ps (s - b)) (λ d a. a)))
+                ap (led (p .lit b)) (unseen-none alike (λ d. seen (p .lit b ∷ d)) (allClauses ps (s - b))
+                (all-seen (λ d. seen (p .lit b ∷ d)) (s - b) (λ d n. spec (p .lit b ∷ d) .1 (passed s m b (s - b) d (inside e) (uncut e) (omega arith) n)) (allClauses ps (s - b)) (λ d a. a)))
               where
                 uncut : isHigh p b ≡ false → p .cut b ≡ false
                 uncut = cut-of (p .cut b)
@@ -186,12 +186,12 @@ module _ {L : Type 0} (same : L → L → Bool) (decides : (x y : L) → Decides
                         eqb-full m n q = equals m n .full q
 
     early-more : (s b : ℕ) (d : List L) → b ≤ p .width → b ≤ s → (Early p ps s b d ⊎ Any (λ e. e ≡ d) (block s b)) ↔ Early p ps s (suc b) d
-    early-more s b [] w l = (λ x. elim x [ inl e ↦ e | inr a ↦ led-none (p .lit b) (every ps (s - b)) a ], λ e. absurd e)
+    early-more s b [] w l = (λ x. elim x [ inl e ↦ e | inr a ↦ led-none (p .lit b) (allClauses ps (s - b)) a ], λ e. absurd e)
     early-more s b (c ∷ d) w l = (one, two)
       where
         one : Early p ps s b (c ∷ d) ⊎ Any (λ e. e ≡ (c ∷ d)) (block s b) → Early p ps s (suc b) (c ∷ d)
         one (inl (k, r, kb, q, e, n)) = (k, r, omega arith, q, e, n)
-        one (inr a) = let o = led-out (p .lit b) c d (every ps (s - b)) a in (b, s - b, omega arith, omega arith, o .0, in-meets ps (s - b) d (o .1))
+        one (inr a) = let o = led-out (p .lit b) c d (allClauses ps (s - b)) a in (b, s - b, omega arith, omega arith, o .0, in-meets ps (s - b) d (o .1))
 
         two : Early p ps s (suc b) (c ∷ d) → Early p ps s b (c ∷ d) ⊎ Any (λ e. e ≡ (c ∷ d)) (block s b)
         two (k, r, kb, q, e, n) = elim (decLe (suc k) b) [ yes y ↦ inl (k, r, y, q, e, n) | no z ↦ inr (here (equal z)) ]
@@ -202,10 +202,10 @@ module _ {L : Type 0} (same : L → L → Bool) (decides : (x y : L) → Decides
             here : k ≡ b → Any (λ e. e ≡ (c ∷ d)) (block s b)
             here z =
                 let e1 : r ≡ s - b = omega arith in
-                rw (e ∙ ap (p .lit) z) (led-in (p .lit b) d (every ps (s - b)) (subst (λ x. Any (λ e. e ≡ d) (every ps x)) e1 (meets-in ps r d n)))
+                rw (e ∙ ap (p .lit) z) (led-in (p .lit b) d (allClauses ps (s - b)) (subst (λ x. Any (λ e. e ≡ d) (allClauses ps x)) e1 (meets-in ps r d n)))
 
     run : (ih : Picks ps) (s m b n : ℕ) → b + n ≡ suc (min (p .width) s) → (seen : List L → Bool) → ((d : List L) → T (seen d) ↔ Before s m b d)
-        → unseen alike seen (over (block s) b n) ≡ over (λ k. map (lits (p ∷ ps)) (chosen m s k)) b n
+        → unseen alike seen (over (block s) b n) ≡ over (λ k. map (literalsAt (p ∷ ps)) (chosen m s k)) b n
     unfolding over flatten
     run ih s m b zero e seen spec = refl
     run ih s m b (suc n) e seen spec =
@@ -224,14 +224,14 @@ module _ {L : Type 0} (same : L → L → Bool) (decides : (x y : L) → Decides
         aft d (inl o) = inl (spec d .1 (inl o))
         aft d (inr y) = elim (early-more s b d (omega arith) (omega arith) .1 y) [ inl z ↦ inl (spec d .1 (inr z)) | inr a ↦ inr a ]
 
-    chosen-pick : (m s : ℕ) → over (λ k. map (lits (p ∷ ps)) (chosen m s k)) 0 (suc (min (p .width) s)) ≡ map (lits (p ∷ ps)) (pick (fresh m) (p ∷ ps) s)
+    chosen-pick : (m s : ℕ) → over (λ k. map (literalsAt (p ∷ ps)) (chosen m s k)) 0 (suc (min (p .width) s)) ≡ map (literalsAt (p ∷ ps)) (pick (fresh m) (p ∷ ps) s)
     unfolding pick
-    chosen-pick zero s = sym (map-over (lits (p ∷ ps)) (chosen 0 s) 0 (suc (min (p .width) s)))
-    chosen-pick (suc m) s = sym (map-over (lits (p ∷ ps)) (chosen (suc m) s) 0 (suc (min (p .width) s)))
+    chosen-pick zero s = sym (map-over (literalsAt (p ∷ ps)) (chosen 0 s) 0 (suc (min (p .width) s)))
+    chosen-pick (suc m) s = sym (map-over (literalsAt (p ∷ ps)) (chosen (suc m) s) 0 (suc (min (p .width) s)))
 
     one-more : Picks ps → Picks (p ∷ ps)
     one-more ih s m seen spec =
-        ap (unseen alike seen) (every-more p ps s)
+        ap (unseen alike seen) (all-more p ps s)
         ∙ run ih s m 0 (suc (min (p .width) s)) (omega arith) seen (λ d. (λ t. inl (spec d .0 t), λ x. elim x [ inl o ↦ spec d .1 o | inr y ↦ absurd (never d y) ]))
         ∙ chosen-pick m s
       where
@@ -243,7 +243,7 @@ module _ {L : Type 0} (same : L → L → Bool) (decides : (x y : L) → Decides
   unfolding offsets pick
   no-place zero m seen spec = go (seen []) (λ t. spec [] .0 t)
     where
-      go : (b : Bool) → (T b → Occurs {L = L} [] 0 m []) → (if b then [] else [] ∷ []) ≡ map (lits {L = L} []) (pick {L = L} (fresh m) [] 0)
+      go : (b : Bool) → (T b → Occurs {L = L} [] 0 m []) → (if b then [] else [] ∷ []) ≡ map (literalsAt {L = L} []) (pick {L = L} (fresh m) [] 0)
       go true f = let o = f tt in let g = o .1 in let e = o .3 in absurd (omega arith)
       go false f = refl
   no-place (suc s) m seen spec = refl
@@ -253,7 +253,7 @@ module _ {L : Type 0} (same : L → L → Bool) (decides : (x y : L) → Decides
   picks (p ∷ ps) a = one-more p ps (a .0) (picks ps (a .1))
 
   -- the first of equal clauses, in order
-  pub firsts : (ps : List (Place L)) → All Parted ps → (s : ℕ) → once alike (every ps s) ≡ map (lits ps) (pick true ps s)
+  pub firsts : (ps : List (Place L)) → All Parted ps → (s : ℕ) → once alike (allClauses ps s) ≡ map (literalsAt ps) (pick true ps s)
   firsts ps a s =
-      once-unseen alike (every ps s)
+      once-unseen alike (allClauses ps s)
       ∙ picks ps a s 0 (λ d. false) (λ d. (λ t. absurd t, λ o. (let g = o .1 in let u = o .2 in absurd (omega arith))))

@@ -20,7 +20,7 @@ use Rattle.laws.specs.Offsets.{offsets}
 use Rattle.next.specs.Once.{once, sameLiteral, sameClause, clausesOnce}
 use Rattle.next.specs.Equal.{literal-decides}
 use Rattle.next.specs.Seen.{once-unseen}
-use Rattle.next.specs.Classes.{Place, Parted, pick, lits, widthsOf}
+use Rattle.next.specs.Classes.{Place, Parted, pick, literalsAt, widthsOf}
 use Rattle.next.specs.FirstTuples.{firsts, unseen-led}
 use Rattle.next.specs.TermClasses.{placeOf, parted}
 
@@ -51,14 +51,14 @@ firstOffsets of q = pick true (placesOf of (q .terms)) (above of q)
 abbrev pub firstTuples : (ℕ → Bounds) → Comparison → List (List ℤ)
 firstTuples of q = map (shift (lows (ranges of (q .terms)))) (firstOffsets of q)
 
-lits-shift : (of : ℕ → Bounds) (ts : List Term) (ks : List ℕ) → zipWith sharp ts (shift (lows (ranges of ts)) ks) ≡ lits (placesOf of ts) ks
+literals-shift : (of : ℕ → Bounds) (ts : List Term) (ks : List ℕ) → zipWith sharp ts (shift (lows (ranges of ts)) ks) ≡ literalsAt (placesOf of ts) ks
 unfolding zipWith
-lits-shift of [] ks = refl
-lits-shift of (t ∷ ts) [] = refl
-lits-shift of (t ∷ ts) (k ∷ ks) = ap (λ z. sharp t ((termBounds of t .lo -ℤ pos 1) +ℤ pos k) ∷ z) (lits-shift of ts ks)
+literals-shift of [] ks = refl
+literals-shift of (t ∷ ts) [] = refl
+literals-shift of (t ∷ ts) (k ∷ ks) = ap (λ z. sharp t ((termBounds of t .lo -ℤ pos 1) +ℤ pos k) ∷ z) (literals-shift of ts ks)
 
-shifted : (of : ℕ → Bounds) (ts : List Term) (kss : List (List ℕ)) → map (zipWith sharp ts) (map (shift (lows (ranges of ts))) kss) ≡ map (lits (placesOf of ts)) kss
-shifted of ts kss = map-map (zipWith sharp ts) (shift (lows (ranges of ts))) kss ∙ map-same _ _ kss (all-every _ (lits-shift of ts) kss)
+shifted : (of : ℕ → Bounds) (ts : List Term) (kss : List (List ℕ)) → map (zipWith sharp ts) (map (shift (lows (ranges of ts))) kss) ≡ map (literalsAt (placesOf of ts)) kss
+shifted of ts kss = map-map (zipWith sharp ts) (shift (lows (ranges of ts))) kss ∙ map-same _ _ kss (all-every _ (literals-shift of ts) kss)
 
 widths-of : (of : ℕ → Bounds) (ts : List Term) → widths (ranges of ts) ≡ widthsOf (placesOf of ts)
 widths-of of [] = refl
@@ -87,7 +87,7 @@ module _ (of : ℕ → Bounds) (q : Comparison) (n : All (λ t. t .coef ≢ pos 
       let ts = q .terms in
       let kss = offsets (widths (ranges of ts)) (above of q) in
       ap (λ l. once sameClause (map (zipWith sharp ts) l)) tuples-are
-      ∙ ap (once sameClause) (shifted of ts kss ∙ ap (λ ws. map (lits (placesOf of ts)) (offsets ws (above of q))) (widths-of of ts))
+      ∙ ap (once sameClause) (shifted of ts kss ∙ ap (λ ws. map (literalsAt (placesOf of ts)) (offsets ws (above of q))) (widths-of of ts))
       ∙ firsts sameLiteral literal-decides (placesOf of ts) (all-parted of ts n) (above of q)
       ∙ sym (shifted of ts (firstOffsets of q))
 

@@ -1,21 +1,21 @@
 -- A board's clauses, those of each comparison kept once: axioms, lines and equal comparisons stay; satisfied alike; M and K as sums. Assumes nothing.
-use mathlib.Core.Path.{_≡_, refl, sym, ap, ap₂, _∙_}
+use mathlib.Core.Path.{_≡_, refl, ap, _∙_}
 use mathlib.Core.Logic.{_↔_}
-use mathlib.Core.Bool.{Bool, true, false}
+use mathlib.Core.Bool.{Bool}
 use mathlib.Core.List.{List, [], _∷_, _++_, map, flatten, zipWith, map-map}
-use Prim.Native.Nat.{ℕ, zero, suc, _+_, _*_, _≤_}
+use Prim.Native.Nat.{ℕ, suc, _+_, _*_, _≤_}
 use native.Mathlib.Omega.{arith}
 use lib.ListN.{length, length-append}
 use lib.IntN.{ℤ}
 use lib.Signed.{leZ, _≤ℤ_, _<ℤ_}
-use Rattle.definitions.specs.Tools.{All, sum, if_then_else_}
+use Rattle.definitions.specs.Tools.{All, sum}
 use Rattle.definitions.specs.Board.{Board, Bounds, Term, Comparison, boundsOf}
 use Rattle.definitions.specs.Encoding.{SatClause, Atom, least, tuplesOf, sharp, clausesUnder, axioms, rules, clauses, width, places, N}
 use Rattle.definitions.specs.Meaning.{Model, inModel}
 use Rattle.laws.specs.Lists.{all-append, append-all, all-flatten, flatten-all, all-map, map-all, all-impl, length-flatten, sum-append, sum-flatten, sum-same}
 use Rattle.laws.specs.Terms.{ranges, Within, tuples-within}
 use Rattle.laws.specs.Admitted.{GoodBounds}
-use Rattle.laws.specs.Pieces.{Piece, line, under, lineFrom, line-length, pieceClauses, piecesFrom, clausesIn, rules-pieces}
+use Rattle.laws.specs.Pieces.{Piece, line, under, lineFrom, pieceClauses, piecesFrom, clausesIn, rules-pieces}
 use Rattle.laws.specs.Sizes.{axioms-clauses, axioms-length}
 use Rattle.demands.specs.Truth.{Satisfied, Holds}
 use Rattle.next.specs.Bools.{passes}

@@ -14,7 +14,7 @@ use Rattle.next.specs.Bools.{eqb-no, eqb-yes}
 use Rattle.next.specs.Classes.{Place, isLow, isHigh}
 use Rattle.next.specs.Remainders.{remainder, Least, bothMultiples, pair-test, pair-none}
 use Rattle.next.specs.PairTests.{good, keep-skip, keep-next, keep-end}
-use Rattle.next.specs.ClassEnds.{Every, nextLow, lastHigh, nextHigh, next-low, next-low-above, low-gap, last-high, last-high-below, high-gap, high-skip}
+use Rattle.next.specs.ClassEnds.{Every, nextLow, lastHigh, next-low, next-low-above, low-gap, last-high, last-high-below, high-gap}
 
 or-no : (x y : Bool) → x ≡ false → y ≡ false → (x || y) ≡ false
 or-no x y p q = rw (p, q) refl

@@ -40,7 +40,9 @@ module _ {L : Type 0} where
         strip ps (p .width) t,
         total-plus (λ k. if isLow p k then firstCount ps (t - k) else fullCount ps (t - k)) (λ k. if isLow p k then fullCount ps (t - k) else 0) 0 n,
         total-plus (λ k. if isLow p k then firstCount ps (t - k) else 0) (λ k. fullCount ps (t - k)) 0 n,
-        total-same (λ k. (if isLow p k then firstCount ps (t - k) else fullCount ps (t - k)) + (if isLow p k then fullCount ps (t - k) else 0)) (λ k. (if isLow p k then firstCount ps (t - k) else 0) + fullCount ps (t - k)) 0 n (λ k l u. go (isLow p k) (firstCount ps (t - k)) (fullCount ps (t - k))),
+        total-same (λ k. (if isLow p k then firstCount ps (t - k) else fullCount ps (t - k)) + (if isLow p k then fullCount ps (t - k) else 0))
+            (λ k. (if isLow p k then firstCount ps (t - k) else 0) + fullCount ps (t - k)) 0 n
+            (λ k l u. go (isLow p k) (firstCount ps (t - k)) (fullCount ps (t - k))),
       )
     where
       go : (b : Bool) (f g : ℕ) → (if b then f else g) + (if b then g else 0) ≡ (if b then f else 0) + g
@@ -87,12 +89,6 @@ module _ {L : Type 0} (c : Place L) (s : ℕ) where
 
 -- ---- two places: the first one's offsets from s less the second's width, to its own width or s
 module _ {L : Type 0} (b c : Place L) (s : ℕ) (h : s - c .width ≤ suc (min (b .width) s)) where
-  abbrev pub from : ℕ
-  from = s - c .width
-
-  abbrev pub wide : ℕ
-  wide = suc (min (b .width) s) - (s - c .width)
-
   pub first-two : firstCount (b ∷ c ∷ []) s ≡ hits (λ k. isLow b k || isHigh c (s - k)) (s - c .width) (suc (min (b .width) s) - (s - c .width))
   first-two =
       first-more b (c ∷ []) s

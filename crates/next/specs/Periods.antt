@@ -8,7 +8,6 @@ use native.Mathlib.Omega.{arith}
 use lib.Dec.{T, eqb}
 use Rattle.definitions.specs.Tools.{if_then_else_}
 use Rattle.laws.specs.Decide.{Decides, both, equals}
-use Rattle.next.specs.Bools.{passes}
 use Rattle.next.specs.Remainders.{Least}
 use Rattle.next.specs.Windows.{Starts}
 

@@ -16,7 +16,7 @@ use Rattle.next.specs.Bools.{alike, fails}
 pub remainder : (P n q r : ℕ) → r < P → n ≡ P * q + r → n % P ≡ r
 remainder P n q r h e = ap (λ z. z % P) e ∙ mul-add-mod-self-left P q r ∙ mod-eq-of-lt h
 
-pub quotient : (P n q r : ℕ) → r < P → n ≡ P * q + r → n / P ≡ q
+quotient : (P n q r : ℕ) → r < P → n ≡ P * q + r → n / P ≡ q
 quotient P n q r h e = div-eq-of-lt-le P {m = n} (omega (arith, e)) (omega (arith, e, h))
 
 -- ---- how many below n leave the remainder r
@@ -42,7 +42,7 @@ step-miss P r n h ne =
     full : (P r n q m : ℕ) → r < P → m < P → ¬ (suc (suc m) ≤ P) → n + (P - suc r) ≡ P * q + m → n ≡ P * q + r
     full P r n q m h l z e = omega arith
 
-pub remainder-below : (P r n : ℕ) → r < P → hits (λ k. eqb (k % P) r) 0 n ≡ (n + (P - suc r)) / P
+remainder-below : (P r n : ℕ) → r < P → hits (λ k. eqb (k % P) r) 0 n ≡ (n + (P - suc r)) / P
 unfolding total
 remainder-below P r zero h = sym (div-eq-of-lt {n = 0 + (P - suc r)} (omega arith))
 remainder-below P r (suc n) h =
@@ -102,7 +102,7 @@ past-multiples A P k e =
     times a b c = sym (mul-assoc a b c)
 
 module _ (A B P : ℕ) (h : Least A B P) (k0 : ℕ) (l : k0 < P) (a : k0 % A ≡ 0) where
-  pub together : (k : ℕ) → ((k % A ≡ 0) × (k % B ≡ k0 % B)) ↔ (k % P ≡ k0)
+  together : (k : ℕ) → ((k % A ≡ 0) × (k % B ≡ k0 % B)) ↔ (k % P ≡ k0)
   together k = (to, from)
     where
       r : ℕ

@@ -65,7 +65,14 @@ pub total-window : (f g : ℕ → ℕ) (m from : ℕ) → from ≤ m → ((k : �
 total-window f g m from h z e =
     let q : m ≡ from + (m - from) = omega arith in
     let q′ : 0 + from ≡ from = omega arith in
-    omega (arith, ap (total f 0) q, total-append f 0 from (m - from), total-none f 0 from (λ k l u. z k (omega arith)), ap (λ b. total f b (m - from)) q′, total-same f g from (m - from) (λ k l u. e k l (omega arith)))
+    omega (
+      arith,
+      ap (total f 0) q,
+      total-append f 0 from (m - from),
+      total-none f 0 from (λ k l u. z k (omega arith)),
+      ap (λ b. total f b (m - from)) q′,
+      total-same f g from (m - from) (λ k l u. e k l (omega arith)),
+    )
 
 -- a loop goes from one number that counts to the next, and ends
 pub total-skip : (f : ℕ → ℕ) (k j end : ℕ) → k < j → k < end → ((i : ℕ) → k < i → i < j → f i ≡ 0) → total f k (end - k) ≡ f k + total f j (end - j)
@@ -95,6 +102,7 @@ turn-end f k end h = let e : end - k ≡ 0 = omega arith in ap (total f k) e
 abbrev pub hits : (ℕ → Bool) → ℕ → ℕ → ℕ
 hits f b n = total (λ k. if f k then 1 else 0) b n
 
+-- 1 where a test passes
 abbrev pub mark : Bool → ℕ
 mark b = if b then 1 else 0
 
@@ -135,4 +143,11 @@ hits-turned f s b (suc n) h =
     let e : suc n ≡ n + 1 = omega arith in
     let e1 : suc s - (suc b + n) ≡ suc s - (b + suc n) = omega arith in
     let e2 : (suc s - (b + suc n)) + n ≡ s - b = omega arith in
-    omega (arith, hits-turned f s (suc b) n (omega arith), ap (λ z. hits f z n) e1, total-append (λ k. if f k then 1 else 0) (suc s - (b + suc n)) n 1, ap (hits f (suc s - (b + suc n))) e, ap {B = ℕ} (λ z. if f z then 1 else 0) e2)
+    omega (
+      arith,
+      hits-turned f s (suc b) n (omega arith),
+      ap (λ z. hits f z n) e1,
+      total-append (λ k. mark (f k)) (suc s - (b + suc n)) n 1,
+      ap (hits f (suc s - (b + suc n))) e,
+      ap {B = ℕ} (λ z. mark (f z)) e2,
+    )

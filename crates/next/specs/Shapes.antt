@@ -1,5 +1,5 @@
 -- The first tuples depend on steps and widths alone: a comparison's kept clauses are counted by numbers, and where all |a| are 1 all are kept. Assumes nothing.
-use mathlib.Core.Path.{_≡_, refl, sym, ap, ap₂, _∙_}
+use mathlib.Core.Path.{_≡_, refl, ap, _∙_}
 use mathlib.Core.Logic.{_≢_}
 use mathlib.Core.Bool.{Bool, true, false, _||_}
 use mathlib.Core.List.{List, [], _∷_, map}
@@ -7,7 +7,7 @@ use Prim.Native.Nat.{ℕ, zero, suc, min, _-_, _%_}
 use native.Mathlib.Nat.{mod-one}
 use lib.Dec.{eqb}
 use lib.ListN.{length, length-map}
-use lib.IntN.{ℤ, pos, natAbs, _-ℤ_}
+use lib.IntN.{pos, natAbs, _-ℤ_}
 use lib.Signed.{_≤ℤ_}
 use Rattle.definitions.specs.Tools.{All, if_then_else_, size}
 use Rattle.definitions.specs.Board.{Bounds, Term, Comparison}
@@ -48,7 +48,7 @@ module _ {L : Type 0} where
   abbrev Single : Place L → Type 0
   Single p = (k : ℕ) → p .cut k ≡ true
 
-  pub pick-all : (f : Bool) (ps : List (Place L)) → All Single ps → (t : ℕ) → pick f ps t ≡ offsets (widthsOf ps) t
+  pick-all : (f : Bool) (ps : List (Place L)) → All Single ps → (t : ℕ) → pick f ps t ≡ offsets (widthsOf ps) t
   unfolding pick offsets
   pick-all f [] a t = refl
   pick-all true (p ∷ ps) a t = over-same _ _ 0 (suc (min (p .width) t)) (λ k l u. ap (map (λ ks. k ∷ ks)) (pick-all (isLow p k) ps (a .1) (t - k)))

@@ -16,7 +16,7 @@ use Rattle.laws.specs.Division.{below-floor, not-below-ceil}
 use Rattle.next.specs.Classes.{Place, Parted}
 
 -- what a literal of order variables says of its variable's value
-abbrev pub Means : ℤ → SatLiteral → Type 0
+abbrev Means : ℤ → SatLiteral → Type 0
 Means x (plus (bool i)) = Unit {0}
 Means x (plus (order v c)) = x ≤ℤ c
 Means x (plus (selector j)) = Unit {0}
@@ -28,7 +28,7 @@ negative : (a : ℤ) → a ≢ pos 0 → ltZ (pos 0) a ≡ false → a <ℤ pos 
 negative a n e = omega (whole, ne-in a (pos 0) n, part-law a)
 
 -- (ax ≤ b)^# says ax ≤ b
-pub sharp-means : (t : Term) (b x : ℤ) → t .coef ≢ pos 0 → ((t .coef *ℤ x) ≤ℤ b) ↔ Means x (sharp t b)
+sharp-means : (t : Term) (b x : ℤ) → t .coef ≢ pos 0 → ((t .coef *ℤ x) ≤ℤ b) ↔ Means x (sharp t b)
 unfolding sharp
 sharp-means t b x n = go (ltZ (pos 0) (t .coef)) refl
   where

@@ -1,9 +1,9 @@
 -- The first tuples of three places counted in two loops: over the least ones of the first and over the greatest ones of the second. Assumes nothing.
-use mathlib.Core.Path.{_≡_, refl, sym, ap, ap₂, _∙_}
+use mathlib.Core.Path.{_≡_, refl, sym, ap, _∙_}
 use mathlib.Core.Logic.{_≢_}
 use mathlib.Core.Bool.{Bool, true, false, not, _||_}
-use mathlib.Core.List.{List, [], _∷_, map}
-use Prim.Native.Nat.{ℕ, zero, suc, min, _+_, _*_, _-_, _/_, _%_, _≤_, _<_}
+use mathlib.Core.List.{[], _∷_, map}
+use Prim.Native.Nat.{ℕ, suc, min, _+_, _-_, _%_, _≤_, _<_}
 use native.Mathlib.Nat.{zero-mod}
 use native.Mathlib.Omega.{arith}
 use lib.Dec.{T, eqb, leb, leb→le, nleb→lt}
@@ -11,7 +11,7 @@ use lib.ListN.{length}
 use lib.IntN.{pos}
 use lib.Signed.{_≤ℤ_}
 use Rattle.definitions.specs.Tools.{All, if_then_else_}
-use Rattle.definitions.specs.Board.{Bounds, Term, Comparison}
+use Rattle.definitions.specs.Board.{Bounds, Comparison}
 use Rattle.definitions.specs.Encoding.{SatClause, least}
 use Rattle.laws.specs.Counting.{above}
 use Rattle.next.specs.Once.{clausesOnce}
@@ -62,7 +62,9 @@ highs-strip c w t =
 
 -- ---- three places
 first-three : {L : Type 0} (a b c : Place L) (t : ℕ) → (let n = suc (min (a .width) t) in
-    firstCount (a ∷ b ∷ c ∷ []) t + total (λ k. if isLow a k then fullCount (b ∷ c ∷ []) (t - k) else 0) 0 n + total (λ k. if isHigh b k then highsBelow (c ∷ []) ((t - a .width) - k) else 0) 0 (suc (b .width))
+    firstCount (a ∷ b ∷ c ∷ []) t
+    + total (λ k. if isLow a k then fullCount (b ∷ c ∷ []) (t - k) else 0) 0 n
+    + total (λ k. if isHigh b k then highsBelow (c ∷ []) ((t - a .width) - k) else 0) 0 (suc (b .width))
     ≡ total (λ k. if isLow a k then firstCount (b ∷ c ∷ []) (t - k) else 0) 0 n + total (λ k. if isHigh b k then highsBelow (c ∷ []) (suc t - k) else 0) 0 (suc (b .width)))
 first-three a b c t = omega (arith, one-in-front a (b ∷ c ∷ []) t, highs-more b (c ∷ []) (t - a .width), highs-more b (c ∷ []) (suc t))
 

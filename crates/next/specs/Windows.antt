@@ -1,5 +1,5 @@
 -- How many numbers of a window leave a remainder, end a class, or are multiples in pairs: closed forms as they are computed. Assumes nothing.
-use mathlib.Core.Path.{_≡_, refl, sym, ap, ap₂, _∙_}
+use mathlib.Core.Path.{_≡_, sym, ap, _∙_}
 use mathlib.Core.Bool.{Bool, true, false, not}
 use Prim.Native.Nat.{ℕ, zero, suc, _+_, _-_, _/_, _%_, _≤_, _<_}
 use native.Mathlib.Nat.{mod-lt}
@@ -21,7 +21,7 @@ by-quotients : (P r lo hi n : ℕ) → lo ≤ hi → n + (lo + (P - suc r)) / P 
 unfolding leaving
 by-quotients P r lo hi n l e = let z : lo + (hi - lo) ≡ hi = omega arith in omega (arith, e, ap (λ x. (x + (P - suc r)) / P) z)
 
-pub leaving-is : (P r lo hi : ℕ) → r < P → lo ≤ hi → leaving P r lo hi ≡ hits (λ k. eqb (k % P) r) lo (hi - lo)
+leaving-is : (P r lo hi : ℕ) → r < P → lo ≤ hi → leaving P r lo hi ≡ hits (λ k. eqb (k % P) r) lo (hi - lo)
 leaving-is P r lo hi h l = by-quotients P r lo hi _ l (remainder-within P r lo (hi - lo) h)
 
 -- ---- the least ones of classes of a, and the greatest
