@@ -88,7 +88,7 @@ module _ (n : ℕ) where
 
   pub kept-clauses : length (clausesOnce [] (boundsOf (board n)) sum) ≡ 100675584
   kept-clauses =
-      kept-counted (boundsOf (board n)) sum (some, (some, (some, tt))) ordered some-sum [] 64 524225 64 524225 64 524225 64 start
+      kept-counted (boundsOf (board n)) sum (record { some = (some, (some, (some, tt))); ordered = ordered; reached = some-sum }) [] 64 524225 64 524225 64 524225 64 start
       shapes (omega arith) (omega arith) (omega arith) period starts
       ∙ ap (firstTriples 64 524225 64 524225 64 524225 64 start) height
       ∙ counted

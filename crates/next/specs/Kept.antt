@@ -9,12 +9,13 @@ use lib.ListN.{length, length-map}
 use lib.IntN.{ℤ, pos, _+ℤ_, _-ℤ_}
 use lib.Signed.{leZ, _≤ℤ_, _<ℤ_}
 use Rattle.definitions.specs.Tools.{All, size, sumZ, if_then_else_}
-use Rattle.definitions.specs.Board.{Bounds, Term, Comparison}
+use Rattle.definitions.specs.Board.{Board, Bounds, Term, Comparison, boundsOf}
 use Rattle.definitions.specs.Encoding.{SatLiteral, SatClause, termBounds, least, tuplesOf, sharp, clausesUnder}
-use Rattle.laws.specs.Lists.{map-same, all-every}
+use Rattle.laws.specs.Lists.{map-same, all-every, all-impl}
 use Rattle.laws.specs.Whole.{whole, add-law, sub-law, part-law}
 use Rattle.laws.specs.Tuples.{lows, widths, shift, tuples-offsets}
-use Rattle.laws.specs.Terms.{ranges, ranges-ordered, ranges-least}
+use Rattle.laws.specs.Admitted.{Admitted, GoodTerm, GoodComparison}
+use Rattle.laws.specs.Terms.{good-bounds, ranges, ranges-ordered, ranges-least}
 use Rattle.laws.specs.Counting.{above}
 use Rattle.laws.specs.Offsets.{offsets}
 use Rattle.next.specs.Once.{once, sameLiteral, sameClause, clausesOnce}
@@ -68,7 +69,22 @@ all-parted : (of : ℕ → Bounds) (ts : List Term) → All (λ t. t .coef ≢ p
 all-parted of [] a = tt
 all-parted of (t ∷ ts) a = (parted of t (a .0), all-parted of ts (a .1))
 
-module _ (of : ℕ → Bounds) (q : Comparison) (n : All (λ t. t .coef ≢ pos 0) (q .terms)) (o : All (λ t. of (t .var) .lo ≤ℤ of (t .var) .hi) (q .terms)) (h : least of (q .terms) ≤ℤ q .constant) where
+-- a comparison whose clauses come from tuples: no coefficient is 0, bounds are ordered, and the constant is not below every sum
+pub record FromTuples (of : ℕ → Bounds) (q : Comparison) : Type 0 where
+  pub some : All (λ t. t .coef ≢ pos 0) (q .terms)
+  pub ordered : All (λ t. of (t .var) .lo ≤ℤ of (t .var) .hi) (q .terms)
+  pub reached : least of (q .terms) ≤ℤ q .constant
+
+-- so it is in an admitted board
+pub admitted-tuples : (B : Board) → Admitted B → (q : Comparison) → GoodComparison (length (B .bounds)) q → least (boundsOf B) (q .terms) ≤ℤ q .constant
+    → FromTuples (boundsOf B) q
+admitted-tuples B g q k h = record {
+  some = all-impl (GoodTerm (length (B .bounds))) _ (λ t w. w .some) (q .terms) (k .terms);
+  ordered = all-impl (GoodTerm (length (B .bounds))) _ (λ t w. good-bounds B (g .bounds) (t .var) (w .known) .ordered) (q .terms) (k .terms);
+  reached = h;
+}
+
+module _ (of : ℕ → Bounds) (q : Comparison) (h : FromTuples of q) where
   -- the sum of a tuple's offsets
   tuples-are : tuplesOf of q ≡ map (shift (lows (ranges of (q .terms)))) (offsets (widths (ranges of (q .terms))) (above of q))
   unfolding tuplesOf
@@ -79,7 +95,8 @@ module _ (of : ℕ → Bounds) (q : Comparison) (n : All (λ t. t .coef ≢ pos 
       let t = above of q in
       let L = least of (q .terms) in
       let r = ranges-least of (q .terms) in
-      tuples-offsets rs (ranges-ordered of (q .terms) o) (k -ℤ pos m +ℤ pos 1) t
+      let reached = h .reached in
+      tuples-offsets rs (ranges-ordered of (q .terms) (h .ordered)) (k -ℤ pos m +ℤ pos 1) t
       (omega (whole, add-law (k -ℤ pos m) (pos 1), sub-law k (pos m), add-law (sumZ (lows rs)) (pos t), sub-law L (pos m), add-law (k -ℤ L) (pos 1), sub-law k L, part-law (k -ℤ L +ℤ pos 1)))
 
   firsts-kept : once sameClause (map (zipWith sharp (q .terms)) (tuplesOf of q)) ≡ map (zipWith sharp (q .terms)) (firstTuples of q)
@@ -88,13 +105,13 @@ module _ (of : ℕ → Bounds) (q : Comparison) (n : All (λ t. t .coef ≢ pos 
       let kss = offsets (widths (ranges of ts)) (above of q) in
       ap (λ l. once sameClause (map (zipWith sharp ts) l)) tuples-are
       ∙ ap (once sameClause) (shifted of ts kss ∙ ap (λ ws. map (literalsAt (placesOf of ts)) (offsets ws (above of q))) (widths-of of ts))
-      ∙ firsts sameLiteral literal-decides (placesOf of ts) (all-parted of ts n) (above of q)
+      ∙ firsts sameLiteral literal-decides (placesOf of ts) (all-parted of ts (h .some)) (above of q)
       ∙ sym (shifted of ts (firstOffsets of q))
 
   -- the clauses kept: `clausesUnder` with the first tuples in place of all
   pub kept : (lead : SatClause) → clausesOnce lead of q ≡ map (λ bs. lead ++ zipWith sharp (q .terms) bs) (firstTuples of q)
   unfolding clausesOnce clausesUnder
-  kept lead = go (leZ (least of (q .terms)) (q .constant)) (h .le)
+  kept lead = go (leZ (least of (q .terms)) (q .constant)) (h .reached .le)
     where
       some : once sameClause (map (λ bs. lead ++ zipWith sharp (q .terms) bs) (tuplesOf of q)) ≡ map (λ bs. lead ++ zipWith sharp (q .terms) bs) (firstTuples of q)
       some =

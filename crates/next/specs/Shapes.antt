@@ -1,6 +1,5 @@
 -- The first tuples depend on steps and widths alone: a comparison's kept clauses are counted by numbers, and where all |a| are 1 all are kept. Assumes nothing.
 use mathlib.Core.Path.{_≡_, refl, ap, _∙_}
-use mathlib.Core.Logic.{_≢_}
 use mathlib.Core.Bool.{Bool, true, false, _||_}
 use mathlib.Core.List.{List, [], _∷_, map}
 use Prim.Native.Nat.{ℕ, zero, suc, min, _-_, _%_}
@@ -8,10 +7,9 @@ use native.Mathlib.Nat.{mod-one}
 use lib.Dec.{eqb}
 use lib.ListN.{length, length-map}
 use lib.IntN.{pos, natAbs, _-ℤ_}
-use lib.Signed.{_≤ℤ_}
 use Rattle.definitions.specs.Tools.{All, if_then_else_, size}
 use Rattle.definitions.specs.Board.{Bounds, Term, Comparison}
-use Rattle.definitions.specs.Encoding.{SatClause, termBounds, least}
+use Rattle.definitions.specs.Encoding.{SatClause, termBounds}
 use Rattle.laws.specs.Runs.{over-same}
 use Rattle.laws.specs.Offsets.{offsets}
 use Rattle.laws.specs.Counting.{above, ways}
@@ -22,7 +20,7 @@ use Rattle.next.specs.Bools.{eqb-yes}
 use Rattle.next.specs.Classes.{Place, isLow, isHigh, pick, widthsOf}
 use Rattle.next.specs.FirstCounts.{firstCount}
 use Rattle.next.specs.PairTests.{pick-padded}
-use Rattle.next.specs.Kept.{placesOf, kept-count}
+use Rattle.next.specs.Kept.{placesOf, FromTuples, kept-count}
 
 -- a class ends at each multiple of a
 abbrev pub step : ℕ → ℕ → Place ℕ
@@ -72,11 +70,11 @@ step-widths : (of : ℕ → Bounds) (ts : List Term) → widthsOf (map (stepOf o
 step-widths of [] = refl
 step-widths of (t ∷ ts) = ap (λ z. size (termBounds of t .hi -ℤ (termBounds of t .lo -ℤ pos 1)) ∷ z) (step-widths of ts)
 
-module _ (of : ℕ → Bounds) (q : Comparison) (n : All (λ t. t .coef ≢ pos 0) (q .terms)) (o : All (λ t. of (t .var) .lo ≤ℤ of (t .var) .hi) (q .terms)) (h : least of (q .terms) ≤ℤ q .constant) where
+module _ (of : ℕ → Bounds) (q : Comparison) (h : FromTuples of q) where
   -- how many clauses of a comparison are kept
   pub kept-by-steps : (lead : SatClause) → length (clausesOnce lead of q) ≡ firstCount (map (stepOf of) (q .terms)) (above of q)
   kept-by-steps lead =
-      kept-count of q n o h lead
+      kept-count of q h lead
       ∙ ap length (pick-shape true (placesOf of (q .terms)) (above of q) ∙ ap (λ ps. pick true ps (above of q)) (shapes of (q .terms)))
 
   -- where all |a| are 1: as many as there are tuples

@@ -1,6 +1,5 @@
 -- The first tuples of three places counted in two loops: over the least ones of the first and over the greatest ones of the second. Assumes nothing.
 use mathlib.Core.Path.{_≡_, refl, sym, ap, _∙_}
-use mathlib.Core.Logic.{_≢_}
 use mathlib.Core.Bool.{Bool, true, false, not, _||_}
 use mathlib.Core.List.{[], _∷_, map}
 use Prim.Native.Nat.{ℕ, suc, min, _+_, _-_, _%_, _≤_, _<_}
@@ -8,9 +7,7 @@ use native.Mathlib.Nat.{zero-mod}
 use native.Mathlib.Omega.{arith}
 use lib.Dec.{T, eqb, leb, leb→le, nleb→lt}
 use lib.ListN.{length}
-use lib.IntN.{pos}
-use lib.Signed.{_≤ℤ_}
-use Rattle.definitions.specs.Tools.{All, if_then_else_}
+use Rattle.definitions.specs.Tools.{if_then_else_}
 use Rattle.definitions.specs.Board.{Bounds, Comparison}
 use Rattle.definitions.specs.Encoding.{SatClause, least}
 use Rattle.laws.specs.Counting.{above}
@@ -20,6 +17,7 @@ use Rattle.next.specs.RunSums.{total, total-same, total-append, total-no
 use Rattle.next.specs.Classes.{Place, isLow, isHigh}
 use Rattle.next.specs.FirstCounts.{below, below-none, firstCount, fullCount, highsBelow, highsOf, highs-more}
 use Rattle.next.specs.Pairs.{one-in-front}
+use Rattle.next.specs.Kept.{FromTuples}
 use Rattle.next.specs.Shapes.{step, stepOf, kept-by-steps, filled, filled-count}
 use Rattle.next.specs.Remainders.{Least}
 use Rattle.next.specs.ClassEnds.{nextLow}
@@ -164,12 +162,11 @@ module _ (a w b v c x P : ℕ) (start : ℕ → ℕ) where
         )
 
 -- ---- a comparison's kept clauses, of one to three terms; a missing term is a place of step 1 and width 0 in front
-pub kept-counted : (of : ℕ → Bounds) (q : Comparison) → All (λ t. t .coef ≢ pos 0) (q .terms) → All (λ t. of (t .var) .lo ≤ℤ of (t .var) .hi) (q .terms)
-    → least of (q .terms) ≤ℤ q .constant → (lead : SatClause) (a w b v c x P : ℕ) (start : ℕ → ℕ)
+pub kept-counted : (of : ℕ → Bounds) (q : Comparison) → FromTuples of q → (lead : SatClause) (a w b v c x P : ℕ) (start : ℕ → ℕ)
     → filled (map (stepOf of) (q .terms)) ≡ step a w ∷ step b v ∷ step c x ∷ [] → 0 < a → 0 < b → 0 < c → Least b c P → Starts b c P start
     → length (clausesOnce lead of q) ≡ firstTriples a w b v c x P start (above of q)
-kept-counted of q n o h lead a w b v c x P start e ha hb hc least starts =
-    kept-by-steps of q n o h lead
+kept-counted of q h lead a w b v c x P start e ha hb hc least starts =
+    kept-by-steps of q h lead
     ∙ sym (filled-count (map (stepOf of) (q .terms)) (above of q))
     ∙ ap (λ ps. firstCount ps (above of q)) e
     ∙ sym (firstTriples-is a w b v c x P start ha hb hc least starts (above of q))
