@@ -1,0 +1,1 @@
+// The mathematics of clauses written once; no code.
