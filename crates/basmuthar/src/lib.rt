@@ -1,8 +1,8 @@
 // The operations for callers. C and other languages call the exported functions (include/basmuthar.h says what a caller owes
 // and is given). A crate in Rattle depends on basmuthar and definitions, and calls the operations by their own names.
 ghost use Rattle.std.specs.Prelude.{◌≡◌};
-ghost use Rattle.definitions.specs.Answers.{refusal, saidHour, saidReplied, saidSizing, saidTexted, saidVerdict};
-ghost use Rattle.basmuthar.specs.Interface.{hourWritten, hoursWritten, lengthWritten, replyWritten, sizesWritten, verdictWritten};
+ghost use Rattle.definitions.specs.Answers.{refusal, said_hour, said_replied, said_sizing, said_texted, said_verdict};
+ghost use Rattle.basmuthar.specs.Interface.{hour_written, hours_written, length_written, reply_written, sizes_written, verdict_written};
 ghost use Rattle.basmuthar.specs.Outcome.{ClosingLeaves, CompileLeaves, DecodeLeaves, ImageLeaves, JudgeLeaves, ReadReplyLeaves, ReadTextLeaves, SizeLeaves, WriteTextLeaves};
 
 pub use answers::{detail_of, number_of};
@@ -18,7 +18,7 @@ pub use size::size;
 pub use write_text::write_text;
 
 fn refusal_written(r: Refusal) -> [u64; 4]
-    ensures { result ≡ verdictWritten (refusal r) }
+    ensures { result ≡ verdict_written (refusal r) }
 {
     let number = number_of(r);
     let detail = detail_of(r);
@@ -26,7 +26,7 @@ fn refusal_written(r: Refusal) -> [u64; 4]
 }
 
 fn sizes_written(sizing: Sizing) -> [u64; 4]
-    ensures { result ≡ sizesWritten (saidSizing sizing) }
+    ensures { result ≡ sizes_written (said_sizing sizing) }
 {
     match sizing {
         Sizing::Sizes { n, m, k } => [0, n as u64, m as u64, k as u64],
@@ -35,7 +35,7 @@ fn sizes_written(sizing: Sizing) -> [u64; 4]
 }
 
 fn verdict_written(verdict: Verdict) -> [u64; 4]
-    ensures { result ≡ verdictWritten (saidVerdict verdict) }
+    ensures { result ≡ verdict_written (said_verdict verdict) }
 {
     match verdict {
         Verdict::Accepted => [0, 0, 0, 0],
@@ -44,7 +44,7 @@ fn verdict_written(verdict: Verdict) -> [u64; 4]
 }
 
 fn hour_written(hour: Hour) -> [u64; 4]
-    ensures { result ≡ hourWritten (saidHour hour) }
+    ensures { result ≡ hour_written (said_hour hour) }
 {
     match hour {
         Hour::Found(_) => [0, 0, 0, 0],
@@ -60,7 +60,7 @@ fn hour_written(hour: Hour) -> [u64; 4]
 
 // The hours of an answer; those that were there where it has none.
 fn hours_written(hour: Hour, hours: [i32; 3]) -> [i32; 3]
-    ensures { result ≡ hoursWritten (saidHour hour) hours }
+    ensures { result ≡ hours_written (said_hour hour) hours }
 {
     match hour {
         Hour::Found(v) => [v, v, v],
@@ -75,7 +75,7 @@ fn hours_written(hour: Hour, hours: [i32; 3]) -> [i32; 3]
 }
 
 fn length_written(texted: Texted) -> [u64; 4]
-    ensures { result ≡ lengthWritten (saidTexted texted) }
+    ensures { result ≡ length_written (said_texted texted) }
 {
     match texted {
         Texted::Length(n) => [0, n as u64, 0, 0],
@@ -84,7 +84,7 @@ fn length_written(texted: Texted) -> [u64; 4]
 }
 
 fn reply_written(replied: Replied) -> [u64; 4]
-    ensures { result ≡ replyWritten (saidReplied replied) }
+    ensures { result ≡ reply_written (said_replied replied) }
 {
     match replied {
         Replied::Model => [0, 0, 0, 0],

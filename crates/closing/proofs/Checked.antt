@@ -9,24 +9,24 @@ use borrow.Author.Tests.{ltb-true, lt-ltb, le-ltb}
 use Rattle.definitions.specs.Board.{Board, bounds_of}
 use Rattle.definitions.specs.Result.{Result, done, refused, need, ◌>>◌}
 use Rattle.definitions.specs.Operations.{accepted, bits}
-use Rattle.definitions.specs.Closing.{Earliest, unfinished, after, Closing}
+use Rattle.definitions.specs.Closing.{Earliest, unfinished, after, closing_outcome}
 use Rattle.laws.specs.Readings.{never}
-use Rattle.closing.specs.Checks.{lentAllowed}
+use Rattle.closing.specs.Checks.{lent_allowed}
 
 -- ---- 22
 module _ (ints x : ℕ) where
-  pub is-unknown : ints ≤ x → refused 22 x ≡ need 22 x (ltb x ints)
-  is-unknown h = rw (le-ltb x ints h)
+  pub is_unknown : ints ≤ x → refused 22 x ≡ need 22 x (ltb x ints)
+  is_unknown h = rw (le-ltb x ints h)
 
   pub is_known : x < ints → done tt ≡ need 22 x (ltb x ints)
   is_known h = rw (lt-ltb x ints h)
 
 -- ---- 22, then 12
-pub lent_is : (ints x : ℕ) (replies : List ℕ) {p q : Result (Unit {0})} → need 22 x (ltb x ints) ≡ p → bits replies ≡ q → (p >> q) ≡ lentAllowed ints x replies
+pub lent_is : (ints x : ℕ) (replies : List ℕ) {p q : Result (Unit {0})} → need 22 x (ltb x ints) ≡ p → bits replies ≡ q → (p >> q) ≡ lent_allowed ints x replies
 lent_is ints x replies e f = rw (e, f)
 
-pub known-then : (ints x : ℕ) (replies : List ℕ) → lentAllowed ints x replies ≡ done tt → x < ints
-known-then ints x replies = go (ltb x ints) refl
+pub known_then : (ints x : ℕ) (replies : List ℕ) → lent_allowed ints x replies ≡ done tt → x < ints
+known_then ints x replies = go (ltb x ints) refl
   where
     go : (t : Bool) → ltb x ints ≡ t → (need 22 x t >> bits replies) ≡ done tt → x < ints
     go true q e = ltb-true x ints q
@@ -38,12 +38,12 @@ gather (refused n i) b c = refl
 gather (done u) b c = refl
 
 module _ (s : List ℕ) (x : ℕ) (replies : List ℕ) where
-  pub record-refused : {n d : ℕ} → accepted s ≡ refused n d → refused n d ≡ Closing s x replies
-  unfolding Closing
-  record-refused e = rw e
+  pub record_refused : {n d : ℕ} → accepted s ≡ refused n d → refused n d ≡ closing_outcome s x replies
+  unfolding closing_outcome
+  record_refused e = rw e
 
-  pub closing-is : (B : Board) {p : Result (Unit {0})} → accepted s ≡ done B → lentAllowed (length B.bounds) x replies ≡ p
-      → Closing s x replies ≡ (p >> after (unfinished (bounds_of B x) (bounds_of B x).hi) replies)
-  unfolding Closing
-  closing-is B {p} e f =
+  pub closing_is : (B : Board) {p : Result (Unit {0})} → accepted s ≡ done B → lent_allowed (length B.bounds) x replies ≡ p
+      → closing_outcome s x replies ≡ (p >> after (unfinished (bounds_of B x) (bounds_of B x).hi) replies)
+  unfolding closing_outcome
+  closing_is B {p} e f =
       rw (e, sym f) (gather (need 22 x (ltb x (length B.bounds))) (bits replies) (after (unfinished (bounds_of B x) (bounds_of B x).hi) replies))

@@ -11,14 +11,14 @@ use denote.Enum.Declared.{tag_of}
 use lib.IntN.{ℤ}
 use Rattle.definitions.specs.Result.{done, refused}
 use Rattle.definitions.specs.Closing.{Earliest, unfinished, tells, after}
-use Rattle.definitions.specs.Answers.{saidHour}
+use Rattle.definitions.specs.Answers.{said_hour}
 use Rattle.definitions.specs.declared.Hour.{Hour}
 use Rattle.definitions.specs.contracts.Hour.{the_type}
 use Rattle.laws.specs.Whole.{whole}
-use Rattle.laws.specs.Halving.{half-law, isOpen, is_empty, isOne, stands, tells-open, tells_none, tells-found, after-end, after_one}
+use Rattle.laws.specs.Halving.{half_law, is_open, is_empty, is_one, stands, tells_open, tells_none, tells_found, after-end, after_one}
 use Rattle.laws.specs.Readings.{same, never}
 use Rattle.slots.specs.declared.Bounds.{Bounds}
-use Rattle.slots.specs.Variables.{boundsRead}
+use Rattle.slots.specs.Variables.{bounds_read}
 use Rattle.closing.specs.Ranges.{Small, Asked, Left, standing, Sound, Going}
 
 -- ---- replies left over
@@ -26,7 +26,7 @@ use Rattle.closing.specs.Ranges.{Small, Asked, Left, standing, Sound, Going}
 abbrev others : List ℕ
 others = 0 ∷ 1 ∷ 3 ∷ []
 
-over : (hour : Hour) → OneOf others (tag_of the_type hour) → saidHour hour ≡ done (standing hour) → (b : ℕ) (bs : List ℕ) → after (standing hour) (b ∷ bs) ≡ refused 23 (suc (length bs))
+over : (hour : Hour) → OneOf others (tag_of the_type hour) → said_hour hour ≡ done (standing hour) → (b : ℕ) (bs : List ℕ) → after (standing hour) (b ∷ bs) ≡ refused 23 (suc (length bs))
 unfolding after
 over (Hour.Found v) k e b bs = refl
 over Hour.None k e b bs = refl
@@ -34,47 +34,47 @@ over (Hour.Unfinished low high question) k e b bs = absurd (miss others 2 tt k)
 over (Hour.Refused r) k e b bs = never e
 
 -- what a range tells is sound
-tells-sound : (b : Bounds) → Small b → Sound (tells (boundsRead b))
-tells-sound b s = elim (stands (boundsRead b)) [
-  | isOpen k ↦ rw (tells-open (boundsRead b) k)
-      (record { least = s.least; from = omega (whole, half-law (boundsRead b)); to = omega (whole, half-law (boundsRead b)); most = s.most })
-  | is_empty k ↦ rw (tells_none (boundsRead b) k) tt
-  | isOne k ↦ rw (tells-found (boundsRead b) k) tt
+tells_sound : (b : Bounds) → Small b → Sound (tells (bounds_read b))
+tells_sound b s = elim (stands (bounds_read b)) [
+  | is_open k ↦ rw (tells_open (bounds_read b) k)
+      (record { least = s.least; from = omega (whole, half_law (bounds_read b)); to = omega (whole, half_law (bounds_read b)); most = s.most })
+  | is_empty k ↦ rw (tells_none (bounds_read b) k) tt
+  | is_one k ↦ rw (tells_found (bounds_read b) k) tt
 ]
 
 -- what is said is what stands
-is-standing : (hour : Hour) (e : Earliest) → saidHour hour ≡ done e → standing hour ≡ e
-is-standing (Hour.Found v) e k = same k
-is-standing Hour.None e k = same k
-is-standing (Hour.Unfinished low high question) e k = same k
-is-standing (Hour.Refused r) e k = never k
+is_standing : (hour : Hour) (e : Earliest) → said_hour hour ≡ done e → standing hour ≡ e
+is_standing (Hour.Found v) e k = same k
+is_standing Hour.None e k = same k
+is_standing (Hour.Unfinished low high question) e k = same k
+is_standing (Hour.Refused r) e k = never k
 
 -- before the first reply
-pub begins : (replies : List ℕ) (b : Bounds) (h : ℤ) → Asked (boundsRead b) h
+pub begins : (replies : List ℕ) (b : Bounds) (h : ℤ) → Asked (bounds_read b) h
     → Going replies (Hour.Unfinished b.lower b.upper h) (Hour.Unfinished b.lower b.upper h) 0
 begins replies b h a = record { is = refl; sound = a; inside = omega arith; answers = refl }
 
 module _ {replies : List ℕ} {start hour : Hour} {i : ℕ} (g : Going replies start hour i) where
-  pub ends : length replies ≤ i → saidHour hour ≡ after (standing start) replies
+  pub ends : length replies ≤ i → said_hour hour ≡ after (standing start) replies
   ends k = g.is ∙ sym (after-end (standing hour)) ∙ ap (after (standing hour)) (sym (drop_of_length-le replies k)) ∙ g.answers
 
-  pub leaves-over : i < length replies → OneOf others (tag_of the_type hour) → refused 23 (length replies - i) ≡ after (standing start) replies
-  leaves-over k o =
+  pub leaves_over : i < length replies → OneOf others (tag_of the_type hour) → refused 23 (length replies - i) ≡ after (standing start) replies
+  leaves_over k o =
       let e : length replies - i ≡ suc (length (drop (suc i) replies)) = omega (arith, length-drop (suc i) replies) in
       ap (refused 23) e ∙ sym (over hour o g.is (get_or replies i 0) (drop (suc i) replies)) ∙ ap (after (standing hour)) (sym (drop-cons replies i 0 k)) ∙ g.answers
 
   pub goes_on : {b : Bounds} {h : ℤ} {r : Bounds} {next : Hour} → hour ≡ Hour.Unfinished b.lower b.upper h → i < length replies
-      → Left b h (get_or replies i 0) r → saidHour next ≡ done (tells (boundsRead r)) → Going replies start next (i + 1)
+      → Left b h (get_or replies i 0) r → said_hour next ≡ done (tells (bounds_read r)) → Going replies start next (i + 1)
   goes_on {b} {h} {r} {next} e k l d =
-      let q : standing next ≡ tells (boundsRead r) = is-standing next (tells (boundsRead r)) d in
+      let q : standing next ≡ tells (bounds_read r) = is_standing next (tells (bounds_read r)) d in
       record {
         is = d ∙ ap done (sym q);
-        sound = rw q (tells-sound r l.small);
+        sound = rw q (tells_sound r l.small);
         inside = omega arith;
         answers =
             rw (add-one, q, l.cuts)
-            (sym (after_one (boundsRead b) h (get_or replies i 0) (drop (suc i) replies)) ∙ ap (after (unfinished (boundsRead b) h)) (sym (drop-cons replies i 0 k)) ∙ (rw e at g.answers));
+            (sym (after_one (bounds_read b) h (get_or replies i 0) (drop (suc i) replies)) ∙ ap (after (unfinished (bounds_read b) h)) (sym (drop-cons replies i 0 k)) ∙ (rw e at g.answers));
       }
 
-  pub asks : {b : Bounds} {h : ℤ} → hour ≡ Hour.Unfinished b.lower b.upper h → Asked (boundsRead b) h
+  pub asks : {b : Bounds} {h : ℤ} → hour ≡ Hour.Unfinished b.lower b.upper h → Asked (bounds_read b) h
   asks e = rw e at g.sound

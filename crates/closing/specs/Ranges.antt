@@ -4,10 +4,10 @@ use Rattle.definitions.specs.Tools.{neg}
 use Rattle.definitions.specs.Board as board
 use Rattle.definitions.specs.Result.{done}
 use Rattle.definitions.specs.Closing.{Earliest, found, none, unfinished, narrowed, after}
-use Rattle.definitions.specs.Answers.{saidHour}
+use Rattle.definitions.specs.Answers.{said_hour}
 use Rattle.definitions.specs.declared.Hour.{Hour}
 use Rattle.slots.specs.declared.Bounds.{Bounds}
-use Rattle.slots.specs.Variables.{boundsRead}
+use Rattle.slots.specs.Variables.{bounds_read}
 
 -- a range within 01's bounds; it may be empty, and low is then one above high
 pub record Small (range : Bounds) : Type 0 where
@@ -25,7 +25,7 @@ pub record Asked (r : board.Bounds) (h : ℤ) : Type 0 where
 -- what a reply leaves of it
 pub record Left (range : Bounds) (h : ℤ) (reply : ℕ) (r : Bounds) : Type 0 where
   pub small : Small r
-  pub cuts : boundsRead r ≡ narrowed (boundsRead range) h reply
+  pub cuts : bounds_read r ≡ narrowed (bounds_read range) h reply
 
 -- an answer that is no refusal, as the definition has it
 abbrev pub standing : Hour → Earliest
@@ -41,7 +41,7 @@ Sound (unfinished r h) = Asked r h
 
 -- after i replies: the others lead from here to where all of them lead from the start
 pub record Going (replies : List ℕ) (start hour : Hour) (i : ℕ) : Type 0 where
-  pub is : saidHour hour ≡ done (standing hour)
+  pub is : said_hour hour ≡ done (standing hour)
   pub sound : Sound (standing hour)
   pub inside : i ≤ length replies
   pub answers : after (standing hour) (drop i replies) ≡ after (standing start) replies

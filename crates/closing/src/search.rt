@@ -1,10 +1,10 @@
 // The range of a variable, narrowed by one reply after another.
 ghost use Rattle.std.specs.Prelude.{◌≡◌};
-ghost use Rattle.definitions.specs.Answers.{saidHour};
+ghost use Rattle.definitions.specs.Answers.{said_hour};
 ghost use Rattle.definitions.specs.Closing.{after, halfway, tells, unfinished};
 ghost use Rattle.definitions.specs.Result.{done};
 ghost use Rattle.laws.specs.Admitted.{GoodBounds};
-ghost use Rattle.slots.specs.Variables.{boundsRead};
+ghost use Rattle.slots.specs.Variables.{bounds_read};
 ghost use Rattle.closing.specs.Ranges.{Asked, Left, Small};
 
 use definitions::{Hour, Refusal};
@@ -14,14 +14,14 @@ use walk::division::floor_div;
 // Half the sum of low and high, rounded down.
 fn half(range: Bounds) -> i32
     requires { Small range }
-    ensures { result ≡ halfway (boundsRead range) }
+    ensures { result ≡ halfway (bounds_read range) }
 {
     floor_div(range.lower + range.upper, 2)
 }
 
 // What a reply to 'at most h?' leaves of the range.
 fn narrowed(range: Bounds, h: i32, reply: u8) -> Bounds
-    requires { Asked (boundsRead range) h }
+    requires { Asked (bounds_read range) h }
     ensures { Left range h reply result }
 {
     if reply == 1 {
@@ -39,7 +39,7 @@ fn narrowed(range: Bounds, h: i32, reply: u8) -> Bounds
 // What a range tells: the next question, the value, or that there is none.
 fn told(range: Bounds) -> Hour
     requires { Small range }
-    ensures { saidHour result ≡ done (tells (boundsRead range)) }
+    ensures { said_hour result ≡ done (tells (bounds_read range)) }
 {
     if range.lower < range.upper {
         return Hour::Unfinished {
@@ -56,8 +56,8 @@ fn told(range: Bounds) -> Hour
 
 // The answer to all replies; the first question is at the upper bound.
 pub fn searched(range: Bounds, replies: &[u8]) -> Hour
-    requires { GoodBounds (boundsRead range) }
-    ensures { saidHour result ≡ after (unfinished (boundsRead range) range.upper) replies.now }
+    requires { GoodBounds (bounds_read range) }
+    ensures { said_hour result ≡ after (unfinished (bounds_read range) range.upper) replies.now }
 {
     let mut hour = Hour::Unfinished {
         low: range.lower,

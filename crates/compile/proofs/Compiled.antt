@@ -6,36 +6,36 @@ use native.Mathlib.Omega.{arith}
 use lib.ListN.{length, drop}
 use lib.IntN.{ℤ}
 use borrow.Author.Tests.{lt-leb, le-leb}
-use Rattle.definitions.specs.Encoding.{clauseList, K}
+use Rattle.definitions.specs.Encoding.{clause_list, K}
 use Rattle.definitions.specs.Result.{done, refused}
-use Rattle.definitions.specs.Operations.{accepted, sizesOf, Compile}
-use Rattle.laws.specs.Boards.{boardOf}
-use Rattle.laws.specs.Sizes.{K-is}
+use Rattle.definitions.specs.Operations.{accepted, sizes_of, compile_outcome}
+use Rattle.laws.specs.Boards.{board_of}
+use Rattle.laws.specs.Sizes.{K_is}
 use Rattle.laws.specs.Written.{written}
 use Rattle.opening.specs.declared.Header.{Header}
-use Rattle.opening.specs.Said.{mapDone}
+use Rattle.opening.specs.Said.{map_done}
 use Rattle.measure.specs.declared.Totals.{Totals}
-use Rattle.measure.specs.Said.{measuredOf}
-use Rattle.measure.specs.Told.{Measures, measured, not-measured}
+use Rattle.measure.specs.Said.{measured_of}
+use Rattle.measure.specs.Told.{Measures, measured, not_measured}
 
 module _ (s : List ℕ) (list : List ℤ) where
-  module _ (h : Header) (t : Totals) (e : mapDone measuredOf (accepted s) ≡ done (h, t)) where
+  module _ (h : Header) (t : Totals) (e : map_done measured_of (accepted s) ≡ done (h, t)) where
     measures : Measures s h t
     measures = measured s e
 
-    pub too_short : length list < t.k → (refused 10 t.k ≡ (Compile s list).answer) × (list ≡ (Compile s list).left)
-    unfolding Compile
+    pub too_short : length list < t.k → (refused 10 t.k ≡ (compile_outcome s list).answer) × (list ≡ (compile_outcome s list).left)
+    unfolding compile_outcome
     too_short l =
-        let k : length list < K (boardOf s) = omega (arith, ap (λ z. z.k) measures.totals) in
-        rw (measures.board, lt-leb (K (boardOf s)) (length list) k, measures.totals) (refl, refl)
+        let k : length list < K (board_of s) = omega (arith, ap (λ z. z.k) measures.totals) in
+        rw (measures.board, lt-leb (K (board_of s)) (length list) k, measures.totals) (refl, refl)
 
-    pub compiled : t.k ≤ length list → (n : ℕ) (out : List ℤ) → n ≡ length (clauseList (boardOf s)) → out ≡ written (clauseList (boardOf s)) list
-        → (done (record { n = t.n; m = t.m; k = n }) ≡ (Compile s list).answer) × (out ≡ (Compile s list).left)
-    unfolding Compile sizesOf written
+    pub compiled : t.k ≤ length list → (n : ℕ) (out : List ℤ) → n ≡ length (clause_list (board_of s)) → out ≡ written (clause_list (board_of s)) list
+        → (done (record { n = t.n; m = t.m; k = n }) ≡ (compile_outcome s list).answer) × (out ≡ (compile_outcome s list).left)
+    unfolding compile_outcome sizes_of written
     compiled l n out en ey =
-        let k : K (boardOf s) ≤ length list = omega (arith, ap (λ z. z.k) measures.totals) in
-        rw (measures.board, le-leb (K (boardOf s)) (length list) k, measures.totals, en, ← K-is (boardOf s)) (refl, ey ∙ ap (λ n. clauseList (boardOf s) ++ drop n list) (sym (K-is (boardOf s))))
+        let k : K (board_of s) ≤ length list = omega (arith, ap (λ z. z.k) measures.totals) in
+        rw (measures.board, le-leb (K (board_of s)) (length list) k, measures.totals, en, ← K_is (board_of s)) (refl, ey ∙ ap (λ n. clause_list (board_of s) ++ drop n list) (sym (K_is (board_of s))))
 
-  pub unmeasured : (n d : ℕ) → mapDone measuredOf (accepted s) ≡ refused n d → (refused n d ≡ (Compile s list).answer) × (list ≡ (Compile s list).left)
-  unfolding Compile
-  unmeasured n d e = rw (not-measured s e) (refl, refl)
+  pub unmeasured : (n d : ℕ) → map_done measured_of (accepted s) ≡ refused n d → (refused n d ≡ (compile_outcome s list).answer) × (list ≡ (compile_outcome s list).left)
+  unfolding compile_outcome
+  unmeasured n d e = rw (not_measured s e) (refl, refl)

@@ -1,7 +1,7 @@
-// Compile: the clause list of a record, number for number.
+// compile_outcome: the clause list of a record, number for number.
 ghost use Rattle.std.specs.Prelude.{◌≡◌, ◌≤◌, length};
-ghost use Rattle.definitions.specs.Encoding.{clauseList};
-ghost use Rattle.laws.specs.Boards.{boardOf};
+ghost use Rattle.definitions.specs.Encoding.{clause_list};
+ghost use Rattle.laws.specs.Boards.{board_of};
 ghost use Rattle.laws.specs.Written.{written};
 ghost use Rattle.opening.specs.Headers.{Opened};
 ghost use Rattle.compile.specs.Outcome.{Allowed};
@@ -19,8 +19,8 @@ pub mod variables; // variables.rt: the axioms of all variables
 
 // The axioms, and then, in the rest of the list, the clauses of the rules, which stand in the record's tail.
 fn put_list(bytes: &[u8], header: Header, list: &mut [i32]) -> usize
-    requires { Opened bytes.now header × (length (clauseList (boardOf bytes.now)) ≤ length list.old) }
-    ensures { (result ≡ length (clauseList (boardOf bytes.now))) × (list.new ≡ written (clauseList (boardOf bytes.now)) list.old) }
+    requires { Opened bytes.now header × (length (clause_list (board_of bytes.now)) ≤ length list.old) }
+    ensures { (result ≡ length (clause_list (board_of bytes.now))) × (list.new ≡ written (clause_list (board_of bytes.now)) list.old) }
 {
     let tail = header.rules;
     let mut firsts = [0u32; FIRSTS];

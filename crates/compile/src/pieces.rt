@@ -1,15 +1,15 @@
 // The clauses of the rules, piece by piece: each piece goes into the part of the list that follows the numbers already written.
 ghost use Rattle.std.specs.Prelude.{◌≡◌, ◌≤◌, length};
-ghost use Rattle.laws.specs.Limits.{selectorsLimit};
+ghost use Rattle.laws.specs.Limits.{selectors_limit};
 ghost use Rattle.definitions.specs.Encoding.{first};
-ghost use Rattle.laws.specs.Boards.{boardOf};
-ghost use Rattle.laws.specs.Pieces.{piecesFrom};
+ghost use Rattle.laws.specs.Boards.{board_of};
+ghost use Rattle.laws.specs.Pieces.{pieces_from};
 ghost use Rattle.laws.specs.Written.{written};
 ghost use Rattle.laws.specs.Reread.{context_of};
-ghost use Rattle.rules.specs.Cursors.{Held, saidPiece, selectorsTo};
+ghost use Rattle.rules.specs.Cursors.{Held, said_piece, selectors_to};
 ghost use Rattle.rules.specs.Known.{Known};
 ghost use Rattle.slots.specs.Variables.{FirstsOf};
-ghost use Rattle.compile.specs.Lists.{pieceNumbers, piecesNumbers};
+ghost use Rattle.compile.specs.Lists.{piece_numbers, pieces_numbers};
 
 use rules::{Ahead, Piece, next_piece, start};
 use slots::comparisons::ready;
@@ -26,8 +26,8 @@ fn put_piece(
     piece: Piece,
     list: &mut [i32],
 ) -> usize
-    requires { Known bytes.now rules.now × FirstsOf (boardOf bytes.now) firsts.now × (selectors ≡ first (boardOf bytes.now) (length (boardOf bytes.now).bounds)) × Held (context_of (boardOf bytes.now)) rules.now piece × (selectorsTo piece ≤ selectorsLimit) × (length (pieceNumbers (boardOf bytes.now) (saidPiece rules.now piece)) ≤ length list.old) }
-    ensures { (result ≡ length (pieceNumbers (boardOf bytes.now) (saidPiece rules.now piece))) × (list.new ≡ written (pieceNumbers (boardOf bytes.now) (saidPiece rules.now piece)) list.old) }
+    requires { Known bytes.now rules.now × FirstsOf (board_of bytes.now) firsts.now × (selectors ≡ first (board_of bytes.now) (length (board_of bytes.now).bounds)) × Held (context_of (board_of bytes.now)) rules.now piece × (selectors_to piece ≤ selectors_limit) × (length (piece_numbers (board_of bytes.now) (said_piece rules.now piece)) ≤ length list.old) }
+    ensures { (result ≡ length (piece_numbers (board_of bytes.now) (said_piece rules.now piece))) × (list.new ≡ written (piece_numbers (board_of bytes.now) (said_piece rules.now piece)) list.old) }
 {
     match piece {
         Piece::Line {
@@ -64,8 +64,8 @@ pub fn put_pieces(
     selectors: u32,
     list: &mut [i32],
 ) -> usize
-    requires { Known bytes.now rules.now × FirstsOf (boardOf bytes.now) firsts.now × (clauses ≡ length (boardOf bytes.now).clauses) × (selectors ≡ first (boardOf bytes.now) (length (boardOf bytes.now).bounds)) × (length (piecesNumbers (boardOf bytes.now) (piecesFrom 0 (boardOf bytes.now).clauses)) ≤ length list.old) }
-    ensures { (result ≡ length (piecesNumbers (boardOf bytes.now) (piecesFrom 0 (boardOf bytes.now).clauses))) × (list.new ≡ written (piecesNumbers (boardOf bytes.now) (piecesFrom 0 (boardOf bytes.now).clauses)) list.old) }
+    requires { Known bytes.now rules.now × FirstsOf (board_of bytes.now) firsts.now × (clauses ≡ length (board_of bytes.now).clauses) × (selectors ≡ first (board_of bytes.now) (length (board_of bytes.now).bounds)) × (length (pieces_numbers (board_of bytes.now) (pieces_from 0 (board_of bytes.now).clauses)) ≤ length list.old) }
+    ensures { (result ≡ length (pieces_numbers (board_of bytes.now) (pieces_from 0 (board_of bytes.now).clauses))) × (list.new ≡ written (pieces_numbers (board_of bytes.now) (pieces_from 0 (board_of bytes.now).clauses)) list.old) }
 {
     let mut at: usize = 0;
     let mut cursor = start(clauses);

@@ -21,8 +21,8 @@ pub record Goes (i : ℕ) (all : List Bool) (n : ℕ) (rest : List Bool) : Type 
   pub same : each 13 n rest ≡ each 13 i all
   pub count : n + length rest ≡ i + length all
 
-pub goes-start : (i : ℕ) (all : List Bool) → Goes i all i all
-goes-start i all = record { same = refl; count = refl }
+pub goes_start : (i : ℕ) (all : List Bool) → Goes i all i all
+goes_start i all = record { same = refl; count = refl }
 
 module _ {i : ℕ} {all : List Bool} {n : ℕ} {rest : List Bool} (g : Goes i all n rest) where
   pub goes_end : rest ≡ [] → Sought i all (Checked.Hold n)
@@ -33,18 +33,18 @@ module _ {i : ℕ} {all : List Bool} {n : ℕ} {rest : List Bool} (g : Goes i al
     pub goes_one : b ≡ true → Goes i all (n + 1) others
     goes_one h = record { same = rw add-one (rw (e, h) at g.same); count = omega (arith, g.count, ap length e) }
 
-    pub goes-stop : b ≡ false → Sought i all (Checked.Fails n)
-    goes-stop h = rw (e, h) at g.same
+    pub goes_stop : b ≡ false → Sought i all (Checked.Fails n)
+    goes_stop h = rw (e, h) at g.same
 
   -- several tests, and what was found among them
   module _ (part others : List Bool) (e : rest ≡ part ++ others) (r : Checked) (q : Sought n part r) where
     parted : (each 13 n part >> each 13 (n + length part) others) ≡ each 13 i all
     parted = sym (simp map-id at (seek-append 13 (λ b. b) n part others)) ∙ (rw e at g.same)
 
-    pub goes-part : {k : ℕ} → r ≡ Checked.Hold k → Goes i all k others
-    goes-part {k} f =
+    pub goes_part : {k : ℕ} → r ≡ Checked.Hold k → Goes i all k others
+    goes_part {k} f =
         let h : Sought n part (Checked.Hold k) = rw f at q in
         record { same = rw h.1 (rw (← h.0) at parted); count = omega (arith, g.count, h.1, ap length e, length-append part others) }
 
-    pub goes-fails : {k : ℕ} → r ≡ Checked.Fails k → Sought i all (Checked.Fails k)
-    goes-fails {k} f = let h : Sought n part (Checked.Fails k) = rw f at q in rw (← h) at parted
+    pub goes_fails : {k : ℕ} → r ≡ Checked.Fails k → Sought i all (Checked.Fails k)
+    goes_fails {k} f = let h : Sought n part (Checked.Fails k) = rw f at q in rw (← h) at parted

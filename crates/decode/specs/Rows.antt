@@ -9,35 +9,35 @@ use Rattle.laws.specs.Lists.{append-all}
 use Rattle.laws.specs.Mentions.{InList}
 use Rattle.walk.specs.declared.Run.{Run}
 use Rattle.walk.specs.declared.Spot.{Spot}
-use Rattle.walk.specs.Rows.{frontOf, raised, lowered, rowFrom, inRun}
+use Rattle.walk.specs.Rows.{front_of, raised, lowered, row_from, in_run}
 use Rattle.decode.specs.declared.Checked.{Checked}
-use Rattle.decode.specs.Truth.{trueNumber, trueTail}
+use Rattle.decode.specs.Truth.{true_number, true_tail}
 use Rattle.decode.specs.Goes.{Sought}
 
 -- no literal that stays holds: the others decide
-pub fixed-open : (model : List ℕ) (fixed : List ℤ) → trueTail model fixed ≡ false → (ls : List ℤ) → trueTail model (fixed ++ ls) ≡ trueTail model ls
-fixed-open model fixed h ls = any_append (trueNumber model) fixed ls ∙ ap (λ b. b || trueTail model ls) h
+pub fixed_open : (model : List ℕ) (fixed : List ℤ) → true_tail model fixed ≡ false → (ls : List ℤ) → true_tail model (fixed ++ ls) ≡ true_tail model ls
+fixed_open model fixed h ls = any_append (true_number model) fixed ls ∙ ap (λ b. b || true_tail model ls) h
 
 module _ (run : Run) where
   abbrev fixed : List ℤ
-  fixed = frontOf run.front
+  fixed = front_of run.front
 
   -- one holds: so does each clause
-  pub run-held : (model : List ℕ) → trueTail model fixed ≡ true → (i : ℕ) → Sought i (map (trueTail model) (inRun run)) (Checked.Hold (i + run.count))
-  unfolding inRun rowFrom
+  pub run-held : (model : List ℕ) → true_tail model fixed ≡ true → (i : ℕ) → Sought i (map (true_tail model) (in_run run)) (Checked.Hold (i + run.count))
+  unfolding in_run row_from
   run-held model h i = go i run.y run.z run.count
     where
-      go : (i : ℕ) (y z : Spot) (n : ℕ) → Sought i (map (trueTail model) (rowFrom fixed y z n)) (Checked.Hold (i + n))
+      go : (i : ℕ) (y z : Spot) (n : ℕ) → Sought i (map (true_tail model) (row_from fixed y z n)) (Checked.Hold (i + n))
       go i y z zero = (refl, refl)
       go i y z (suc n) =
           let k = go (suc i) (raised y) (lowered z) n in
-          rw (any_append (trueNumber model) fixed (y.literal ∷ z.literal ∷ []), h) (k.0, omega (arith, k.1))
+          rw (any_append (true_number model) fixed (y.literal ∷ z.literal ∷ []), h) (k.0, omega (arith, k.1))
 
   -- they are numbered where all of the run are
-  pub front-numbered : (m : ℕ) → 0 < length (inRun run) → All (All (InList m)) (inRun run) → All (InList m) fixed
-  unfolding inRun rowFrom
-  front-numbered m = go run.count
+  pub front_numbered : (m : ℕ) → 0 < length (in_run run) → All (All (InList m)) (in_run run) → All (InList m) fixed
+  unfolding in_run row_from
+  front_numbered m = go run.count
     where
-      go : (n : ℕ) → 0 < length (rowFrom fixed run.y run.z n) → All (All (InList m)) (rowFrom fixed run.y run.z n) → All (InList m) fixed
+      go : (n : ℕ) → 0 < length (row_from fixed run.y run.z n) → All (All (InList m)) (row_from fixed run.y run.z n) → All (InList m) fixed
       go zero h a = absurd (omega arith)
       go (suc n) h a = (append-all (InList m) fixed _ a.0).0

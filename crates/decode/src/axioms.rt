@@ -2,10 +2,10 @@
 ghost use Rattle.std.specs.Prelude.{◌≡◌, ◌+◌, ◌≤◌, ◌<◌, length};
 ghost use mathlib.Core.List.{flatten};
 ghost use Rattle.definitions.specs.Encoding.{axioms};
-ghost use Rattle.laws.specs.Boards.{boardOf};
+ghost use Rattle.laws.specs.Boards.{board_of};
 ghost use Rattle.decode.specs.Given.{Given};
 ghost use Rattle.decode.specs.Goes.{Sought};
-ghost use Rattle.decode.specs.Axioms.{rises, axiomTest};
+ghost use Rattle.decode.specs.Axioms.{rises, axiom_test};
 ghost use Rattle.decode.specs.Truth.{tests};
 
 use crate::Checked;
@@ -27,7 +27,7 @@ fn holds_from(model: &[u8], v: usize) -> bool
 // The axiom k, counted from 0, of a variable that has `width` order variables, the first of them `first`.
 fn axiom_holds(model: &[u8], first: usize, width: usize, k: usize) -> bool
     requires { (1 ≤ first) × (2 ≤ width) × (first + width ≤ length model.now + 1) × (length model.now < 2147483648) × (k ≤ width) }
-    ensures { result ≡ axiomTest model.now first width k }
+    ensures { result ≡ axiom_test model.now first width k }
 {
     if k == 0 {
         return !is_on(model, first);
@@ -41,7 +41,7 @@ fn axiom_holds(model: &[u8], first: usize, width: usize, k: usize) -> bool
 // Variable by variable, and for each variable axiom by axiom; it stops at the first that does not hold.
 pub fn search_axioms(bytes: &[u8], model: &[u8], header: Header) -> Checked
     requires { Given bytes.now model.now header }
-    ensures { Sought 0 (tests (boardOf bytes.now) model.now (flatten (axioms (boardOf bytes.now)))) result }
+    ensures { Sought 0 (tests (board_of bytes.now) model.now (flatten (axioms (board_of bytes.now)))) result }
 {
     let mut x: usize = 0;
     let mut first = header.bools + 1;

@@ -1,12 +1,12 @@
-// Reading a model back (01, Decode): the search for a clause that does not hold, then the values and the Booleans.
+// Reading a model back (01, decode_outcome): the search for a clause that does not hold, then the values and the Booleans.
 ghost use Rattle.std.specs.Prelude.{◌≡◌};
 ghost use Rattle.definitions.specs.Encoding.{N};
-ghost use Rattle.definitions.specs.Answers.{saidVerdict};
+ghost use Rattle.definitions.specs.Answers.{said_verdict};
 ghost use Rattle.definitions.specs.Operations.{lending};
-ghost use Rattle.laws.specs.Boards.{boardOf};
+ghost use Rattle.laws.specs.Boards.{board_of};
 ghost use Rattle.opening.specs.Headers.{Opened};
 ghost use Rattle.decode.specs.Given.{Given};
-ghost use Rattle.decode.specs.Decoded.{modelChecks, readBack};
+ghost use Rattle.decode.specs.Decoded.{model_checks, read_back};
 ghost use Rattle.decode.specs.Outcome.{Allowed, Leaves};
 
 use crate::search::search_clauses;
@@ -34,7 +34,7 @@ pub mod values; // values.rt: what is read back
 // Checks 12 and 13 of a model of the right length.
 fn check_model(bytes: &[u8], model: &[u8], header: Header) -> Verdict
     requires { Given bytes.now model.now header }
-    ensures { saidVerdict result ≡ modelChecks (boardOf bytes.now) model.now }
+    ensures { said_verdict result ≡ model_checks (board_of bytes.now) model.now }
 {
     match first_bad_byte(model) {
         Found::At(index) => Verdict::Refused(Refusal::ByteWrong { index: index }),
@@ -54,8 +54,8 @@ fn read_back(
     values: &mut [i32],
     booleans: &mut [u8],
 ) -> Verdict
-    requires { Opened bytes.now header × (n ≡ N (boardOf bytes.now)) }
-    ensures { Leaves (lending (values.old, booleans.old) (readBack bytes.now header n model.now values.old booleans.old)) result values.new booleans.new }
+    requires { Opened bytes.now header × (n ≡ N (board_of bytes.now)) }
+    ensures { Leaves (lending (values.old, booleans.old) (read_back bytes.now header n model.now values.old booleans.old)) result values.new booleans.new }
 {
     if model.len() != n {
         return Verdict::Refused(Refusal::LentWrong { wanted: n });
@@ -77,7 +77,7 @@ fn read_back(
     Verdict::Accepted
 }
 
-// 01, Decode: a refusal leaves both lists as they were.
+// 01, decode_outcome: a refusal leaves both lists as they were.
 pub fn decode(bytes: &[u8], model: &[u8], values: &mut [i32], booleans: &mut [u8]) -> Verdict
     ensures { Allowed bytes.now model.now values.old booleans.old result values.new booleans.new }
 {

@@ -2,16 +2,16 @@
 ghost use Rattle.std.specs.Prelude.{◌≡◌, ◌+◌, ◌≤◌, ◌<◌, length};
 ghost use Rattle.definitions.specs.Tools.{All};
 ghost use Rattle.definitions.specs.Result.{done};
-ghost use Rattle.definitions.specs.Reading.{times, readLiteral};
-ghost use Rattle.laws.specs.Again.{literalsAt};
-ghost use Rattle.laws.specs.Boards.{boardOf};
+ghost use Rattle.definitions.specs.Reading.{times, read_literal};
+ghost use Rattle.laws.specs.Again.{literals_at};
+ghost use Rattle.laws.specs.Boards.{board_of};
 ghost use Rattle.laws.specs.Reread.{context_of};
-ghost use Rattle.laws.specs.Pieces.{lineFrom};
+ghost use Rattle.laws.specs.Pieces.{line_from};
 ghost use Rattle.laws.specs.Mentions.{Mentions};
 ghost use Rattle.slots.specs.Variables.{FirstsOf};
 ghost use Rattle.decode.specs.Given.{Given};
-ghost use Rattle.decode.specs.Truth.{trueClause};
-ghost use Rattle.decode.specs.Lines.{number_in, signed, selectorAfter};
+ghost use Rattle.decode.specs.Truth.{true_clause};
+ghost use Rattle.decode.specs.Lines.{number_in, signed, selector_after};
 
 use lent::is_on;
 use opening::Header;
@@ -37,7 +37,7 @@ fn literal_holds(model: &[u8], literal: Literal, selectors: usize, j: usize) -> 
 // The next selector behind a literal.
 fn selector_after(literal: Literal, j: usize) -> usize
     requires { number_in j literal < 2147483648 }
-    ensures { result ≡ selectorAfter literal j }
+    ensures { result ≡ selector_after literal j }
 {
     match literal {
         Literal::Boolean(_) => j,
@@ -60,8 +60,8 @@ pub fn line_holds(
     at: usize,
     selector: usize,
 ) -> bool
-    requires { Given bytes.now model.now header × FirstsOf (boardOf bytes.now) firsts.now × (times n (readLiteral (context_of (boardOf bytes.now))) rules.now at ≡ done (literalsAt rules.now n at)) × All (Mentions (boardOf bytes.now)) (lineFrom selector (literalsAt rules.now n at).value) }
-    ensures { result ≡ trueClause (boardOf bytes.now) model.now (lineFrom selector (literalsAt rules.now n at).value) }
+    requires { Given bytes.now model.now header × FirstsOf (board_of bytes.now) firsts.now × (times n (read_literal (context_of (board_of bytes.now))) rules.now at ≡ done (literals_at rules.now n at)) × All (Mentions (board_of bytes.now)) (line_from selector (literals_at rules.now n at).value) }
+    ensures { result ≡ true_clause (board_of bytes.now) model.now (line_from selector (literals_at rules.now n at).value) }
 {
     let selectors = first_in(firsts, header.ints) as usize;
     let mut j = selector;

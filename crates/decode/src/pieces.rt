@@ -1,15 +1,15 @@
 // The clauses of a piece of the rules: each is the piece's lead and, behind it, the literals of a tuple.
 ghost use Rattle.std.specs.Prelude.{◌≡◌, length, pos, ◌≤ℤ◌};
-ghost use Rattle.laws.specs.Boards.{Opens, boardOf};
-ghost use Rattle.laws.specs.Reread.{comparisonAt, context_of, Stands};
+ghost use Rattle.laws.specs.Boards.{Opens, board_of};
+ghost use Rattle.laws.specs.Reread.{comparison_at, context_of, Stands};
 ghost use Rattle.laws.specs.Mentions.{Sound};
-ghost use Rattle.rules.specs.Cursors.{saidPiece, Held};
-ghost use Rattle.walk.specs.Comparisons.{FairComparison, Walking, overLeast, toCome};
+ghost use Rattle.rules.specs.Cursors.{said_piece, Held};
+ghost use Rattle.walk.specs.Comparisons.{FairComparison, Walking, over_least, to_come};
 ghost use Rattle.slots.specs.Variables.{FirstsOf};
 ghost use Rattle.decode.specs.Given.{Given};
-ghost use Rattle.decode.specs.Truth.{trueClause};
+ghost use Rattle.decode.specs.Truth.{true_clause};
 ghost use Rattle.decode.specs.Sums.{Told, ValuesIn, Shown};
-ghost use Rattle.decode.specs.Tails.{leadOf, passed_by, walkedBy, Tails, Single, TailsOf};
+ghost use Rattle.decode.specs.Tails.{lead_of, passed_by, walked_by, Tails, Single, TailsOf};
 
 use crate::lines::line_holds;
 use judge::literals::compares;
@@ -31,8 +31,8 @@ fn lead_holds(
     header: Header,
     piece: Piece,
 ) -> bool
-    requires { Given bytes.now model.now header × FirstsOf (boardOf bytes.now) firsts.now × Held (context_of (boardOf bytes.now)) rules.now piece × Sound (boardOf bytes.now) (saidPiece rules.now piece) }
-    ensures { result ≡ trueClause (boardOf bytes.now) model.now (leadOf (saidPiece rules.now piece)) }
+    requires { Given bytes.now model.now header × FirstsOf (board_of bytes.now) firsts.now × Held (context_of (board_of bytes.now)) rules.now piece × Sound (board_of bytes.now) (said_piece rules.now piece) }
+    ensures { result ≡ true_clause (board_of bytes.now) model.now (lead_of (said_piece rules.now piece)) }
 {
     match piece {
         Piece::Line {
@@ -68,8 +68,8 @@ pub fn piece_holds(
     header: Header,
     piece: Piece,
 ) -> bool
-    requires { Given bytes.now model.now header × FirstsOf (boardOf bytes.now) firsts.now × Told (boardOf bytes.now) model.now × ValuesIn (boardOf bytes.now) model.now values.now × Held (context_of (boardOf bytes.now)) rules.now piece × Sound (boardOf bytes.now) (saidPiece rules.now piece) }
-    ensures { Shown (boardOf bytes.now) model.now (saidPiece rules.now piece) result }
+    requires { Given bytes.now model.now header × FirstsOf (board_of bytes.now) firsts.now × Told (board_of bytes.now) model.now × ValuesIn (board_of bytes.now) model.now values.now × Held (context_of (board_of bytes.now)) rules.now piece × Sound (board_of bytes.now) (said_piece rules.now piece) }
+    ensures { Shown (board_of bytes.now) model.now (said_piece rules.now piece) result }
 {
     if lead_holds(bytes, firsts, rules, model, header, piece) {
         return true;
@@ -107,8 +107,8 @@ fn single() -> Comparison
 
 // The comparison at a place, or a single clause where its constant is below the least sum.
 fn tails_at(bytes: &[u8], firsts: &[u32], rules: &[u8], place: usize, constant: i32) -> Comparison
-    requires { Opens bytes.now × FirstsOf (boardOf bytes.now) firsts.now × Stands (length (boardOf bytes.now).bounds) rules.now place constant }
-    ensures { TailsOf (boardOf bytes.now) (comparisonAt rules.now place constant) result }
+    requires { Opens bytes.now × FirstsOf (board_of bytes.now) firsts.now × Stands (length (board_of bytes.now).bounds) rules.now place constant }
+    ensures { TailsOf (board_of bytes.now) (comparison_at rules.now place constant) result }
 {
     let c = ready(bytes, firsts, rules, place, constant);
     if constant < least(c) {
@@ -119,8 +119,8 @@ fn tails_at(bytes: &[u8], firsts: &[u32], rules: &[u8], place: usize, constant: 
 
 // What is walked for the clauses of a piece: each tuple gives what stands behind the lead.
 pub fn tails_of(bytes: &[u8], firsts: &[u32], rules: &[u8], piece: Piece) -> Comparison
-    requires { Opens bytes.now × FirstsOf (boardOf bytes.now) firsts.now × Held (context_of (boardOf bytes.now)) rules.now piece }
-    ensures { Tails (boardOf bytes.now) (saidPiece rules.now piece) result }
+    requires { Opens bytes.now × FirstsOf (board_of bytes.now) firsts.now × Held (context_of (board_of bytes.now)) rules.now piece }
+    ensures { Tails (board_of bytes.now) (said_piece rules.now piece) result }
 {
     match piece {
         Piece::Line {
@@ -139,7 +139,7 @@ pub fn tails_of(bytes: &[u8], firsts: &[u32], rules: &[u8], piece: Piece) -> Com
 
 // How many of a piece's clauses need no look: all where they are known to hold, else none.
 pub fn passed(held: bool, tails: Comparison) -> usize
-    requires { FairComparison tails × (pos 0 ≤ℤ overLeast tails) }
+    requires { FairComparison tails × (pos 0 ≤ℤ over_least tails) }
     ensures { result ≡ passed_by held tails }
 {
     if held {
@@ -151,7 +151,7 @@ pub fn passed(held: bool, tails: Comparison) -> usize
 // Where the walk over the piece's tuples begins: where they are known to hold, at its end.
 pub fn walked(held: bool, tails: Comparison) -> At
     requires { FairComparison tails }
-    ensures { Walking tails result × (toCome tails result ≡ walkedBy held tails) }
+    ensures { Walking tails result × (to_come tails result ≡ walked_by held tails) }
 {
     if held {
         return At::End;

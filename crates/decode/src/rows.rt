@@ -3,9 +3,9 @@ ghost use Rattle.std.specs.Prelude.{◌≡◌, ◌∷◌, [], map, false, ◌+�
 ghost use Rattle.definitions.specs.Tools.{All};
 ghost use Rattle.laws.specs.Mentions.{InList};
 ghost use Rattle.walk.specs.Comparisons.{FairComparison, Walking};
-ghost use Rattle.walk.specs.Rows.{frontOf, inRun, ReadyRun, rowClauses};
+ghost use Rattle.walk.specs.Rows.{front_of, in_run, ReadyRun, row_clauses};
 ghost use Rattle.decode.specs.Goes.{Sought};
-ghost use Rattle.decode.specs.Truth.{trueTail};
+ghost use Rattle.decode.specs.Truth.{true_tail};
 
 use crate::Checked;
 use crate::truth::holds;
@@ -14,7 +14,7 @@ use walk::{At, Comparison, Front, Row, Run, Walk};
 
 fn pair_holds(model: &[u8], y: i32, z: i32) -> bool
     requires { All (InList (length model.now)) (y ∷ z ∷ []) × (length model.now < 2147483648) }
-    ensures { result ≡ trueTail model.now (y ∷ z ∷ []) }
+    ensures { result ≡ true_tail model.now (y ∷ z ∷ []) }
 {
     if holds(model, y) {
         return true;
@@ -24,8 +24,8 @@ fn pair_holds(model: &[u8], y: i32, z: i32) -> bool
 
 // The clauses of a run whose front does not hold: the last two literals of each decide.
 fn search_run(model: &[u8], run: Run, number: usize) -> Checked
-    requires { ReadyRun run × (trueTail model.now (frontOf run.front) ≡ false) × All (All (InList (length model.now))) (inRun run) × (length model.now < 2147483648) × (number + length (inRun run) < 9223372036854775808) }
-    ensures { Sought number (map (trueTail model.now) (inRun run)) result }
+    requires { ReadyRun run × (true_tail model.now (front_of run.front) ≡ false) × All (All (InList (length model.now))) (in_run run) × (length model.now < 2147483648) × (number + length (in_run run) < 9223372036854775808) }
+    ensures { Sought number (map (true_tail model.now) (in_run run)) result }
 {
     let mut at = number;
     let mut rest = run;
@@ -42,8 +42,8 @@ fn search_run(model: &[u8], run: Run, number: usize) -> Checked
 }
 
 fn front_holds(model: &[u8], front: Front) -> bool
-    requires { All (InList (length model.now)) (frontOf front) × (length model.now < 2147483648) }
-    ensures { result ≡ trueTail model.now (frontOf front) }
+    requires { All (InList (length model.now)) (front_of front) × (length model.now < 2147483648) }
+    ensures { result ≡ true_tail model.now (front_of front) }
 {
     let Front::Literal(literal) = front else {
         return false;
@@ -53,8 +53,8 @@ fn front_holds(model: &[u8], front: Front) -> bool
 
 // The clauses of the present tuple's row. A front stays along it: where it holds, so do all.
 pub fn search_row(model: &[u8], tails: Comparison, tuple: Walk, number: usize) -> Checked
-    requires { FairComparison tails × Walking tails (At.Tuple tuple) × All (All (InList (length model.now))) (rowClauses tails tuple) × (length model.now < 2147483648) × (number + length (rowClauses tails tuple) < 9223372036854775808) }
-    ensures { Sought number (map (trueTail model.now) (rowClauses tails tuple)) result }
+    requires { FairComparison tails × Walking tails (At.Tuple tuple) × All (All (InList (length model.now))) (row_clauses tails tuple) × (length model.now < 2147483648) × (number + length (row_clauses tails tuple) < 9223372036854775808) }
+    ensures { Sought number (map (true_tail model.now) (row_clauses tails tuple)) result }
 {
     match row_at(tails, tuple) {
         Row::One(front) => {

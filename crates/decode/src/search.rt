@@ -2,14 +2,14 @@
 ghost use Rattle.std.specs.Prelude.{◌≡◌, ◌+◌, ◌<◌, length};
 ghost use Rattle.definitions.specs.Result.{each};
 ghost use Rattle.definitions.specs.Encoding.{clauses};
-ghost use Rattle.laws.specs.Boards.{boardOf};
-ghost use Rattle.lent.specs.Said.{saidFound};
+ghost use Rattle.laws.specs.Boards.{board_of};
+ghost use Rattle.lent.specs.Said.{said_found};
 ghost use Rattle.rules.specs.Known.{Known};
 ghost use Rattle.slots.specs.Variables.{FirstsOf};
 ghost use Rattle.decode.specs.Given.{Given};
 ghost use Rattle.decode.specs.Truth.{tests};
 ghost use Rattle.decode.specs.Sums.{Told, ValuesIn};
-ghost use Rattle.decode.specs.Passes.{ruleTests};
+ghost use Rattle.decode.specs.Passes.{rule_tests};
 
 use crate::Checked;
 use crate::axioms::search_axioms;
@@ -38,8 +38,8 @@ fn search_rules(
     header: Header,
     from: usize,
 ) -> Found
-    requires { Given bytes.now model.now header × FirstsOf (boardOf bytes.now) firsts.now × Told (boardOf bytes.now) model.now × ValuesIn (boardOf bytes.now) model.now values.now × Known bytes.now rules.now × (from + length (ruleTests (boardOf bytes.now) model.now) < 9223372036854775808) }
-    ensures { saidFound 13 result ≡ each 13 from (ruleTests (boardOf bytes.now) model.now) }
+    requires { Given bytes.now model.now header × FirstsOf (board_of bytes.now) firsts.now × Told (board_of bytes.now) model.now × ValuesIn (board_of bytes.now) model.now values.now × Known bytes.now rules.now × (from + length (rule_tests (board_of bytes.now) model.now) < 9223372036854775808) }
+    ensures { said_found 13 result ≡ each 13 from (rule_tests (board_of bytes.now) model.now) }
 {
     let mut number = from;
     let mut cursor = start(header.clauses);
@@ -74,7 +74,7 @@ fn search_rules(
 // The first of all clauses that does not hold: the axioms come first, then the rules, which stand where the variable table ends.
 pub fn search_clauses(bytes: &[u8], model: &[u8], header: Header) -> Found
     requires { Given bytes.now model.now header }
-    ensures { saidFound 13 result ≡ each 13 0 (tests (boardOf bytes.now) model.now (clauses (boardOf bytes.now))) }
+    ensures { said_found 13 result ≡ each 13 0 (tests (board_of bytes.now) model.now (clauses (board_of bytes.now))) }
 {
     match search_axioms(bytes, model, header) {
         Checked::Fails(number) => Found::At(number),

@@ -1,13 +1,13 @@
 // What is read back from a model: the integer values and the Booleans.
 ghost use Rattle.std.specs.Prelude.{◌≡◌, ◌+◌, ◌≤◌, ◌<◌, length, take};
 ghost use Rattle.definitions.specs.Meaning.{values_of};
-ghost use Rattle.laws.specs.Boards.{boardOf};
+ghost use Rattle.laws.specs.Boards.{board_of};
 ghost use Rattle.laws.specs.Written.{written};
 ghost use Rattle.laws.specs.Admitted.{GoodBounds};
-ghost use Rattle.slots.specs.Variables.{boundsRead};
+ghost use Rattle.slots.specs.Variables.{bounds_read};
 ghost use Rattle.definitions.specs.Encoding.{width};
 ghost use Rattle.decode.specs.Given.{Given};
-ghost use Rattle.decode.specs.Values.{valueFrom};
+ghost use Rattle.decode.specs.Values.{value_from};
 
 use lent::is_on;
 use opening::Header;
@@ -15,8 +15,8 @@ use slots::variables::{bounds_of, width_of};
 
 // The least value whose order variable is true; the first order variable, of lower - 1, has the number `first`.
 fn value_of(model: &[u8], first: usize, bounds: slots::Bounds) -> i32
-    requires { GoodBounds (boundsRead bounds) × (1 ≤ first) × (first + width (boundsRead bounds) ≤ length model.now + 1) × (length model.now < 2147483648) }
-    ensures { result ≡ valueFrom model.now first (boundsRead bounds) }
+    requires { GoodBounds (bounds_read bounds) × (1 ≤ first) × (first + width (bounds_read bounds) ≤ length model.now + 1) × (length model.now < 2147483648) }
+    ensures { result ≡ value_from model.now first (bounds_read bounds) }
 {
     let width = width_of(bounds) as usize;
     let mut k: usize = 0;
@@ -33,7 +33,7 @@ fn value_of(model: &[u8], first: usize, bounds: slots::Bounds) -> i32
 // The value of each variable in turn, over the start of a list.
 pub fn write_values(bytes: &[u8], model: &[u8], header: Header, values: &mut [i32])
     requires { Given bytes.now model.now header × (header.ints ≤ length values.old) }
-    ensures { values.new ≡ written (values_of (boardOf bytes.now) model.now) values.old }
+    ensures { values.new ≡ written (values_of (board_of bytes.now) model.now) values.old }
 {
     let mut x: usize = 0;
     let mut first = header.bools + 1;

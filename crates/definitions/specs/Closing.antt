@@ -35,8 +35,8 @@ after (found v) (reply ∷ replies) = refused 23 (suc (length replies))
 after none (reply ∷ replies) = refused 23 (suc (length replies))
 
 -- x is the variable's number; the first question is at its upper bound
-unfoldable pub Closing : List ℕ → ℕ → List ℕ → Result Earliest
-Closing s x replies = do
+unfoldable pub closing_outcome : List ℕ → ℕ → List ℕ → Result Earliest
+closing_outcome s x replies = do
   B ← accepted s
   need 22 x (ltb x (length B.bounds))
   bits replies

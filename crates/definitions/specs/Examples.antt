@@ -2,15 +2,15 @@
 -- what the document says, or what follows from it.
 use Rattle.std.specs.Prelude.{ℕ, zero, suc, ◌+◌, ◌*◌, ◌-◌, ◌≡◌, refl, Bool, true, false, not, ◌&&◌, List, [], ◌∷◌, map, length, replicate, ltb, eqb, ℤ, pos}
 use Prim.Native.String.{String}
-use Rattle.definitions.specs.Tools.{if◌then◌else◌, All, flatten, neg, eqZ, range}
+use Rattle.definitions.specs.Tools.{if◌then◌else◌, All, flatten, neg, eq_z, range}
 use Rattle.definitions.specs.Board.{Board, Bounds, Term, bounds_of}
 use Rattle.definitions.specs.Result.{Result, done, refused}
-use Rattle.definitions.specs.Encoding.{Atom, order, selector, SatLiteral, plus, minus, SatClause, sharp, tuplesOf, comparisons, rules, atoms, number, literalNumber, N}
-use Rattle.definitions.specs.Meaning.{isSolution, isModel, is_plain}
-use Rattle.definitions.specs.Operations.{Outcome, ◌leaves◌, Sizes, accepted, Size, Compile, Decode, Judge, Image}
+use Rattle.definitions.specs.Encoding.{Atom, order, selector, SatLiteral, plus, minus, SatClause, sharp, tuples_of, comparisons, rules, atoms, number, literal_number, N}
+use Rattle.definitions.specs.Meaning.{is_solution, is_model, is_plain}
+use Rattle.definitions.specs.Operations.{Outcome, ◌leaves◌, Sizes, accepted, size_outcome, compile_outcome, decode_outcome, judge_outcome, image_outcome}
 use Rattle.definitions.specs.Dimacs.{ascii, printed}
-use Rattle.definitions.specs.Closing.{Earliest, found, none, unfinished, Closing}
-use Rattle.definitions.specs.Open.{all-open}
+use Rattle.definitions.specs.Closing.{Earliest, found, none, unfinished, closing_outcome}
+use Rattle.definitions.specs.Open.{all_open}
 
 -- ---- bytes, written as the document writes them: two digits each, and spaces for the eye
 abbrev digit : ℕ → ℕ
@@ -39,17 +39,17 @@ box [] = [] ∷ []
 box (b ∷ bs) = flatten (map (λ c. map (λ r. c ∷ r) (box bs)) (range b.lo b.hi))
 
 abbrev models : Board → List (List ℕ)
-models B = keep (isModel B) (bytes (N B))
+models B = keep (is_model B) (bytes (N B))
 
 abbrev solutions : Board → ℕ
-solutions B = length (flatten (map (λ bs. keep (λ vs. isSolution B vs bs) (box B.bounds)) (bytes B.bools)))
+solutions B = length (flatten (map (λ bs. keep (λ vs. is_solution B vs bs) (box B.bounds)) (bytes B.bools)))
 
 -- without the later ones of equal entries
 abbrev equal : List ℤ → List ℤ → Bool
 equal [] [] = true
 equal [] (b ∷ bs) = false
 equal (a ∷ as') [] = false
-equal (a ∷ as') (b ∷ bs) = eqZ a b && equal as' bs
+equal (a ∷ as') (b ∷ bs) = eq_z a b && equal as' bs
 
 abbrev once : List (List ℤ) → List (List ℤ)
 once [] = []
@@ -57,7 +57,7 @@ once (c ∷ cs) = c ∷ keep (λ d. not (equal c d)) (once cs)
 
 -- ---- questions and answers
 pub data Question : Type 0 where
-  howLong : String → Question
+  how_long : String → Question
   size : String → Question
   size_of : List ℕ → Question
   compile : String → List ℤ → Question
@@ -67,10 +67,10 @@ pub data Question : Type 0 where
   print : String → Question
   numbers : String → Question
   tuples : String → Question
-  rulesOf : String → Question
-  howManyRules : String → Question
-  howManySolutions : String → Question
-  howMany : String → Question
+  rules_of : String → Question
+  how_many_rules : String → Question
+  how_many_solutions : String → Question
+  how_many : String → Question
   translation : Term → ℤ → Question
   closing : String → ℕ → List ℕ → Question
 
@@ -85,39 +85,39 @@ pub data Answer : Type 0 where
   numbered : List Atom → List ℕ → Answer
   bounds : List (List ℤ) → Answer
   clauses : List SatClause → Answer
-  written-different : ℕ → ℕ → Answer
-  solutions-are : ℕ → Answer
-  models-solutions-plain : ℕ → ℕ → ℕ → Answer
+  written_different : ℕ → ℕ → Answer
+  solutions_are : ℕ → Answer
+  models_solutions_plain : ℕ → ℕ → ℕ → Answer
   literal : SatLiteral → Answer
   hour : Result Earliest → Answer
 
-abbrev onBoard : Result Board → (Board → Answer) → Answer
-onBoard (done B) f = f B
-onBoard (refused n d) f = sized (refused n d)
+abbrev on_board : Result Board → (Board → Answer) → Answer
+on_board (done B) f = f B
+on_board (refused n d) f = sized (refused n d)
 
 abbrev pub ask : Question → Answer
-ask (howLong s) = long (length (hex s))
-ask (size s) = sized (Size (hex s))
-ask (size_of bytes) = sized (Size bytes)
-ask (compile s list) = compiled (Compile (hex s) list)
-ask (decode s model values booleans) = decoded (Decode (hex s) model values booleans)
-ask (judge s values booleans) = judged (Judge (hex s) values booleans)
-ask (image s values booleans model) = imaged (Image (hex s) values booleans model)
+ask (how_long s) = long (length (hex s))
+ask (size s) = sized (size_outcome (hex s))
+ask (size_of bytes) = sized (size_outcome bytes)
+ask (compile s list) = compiled (compile_outcome (hex s) list)
+ask (decode s model values booleans) = decoded (decode_outcome (hex s) model values booleans)
+ask (judge s values booleans) = judged (judge_outcome (hex s) values booleans)
+ask (image s values booleans model) = imaged (image_outcome (hex s) values booleans model)
 ask (print s) = text (printed (hex s))
-ask (numbers s) = onBoard (accepted (hex s)) (λ B. numbered (atoms B) (map (number B) (atoms B)))
+ask (numbers s) = on_board (accepted (hex s)) (λ B. numbered (atoms B) (map (number B) (atoms B)))
 ask (tuples s) =
-    onBoard (accepted (hex s))
-    (λ B. bounds (flatten (map (tuplesOf (bounds_of B)) (flatten (map comparisons B.clauses)))))
-ask (rulesOf s) = onBoard (accepted (hex s)) (λ B. clauses (flatten (rules B)))
-ask (howManyRules s) =
-    onBoard (accepted (hex s))
-    (λ B. let l = map (map (literalNumber B)) (flatten (rules B)) in written-different (length l) (length (once l)))
-ask (howManySolutions s) = onBoard (accepted (hex s)) (λ B. solutions-are (solutions B))
-ask (howMany s) =
-    onBoard (accepted (hex s))
-    (λ B. models-solutions-plain (length (models B)) (solutions B) (length (keep (is_plain B) (models B))))
+    on_board (accepted (hex s))
+    (λ B. bounds (flatten (map (tuples_of (bounds_of B)) (flatten (map comparisons B.clauses)))))
+ask (rules_of s) = on_board (accepted (hex s)) (λ B. clauses (flatten (rules B)))
+ask (how_many_rules s) =
+    on_board (accepted (hex s))
+    (λ B. let l = map (map (literal_number B)) (flatten (rules B)) in written_different (length l) (length (once l)))
+ask (how_many_solutions s) = on_board (accepted (hex s)) (λ B. solutions_are (solutions B))
+ask (how_many s) =
+    on_board (accepted (hex s))
+    (λ B. models_solutions_plain (length (models B)) (solutions B) (length (keep (is_plain B) (models B))))
 ask (translation t b) = literal (sharp t b)
-ask (closing s x replies) = hour (Closing (hex s) x replies)
+ask (closing s x replies) = hour (closing_outcome (hex s) x replies)
 
 -- ---- the records
 abbrev one : String
@@ -178,14 +178,14 @@ flags = "01 0000001B 0001 0002 0002 0000 0001 01 00 0001 02 01 0002 02 01 01 000
 abbrev makespan : String
 makespan = "01 0000000A 0001 0000 0000 03E8 05E5"
 
-abbrev aroundZero : String
-aroundZero = "01 0000000A 0001 0000 0000 FFFC 0003"
+abbrev around_zero : String
+around_zero = "01 0000000A 0001 0000 0000 FFFC 0003"
 
 abbrev widest : String
 widest = "01 0000000A 0001 0000 0000 F000 0FFF"
 
-abbrev versionNine : String
-versionNine = "09 0000000A 0001 0000 0000 0005 0005"
+abbrev version_nine : String
+version_nine = "09 0000000A 0001 0000 0000 0005 0005"
 
 -- ---- x, y and z are the variables 0, 1 and 2
 abbrev x≤ : ℤ → SatLiteral
@@ -218,10 +218,10 @@ finds v = hour (done (found v))
 -- print and the clauses at 0, in 7 compile, in 12 the list, in 13 judge and image. Of P9's rows those of `makespan` are 003's
 -- Table 1 after the first question, and the others follow from 02's sentences
 pub data Source : Type 0 where
-  caseOf01 : ℕ → Source
-  refusalOf01 : ℕ → Source
-  rulesOf01 : Source
-  requestOf02 : ℕ → Source
+  case_of01 : ℕ → Source
+  refusal_of01 : ℕ → Source
+  rules_of01 : Source
+  request_of02 : ℕ → Source
 
 pub record Row : Type 0 where
   pub source : Source
@@ -230,7 +230,7 @@ pub record Row : Type 0 where
 
 infix 10 case◌∶◌⇒◌
 abbrev pub case◌∶◌⇒◌ : ℕ → Question → Answer → Row
-case n ∶ q ⇒ a = record { source = caseOf01 n; question = q; document = a }
+case n ∶ q ⇒ a = record { source = case_of01 n; question = q; document = a }
 
 -- a question and its refusal, what was lent as it was
 abbrev Refusable : Type 0
@@ -239,42 +239,42 @@ Refusable = Question × (ℕ → ℕ → Answer)
 abbrev read : String → Refusable
 read s = (size s, λ n d. sized (refused n d))
 
-abbrev readBytes : List ℕ → Refusable
-readBytes s = (size_of s, λ n d. sized (refused n d))
+abbrev read_bytes : List ℕ → Refusable
+read_bytes s = (size_of s, λ n d. sized (refused n d))
 
-abbrev toCompile : String → List ℤ → Refusable
-toCompile s list = (compile s list, λ n d. compiled (refused n d leaves list))
+abbrev to_compile : String → List ℤ → Refusable
+to_compile s list = (compile s list, λ n d. compiled (refused n d leaves list))
 
-abbrev toDecode : String → List ℕ → List ℤ → List ℕ → Refusable
-toDecode s model values booleans = (decode s model values booleans, λ n d. decoded (refused n d leaves (values, booleans)))
+abbrev to_decode : String → List ℕ → List ℤ → List ℕ → Refusable
+to_decode s model values booleans = (decode s model values booleans, λ n d. decoded (refused n d leaves (values, booleans)))
 
-abbrev toJudge : String → List ℤ → List ℕ → Refusable
-toJudge s values booleans = (judge s values booleans, λ n d. judged (refused n d))
+abbrev to_judge : String → List ℤ → List ℕ → Refusable
+to_judge s values booleans = (judge s values booleans, λ n d. judged (refused n d))
 
-abbrev toImage : String → List ℤ → List ℕ → List ℕ → Refusable
-toImage s values booleans model = (image s values booleans model, λ n d. imaged (refused n d leaves model))
+abbrev to_image : String → List ℤ → List ℕ → List ℕ → Refusable
+to_image s values booleans model = (image s values booleans model, λ n d. imaged (refused n d leaves model))
 
-abbrev toClosing : String → ℕ → List ℕ → Refusable
-toClosing s x replies = (closing s x replies, λ n d. hour (refused n d))
+abbrev to_closing : String → ℕ → List ℕ → Refusable
+to_closing s x replies = (closing s x replies, λ n d. hour (refused n d))
 
 -- a line of 01's table of refusals, its number and detail
 infix 10 refusal◌detail◌∶◌
 abbrev pub refusal◌detail◌∶◌ : ℕ → ℕ → Refusable → Row
-refusal n detail d ∶ q = record { source = refusalOf01 n; question = q.0; document = q.1 n d }
+refusal n detail d ∶ q = record { source = refusal_of01 n; question = q.0; document = q.1 n d }
 
 -- a refusal of 02
 infix 10 P◌refuses◌detail◌∶◌
 abbrev pub P◌refuses◌detail◌∶◌ : ℕ → ℕ → ℕ → Refusable → Row
-P request refuses n detail d ∶ q = record { source = requestOf02 request; question = q.0; document = q.1 n d }
+P request refuses n detail d ∶ q = record { source = request_of02 request; question = q.0; document = q.1 n d }
 
 -- what is accepted beside them, by 01's rules
 infix 10 follows∶◌⇒◌
 abbrev pub follows∶◌⇒◌ : Question → Answer → Row
-follows∶ q ⇒ a = record { source = rulesOf01; question = q; document = a }
+follows∶ q ⇒ a = record { source = rules_of01; question = q; document = a }
 
 infix 10 P◌∶◌⇒◌
 abbrev pub P◌∶◌⇒◌ : ℕ → Question → Answer → Row
-P n ∶ q ⇒ a = record { source = requestOf02 n; question = q; document = a }
+P n ∶ q ⇒ a = record { source = request_of02 n; question = q; document = a }
 
 abbrev pub table : List Row
 table =
@@ -282,35 +282,35 @@ table =
     (case 1 ∶ compile one [] ⇒ compiled (NMK 0 0 0 leaves [])) ∷
     (case 2 ∶ size two ⇒ sized (NMK 12 19 53)) ∷
     (case 2 ∶ tuples two ⇒ bounds ((pos 1 ∷ pos 5 ∷ []) ∷ (pos 2 ∷ pos 4 ∷ []) ∷ (pos 3 ∷ pos 3 ∷ []) ∷ (pos 4 ∷ pos 2 ∷ []) ∷ (pos 5 ∷ pos 1 ∷ []) ∷ [])) ∷
-    (case 2 ∶ rulesOf two ⇒ clauses
+    (case 2 ∶ rules_of two ⇒ clauses
     ((x≤ (pos 1) ∷ y≤ (pos 5) ∷ []) ∷ (x≤ (pos 2) ∷ y≤ (pos 4) ∷ []) ∷ (x≤ (pos 3) ∷ y≤ (pos 3) ∷ []) ∷
     (x≤ (pos 4) ∷ y≤ (pos 2) ∷ []) ∷ (x≤ (pos 5) ∷ y≤ (pos 1) ∷ []) ∷ [])) ∷
-    (case 2 ∶ howManySolutions two ⇒ solutions-are 10) ∷
+    (case 2 ∶ how_many_solutions two ⇒ solutions_are 10) ∷
     (case 3 ∶ size three ⇒ sized (NMK 15 24 72)) ∷
-    (case 3 ∶ rulesOf three ⇒ clauses
+    (case 3 ∶ rules_of three ⇒ clauses
     ((x≤ (neg 1) ∷ y≤ (neg 1) ∷ z> (pos 1) ∷ []) ∷ (x≤ (neg 1) ∷ y≤ (pos 0) ∷ z> (pos 2) ∷ []) ∷
     (x≤ (neg 1) ∷ y≤ (pos 1) ∷ z> (pos 3) ∷ []) ∷ (x≤ (pos 0) ∷ y≤ (neg 1) ∷ z> (pos 2) ∷ []) ∷
     (x≤ (pos 0) ∷ y≤ (pos 0) ∷ z> (pos 3) ∷ []) ∷ (x≤ (pos 1) ∷ y≤ (neg 1) ∷ z> (pos 3) ∷ []) ∷ [])) ∷
     (case 4 ∶ size four ⇒ sized (NMK 12 18 50)) ∷
-    (case 4 ∶ rulesOf four ⇒ clauses
+    (case 4 ∶ rules_of four ⇒ clauses
     ((x≤ (neg 1) ∷ y> (pos 1) ∷ []) ∷ (x≤ (pos 0) ∷ y> (pos 2) ∷ []) ∷ (x≤ (pos 1) ∷ y> (pos 3) ∷ []) ∷
     (x≤ (pos 2) ∷ y> (pos 4) ∷ []) ∷ [])) ∷
     (case 4 ∶ decode four (0 ∷ 0 ∷ 0 ∷ 0 ∷ 1 ∷ 1 ∷ 0 ∷ 0 ∷ 0 ∷ 0 ∷ 0 ∷ 1 ∷ []) (pos 7 ∷ pos 7 ∷ []) [] ⇒
     decoded (refused 13 17 leaves (pos 7 ∷ pos 7 ∷ [], []))) ∷
     (case 4 ∶ judge four (pos 3 ∷ pos 4 ∷ []) [] ⇒ judged (refused 13 0)) ∷
     (case 4 ∶ judge four (pos 2 ∷ pos 4 ∷ []) [] ⇒ judged accept) ∷
-    (case 5 ∶ rulesOf five ⇒ clauses ([] ∷ [])) ∷
+    (case 5 ∶ rules_of five ⇒ clauses ([] ∷ [])) ∷
     (case 5 ∶ compile five (replicate 34 (pos 7)) ⇒ compiled (NMK 10 13 33 leaves
     (neg 1 ∷ pos 0 ∷ pos 5 ∷ pos 0 ∷ neg 1 ∷ pos 2 ∷ pos 0 ∷ neg 2 ∷ pos 3 ∷ pos 0 ∷ neg 3 ∷ pos 4 ∷ pos 0 ∷ neg 4 ∷ pos 5 ∷ pos 0 ∷
     neg 6 ∷ pos 0 ∷ pos 10 ∷ pos 0 ∷ neg 6 ∷ pos 7 ∷ pos 0 ∷ neg 7 ∷ pos 8 ∷ pos 0 ∷ neg 8 ∷ pos 9 ∷ pos 0 ∷ neg 9 ∷ pos 10 ∷ pos 0 ∷
     pos 0 ∷ pos 7 ∷ []))) ∷
     (case 5 ∶ print five ⇒ text (ascii "p cnf 10 13\n-1 0\n5 0\n-1 2 0\n-2 3 0\n-3 4 0\n-4 5 0\n-6 0\n10 0\n-6 7 0\n-7 8 0\n-8 9 0\n-9 10 0\n0\n")) ∷
-    (case 5 ∶ rulesOf five₀ ⇒ clauses ((x≤ (neg 1) ∷ y≤ (pos 0) ∷ []) ∷ (x≤ (pos 0) ∷ y≤ (neg 1) ∷ []) ∷ [])) ∷
-    (case 6 ∶ howManyRules six ⇒ written-different 6 4) ∷
+    (case 5 ∶ rules_of five₀ ⇒ clauses ((x≤ (neg 1) ∷ y≤ (pos 0) ∷ []) ∷ (x≤ (pos 0) ∷ y≤ (neg 1) ∷ []) ∷ [])) ∷
+    (case 6 ∶ how_many_rules six ⇒ written_different 6 4) ∷
     (case 7 ∶ size seven ⇒ sized (NMK 2 3 7)) ∷
     (case 7 ∶ compile seven (pos 7 ∷ pos 7 ∷ pos 7 ∷ pos 7 ∷ pos 7 ∷ pos 7 ∷ pos 7 ∷ pos 7 ∷ []) ⇒
     compiled (NMK 2 3 7 leaves (neg 1 ∷ pos 0 ∷ pos 2 ∷ pos 0 ∷ neg 1 ∷ pos 2 ∷ pos 0 ∷ pos 7 ∷ []))) ∷
-    (case 8 ∶ howMany eight ⇒ models-solutions-plain 7 3 3) ∷
+    (case 8 ∶ how_many eight ⇒ models_solutions_plain 7 3 3) ∷
     (case 9 ∶ translation (record { coef = neg 3; var = 0 }) (neg 7) ⇒ literal (minus (order 0 (pos 2)))) ∷
     (case 9 ∶ translation (record { coef = pos 3; var = 0 }) (neg 7) ⇒ literal (plus (order 0 (neg 3)))) ∷
     (case 11 ∶ size eleven ⇒ sized (refused 7 26)) ∷
@@ -320,7 +320,7 @@ table =
     (neg 1 ∷ pos 0 ∷ pos 6 ∷ pos 0 ∷ neg 1 ∷ pos 2 ∷ pos 0 ∷ neg 2 ∷ pos 3 ∷ pos 0 ∷ neg 3 ∷ pos 4 ∷ pos 0 ∷ neg 4 ∷ pos 5 ∷ pos 0 ∷ neg 5 ∷ pos 6 ∷ pos 0 ∷
     neg 7 ∷ pos 0 ∷ pos 12 ∷ pos 0 ∷ neg 7 ∷ pos 8 ∷ pos 0 ∷ neg 8 ∷ pos 9 ∷ pos 0 ∷ neg 9 ∷ pos 10 ∷ pos 0 ∷ neg 10 ∷ pos 11 ∷ pos 0 ∷ neg 11 ∷ pos 12 ∷ pos 0 ∷
     pos 1 ∷ pos 11 ∷ pos 0 ∷ pos 2 ∷ pos 10 ∷ pos 0 ∷ pos 3 ∷ pos 9 ∷ pos 0 ∷ pos 4 ∷ pos 8 ∷ pos 0 ∷ pos 5 ∷ pos 7 ∷ pos 0 ∷ pos 7 ∷ []))) ∷
-    (case 13 ∶ howLong thirteen ⇒ long 44) ∷
+    (case 13 ∶ how_long thirteen ⇒ long 44) ∷
     (case 13 ∶ size thirteen ⇒ sized (NMK 10 17 53)) ∷
     (case 13 ∶ numbers thirteen ⇒ numbered
     (order 0 (neg 1) ∷ order 0 (pos 0) ∷ order 0 (pos 1) ∷ order 0 (pos 2) ∷ order 1 (neg 1) ∷ order 1 (pos 0) ∷
@@ -336,8 +336,8 @@ table =
     (case 13 ∶ image thirteen (pos 0 ∷ pos 1 ∷ []) [] (7 ∷ 7 ∷ 7 ∷ 7 ∷ 7 ∷ 7 ∷ 7 ∷ 7 ∷ 7 ∷ 7 ∷ []) ⇒
     imaged (accept leaves (0 ∷ 1 ∷ 1 ∷ 1 ∷ 0 ∷ 0 ∷ 1 ∷ 1 ∷ 1 ∷ 0 ∷ []))) ∷
     -- 1, 2 and 3: the length above 65,536 before all else, fewer than 5 bytes before the version, that before the stated length
-    (refusal 1 detail 0 ∶ readBytes (replicate 65537 0)) ∷  -- a byte too many; the version is wrong too
-    (refusal 3 detail 0 ∶ readBytes (replicate 65536 0)) ∷  -- not too long; version 0
+    (refusal 1 detail 0 ∶ read_bytes (replicate 65537 0)) ∷  -- a byte too many; the version is wrong too
+    (refusal 3 detail 0 ∶ read_bytes (replicate 65536 0)) ∷  -- not too long; version 0
     (refusal 2 detail 0 ∶ read "") ∷  -- no byte
     (refusal 2 detail 0 ∶ read "09 000000") ∷  -- 4 bytes; the version is wrong too
     (refusal 3 detail 0 ∶ read "09 00000000") ∷  -- 5 bytes, version 9
@@ -388,11 +388,11 @@ table =
     (refusal 7 detail 25 ∶ read two₇) ∷  -- the second term's coefficient; its variable stands in the first
     -- each of the operations gives them, and leaves what it was lent
     (P 1 refuses 15 detail 26 ∶ read two₁₅) ∷
-    (P 1 refuses 16 detail 26 ∶ toCompile two₁₆ (pos 7 ∷ [])) ∷
-    (P 1 refuses 17 detail 28 ∶ toDecode two₁₇ (2 ∷ []) (pos 7 ∷ []) (7 ∷ [])) ∷
-    (P 1 refuses 15 detail 26 ∶ toJudge two₁₅ (pos 7 ∷ []) (2 ∷ [])) ∷
-    (P 1 refuses 16 detail 26 ∶ toImage two₁₆ (pos 7 ∷ []) (2 ∷ []) (7 ∷ [])) ∷
-    (P 1 refuses 17 detail 28 ∶ toClosing two₁₇ 2 (2 ∷ [])) ∷
+    (P 1 refuses 16 detail 26 ∶ to_compile two₁₆ (pos 7 ∷ [])) ∷
+    (P 1 refuses 17 detail 28 ∶ to_decode two₁₇ (2 ∷ []) (pos 7 ∷ []) (7 ∷ [])) ∷
+    (P 1 refuses 15 detail 26 ∶ to_judge two₁₅ (pos 7 ∷ []) (2 ∷ [])) ∷
+    (P 1 refuses 16 detail 26 ∶ to_image two₁₆ (pos 7 ∷ []) (2 ∷ []) (7 ∷ [])) ∷
+    (P 1 refuses 17 detail 28 ∶ to_closing two₁₇ 2 (2 ∷ [])) ∷
     -- 8: each field cut short, before its value (what is there would be out of range), and bytes left over
     (refusal 8 detail 5 ∶ read "01 00000000") ∷  -- no count
     (refusal 8 detail 5 ∶ read "01 00000001 FF") ∷  -- integer variables
@@ -411,32 +411,32 @@ table =
     (refusal 8 detail 11 ∶ read "01 00000007 0000 0000 0000 00") ∷  -- a byte after the counts
     (refusal 8 detail 15 ∶ read "01 0000000C 0001 0000 0000 0005 0005 00 00") ∷  -- two bytes after the variable table: the first
     (refusal 8 detail 15 ∶ read "01 0000000B 0000 0001 0001 01 00 0001 01") ∷  -- a byte after the last clause
-    -- 11 to 14. Decode: model, values, Booleans; then 12, 13
-    (refusal 11 detail 6 ∶ toDecode flags (0 ∷ 0 ∷ 0 ∷ 0 ∷ 2 ∷ []) (pos 7 ∷ pos 7 ∷ []) (7 ∷ [])) ∷  -- model of 5; the other lengths and a byte are wrong too
-    (refusal 11 detail 6 ∶ toDecode flags (0 ∷ 0 ∷ 0 ∷ 0 ∷ 2 ∷ 0 ∷ 0 ∷ []) (pos 7 ∷ pos 7 ∷ []) (7 ∷ [])) ∷  -- model of 7
-    (refusal 11 detail 1 ∶ toDecode flags (0 ∷ 0 ∷ 0 ∷ 0 ∷ 2 ∷ 0 ∷ []) (pos 7 ∷ pos 7 ∷ []) (7 ∷ [])) ∷  -- 2 values
-    (refusal 11 detail 2 ∶ toDecode flags (0 ∷ 0 ∷ 0 ∷ 0 ∷ 2 ∷ 0 ∷ []) (pos 7 ∷ []) (7 ∷ [])) ∷  -- 1 Boolean
-    (refusal 12 detail 4 ∶ toDecode flags (0 ∷ 0 ∷ 0 ∷ 0 ∷ 2 ∷ 0 ∷ []) (pos 7 ∷ []) (7 ∷ 7 ∷ [])) ∷  -- byte 4; clause 1 does not hold either
-    (refusal 13 detail 4 ∶ toDecode flags (0 ∷ 0 ∷ 0 ∷ 1 ∷ 1 ∷ 0 ∷ []) (pos 7 ∷ []) (7 ∷ 7 ∷ [])) ∷  -- the axioms hold; the first Boolean
-    -- Judge: values, Booleans; then 12, 14, 13
-    (refusal 11 detail 1 ∶ toJudge flags (pos 2 ∷ pos 2 ∷ []) (2 ∷ [])) ∷  -- 2 values; all else is wrong too
-    (refusal 11 detail 2 ∶ toJudge flags (pos 2 ∷ []) (2 ∷ [])) ∷  -- 1 Boolean
-    (refusal 12 detail 1 ∶ toJudge flags (pos 2 ∷ []) (0 ∷ 2 ∷ [])) ∷  -- byte 1
-    (refusal 14 detail 0 ∶ toJudge flags (pos 2 ∷ []) (0 ∷ 1 ∷ [])) ∷  -- value 0 above its upper
-    (refusal 14 detail 0 ∶ toJudge flags (neg 1 ∷ []) (0 ∷ 1 ∷ [])) ∷  -- and below its lower
-    (refusal 13 detail 0 ∶ toJudge flags (pos 1 ∷ []) (0 ∷ 1 ∷ [])) ∷  -- neither clause holds: the first
-    (refusal 13 detail 1 ∶ toJudge flags (pos 1 ∷ []) (1 ∷ 1 ∷ [])) ∷  -- the second
-    (refusal 14 detail 1 ∶ toJudge thirteen (pos 1 ∷ pos 3 ∷ []) []) ∷  -- value 1 above its upper
-    -- Image: values, Booleans, model; then as Judge
-    (refusal 11 detail 1 ∶ toImage flags (pos 2 ∷ pos 2 ∷ []) (2 ∷ []) (7 ∷ [])) ∷  -- 2 values; all else is wrong too
-    (refusal 11 detail 2 ∶ toImage flags (pos 2 ∷ []) (2 ∷ []) (7 ∷ [])) ∷  -- 1 Boolean
-    (refusal 11 detail 6 ∶ toImage flags (pos 2 ∷ []) (0 ∷ 2 ∷ []) (7 ∷ [])) ∷  -- model of 1
-    (refusal 12 detail 1 ∶ toImage flags (pos 2 ∷ []) (0 ∷ 2 ∷ []) (7 ∷ 7 ∷ 7 ∷ 7 ∷ 7 ∷ 7 ∷ [])) ∷  -- byte 1 of the Booleans; the model is not looked at
-    (refusal 14 detail 0 ∶ toImage flags (pos 2 ∷ []) (0 ∷ 1 ∷ []) (7 ∷ 7 ∷ 7 ∷ 7 ∷ 7 ∷ 7 ∷ [])) ∷  -- value 0
-    (refusal 13 detail 0 ∶ toImage flags (pos 1 ∷ []) (0 ∷ 1 ∷ []) (7 ∷ 7 ∷ 7 ∷ 7 ∷ 7 ∷ 7 ∷ [])) ∷  -- clause 0
+    -- 11 to 14. decode_outcome: model, values, Booleans; then 12, 13
+    (refusal 11 detail 6 ∶ to_decode flags (0 ∷ 0 ∷ 0 ∷ 0 ∷ 2 ∷ []) (pos 7 ∷ pos 7 ∷ []) (7 ∷ [])) ∷  -- model of 5; the other lengths and a byte are wrong too
+    (refusal 11 detail 6 ∶ to_decode flags (0 ∷ 0 ∷ 0 ∷ 0 ∷ 2 ∷ 0 ∷ 0 ∷ []) (pos 7 ∷ pos 7 ∷ []) (7 ∷ [])) ∷  -- model of 7
+    (refusal 11 detail 1 ∶ to_decode flags (0 ∷ 0 ∷ 0 ∷ 0 ∷ 2 ∷ 0 ∷ []) (pos 7 ∷ pos 7 ∷ []) (7 ∷ [])) ∷  -- 2 values
+    (refusal 11 detail 2 ∶ to_decode flags (0 ∷ 0 ∷ 0 ∷ 0 ∷ 2 ∷ 0 ∷ []) (pos 7 ∷ []) (7 ∷ [])) ∷  -- 1 Boolean
+    (refusal 12 detail 4 ∶ to_decode flags (0 ∷ 0 ∷ 0 ∷ 0 ∷ 2 ∷ 0 ∷ []) (pos 7 ∷ []) (7 ∷ 7 ∷ [])) ∷  -- byte 4; clause 1 does not hold either
+    (refusal 13 detail 4 ∶ to_decode flags (0 ∷ 0 ∷ 0 ∷ 1 ∷ 1 ∷ 0 ∷ []) (pos 7 ∷ []) (7 ∷ 7 ∷ [])) ∷  -- the axioms hold; the first Boolean
+    -- judge_outcome: values, Booleans; then 12, 14, 13
+    (refusal 11 detail 1 ∶ to_judge flags (pos 2 ∷ pos 2 ∷ []) (2 ∷ [])) ∷  -- 2 values; all else is wrong too
+    (refusal 11 detail 2 ∶ to_judge flags (pos 2 ∷ []) (2 ∷ [])) ∷  -- 1 Boolean
+    (refusal 12 detail 1 ∶ to_judge flags (pos 2 ∷ []) (0 ∷ 2 ∷ [])) ∷  -- byte 1
+    (refusal 14 detail 0 ∶ to_judge flags (pos 2 ∷ []) (0 ∷ 1 ∷ [])) ∷  -- value 0 above its upper
+    (refusal 14 detail 0 ∶ to_judge flags (neg 1 ∷ []) (0 ∷ 1 ∷ [])) ∷  -- and below its lower
+    (refusal 13 detail 0 ∶ to_judge flags (pos 1 ∷ []) (0 ∷ 1 ∷ [])) ∷  -- neither clause holds: the first
+    (refusal 13 detail 1 ∶ to_judge flags (pos 1 ∷ []) (1 ∷ 1 ∷ [])) ∷  -- the second
+    (refusal 14 detail 1 ∶ to_judge thirteen (pos 1 ∷ pos 3 ∷ []) []) ∷  -- value 1 above its upper
+    -- image_outcome: values, Booleans, model; then as judge_outcome
+    (refusal 11 detail 1 ∶ to_image flags (pos 2 ∷ pos 2 ∷ []) (2 ∷ []) (7 ∷ [])) ∷  -- 2 values; all else is wrong too
+    (refusal 11 detail 2 ∶ to_image flags (pos 2 ∷ []) (2 ∷ []) (7 ∷ [])) ∷  -- 1 Boolean
+    (refusal 11 detail 6 ∶ to_image flags (pos 2 ∷ []) (0 ∷ 2 ∷ []) (7 ∷ [])) ∷  -- model of 1
+    (refusal 12 detail 1 ∶ to_image flags (pos 2 ∷ []) (0 ∷ 2 ∷ []) (7 ∷ 7 ∷ 7 ∷ 7 ∷ 7 ∷ 7 ∷ [])) ∷  -- byte 1 of the Booleans; the model is not looked at
+    (refusal 14 detail 0 ∶ to_image flags (pos 2 ∷ []) (0 ∷ 1 ∷ []) (7 ∷ 7 ∷ 7 ∷ 7 ∷ 7 ∷ 7 ∷ [])) ∷  -- value 0
+    (refusal 13 detail 0 ∶ to_image flags (pos 1 ∷ []) (0 ∷ 1 ∷ []) (7 ∷ 7 ∷ 7 ∷ 7 ∷ 7 ∷ 7 ∷ [])) ∷  -- clause 0
     -- the board with Booleans, accepted
     (follows∶ print flags ⇒ text (ascii "p cnf 6 7\n-3 0\n5 0\n-3 4 0\n-4 5 0\n1 0\n-2 6 0\n-6 4 0\n")) ∷
-    (follows∶ howMany flags ⇒ models-solutions-plain 4 3 3) ∷
+    (follows∶ how_many flags ⇒ models_solutions_plain 4 3 3) ∷
     (follows∶ decode flags (1 ∷ 1 ∷ 0 ∷ 1 ∷ 1 ∷ 1 ∷ []) (pos 7 ∷ []) (7 ∷ 7 ∷ []) ⇒ decoded (accept leaves (pos 0 ∷ [], 1 ∷ 1 ∷ []))) ∷
     (follows∶ judge flags (pos 0 ∷ []) (1 ∷ 1 ∷ []) ⇒ judged accept) ∷
     (follows∶ image flags (pos 0 ∷ []) (1 ∷ 1 ∷ []) (7 ∷ 7 ∷ 7 ∷ 7 ∷ 7 ∷ 7 ∷ []) ⇒ imaged (accept leaves (1 ∷ 1 ∷ 0 ∷ 1 ∷ 1 ∷ 1 ∷ []))) ∷
@@ -452,14 +452,14 @@ table =
     (P 9 ∶ closing makespan 0 (1 ∷ 1 ∷ 0 ∷ 1 ∷ 0 ∷ 1 ∷ 0 ∷ 1 ∷ 1 ∷ []) ⇒ asks (pos 1168) (pos 1169) (pos 1168)) ∷
     (P 9 ∶ closing makespan 0 (1 ∷ 1 ∷ 0 ∷ 1 ∷ 0 ∷ 1 ∷ 0 ∷ 1 ∷ 1 ∷ 1 ∷ []) ⇒ finds (pos 1168)) ∷
     (P 9 ∶ closing makespan 0 (1 ∷ 1 ∷ 0 ∷ 1 ∷ 0 ∷ 1 ∷ 0 ∷ 1 ∷ 1 ∷ 1 ∷ 1 ∷ 0 ∷ []) ⇒ hour (refused 23 2)) ∷
-    (P 9 ∶ closing aroundZero 0 [] ⇒ asks (neg 4) (pos 3) (pos 3)) ∷
-    (P 9 ∶ closing aroundZero 0 (1 ∷ []) ⇒ asks (neg 4) (pos 3) (neg 1)) ∷
-    (P 9 ∶ closing aroundZero 0 (1 ∷ 1 ∷ []) ⇒ asks (neg 4) (neg 1) (neg 3)) ∷
-    (P 9 ∶ closing aroundZero 0 (1 ∷ 1 ∷ 0 ∷ []) ⇒ asks (neg 2) (neg 1) (neg 2)) ∷
-    (P 9 ∶ closing aroundZero 0 (1 ∷ 1 ∷ 0 ∷ 0 ∷ []) ⇒ finds (neg 1)) ∷
-    (P 9 ∶ closing aroundZero 0 (1 ∷ 0 ∷ []) ⇒ asks (pos 0) (pos 3) (pos 1)) ∷
-    (P 9 ∶ closing aroundZero 0 (0 ∷ []) ⇒ hour (done none)) ∷
-    (P 9 ∶ closing aroundZero 0 (0 ∷ 1 ∷ 1 ∷ []) ⇒ hour (refused 23 2)) ∷
+    (P 9 ∶ closing around_zero 0 [] ⇒ asks (neg 4) (pos 3) (pos 3)) ∷
+    (P 9 ∶ closing around_zero 0 (1 ∷ []) ⇒ asks (neg 4) (pos 3) (neg 1)) ∷
+    (P 9 ∶ closing around_zero 0 (1 ∷ 1 ∷ []) ⇒ asks (neg 4) (neg 1) (neg 3)) ∷
+    (P 9 ∶ closing around_zero 0 (1 ∷ 1 ∷ 0 ∷ []) ⇒ asks (neg 2) (neg 1) (neg 2)) ∷
+    (P 9 ∶ closing around_zero 0 (1 ∷ 1 ∷ 0 ∷ 0 ∷ []) ⇒ finds (neg 1)) ∷
+    (P 9 ∶ closing around_zero 0 (1 ∷ 0 ∷ []) ⇒ asks (pos 0) (pos 3) (pos 1)) ∷
+    (P 9 ∶ closing around_zero 0 (0 ∷ []) ⇒ hour (done none)) ∷
+    (P 9 ∶ closing around_zero 0 (0 ∷ 1 ∷ 1 ∷ []) ⇒ hour (refused 23 2)) ∷
     (P 9 ∶ closing seven 0 [] ⇒ asks (pos 5) (pos 5) (pos 5)) ∷
     (P 9 ∶ closing seven 0 (1 ∷ []) ⇒ finds (pos 5)) ∷
     (P 9 ∶ closing seven 0 (0 ∷ []) ⇒ hour (done none)) ∷
@@ -471,12 +471,12 @@ table =
     (P 9 ∶ closing seven 1 (2 ∷ []) ⇒ hour (refused 22 1)) ∷
     (P 9 ∶ closing one 0 [] ⇒ hour (refused 22 0)) ∷
     (P 9 ∶ closing seven 0 (1 ∷ 0 ∷ 2 ∷ []) ⇒ hour (refused 12 2)) ∷
-    (P 9 ∶ closing versionNine 1 [] ⇒ hour (refused 3 0)) ∷
+    (P 9 ∶ closing version_nine 1 [] ⇒ hour (refused 3 0)) ∷
     []
 
 abbrev pub Holds : Row → Type 0
 Holds r = ask r.question ≡ r.document
 
-pub the-examples-hold : All Holds table
-unfolding all-open
-the-examples-hold = (refl, (refl, (refl, (refl, (refl, (refl, (refl, (refl, (refl, (refl, (refl, (refl, (refl, (refl, (refl, (refl, (refl, (refl, (refl, (refl, (refl, (refl, (refl, (refl, (refl, (refl, (refl, (refl, (refl, (refl, (refl, (refl, (refl, (refl, (refl, (refl, (refl, (refl, (refl, (refl, (refl, (refl, (refl, (refl, (refl, (refl, (refl, (refl, (refl, (refl, (refl, (refl, (refl, (refl, (refl, (refl, (refl, (refl, (refl, (refl, (refl, (refl, (refl, (refl, (refl, (refl, (refl, (refl, (refl, (refl, (refl, (refl, (refl, (refl, (refl, (refl, (refl, (refl, (refl, (refl, (refl, (refl, (refl, (refl, (refl, (refl, (refl, (refl, (refl, (refl, (refl, (refl, (refl, (refl, (refl, (refl, (refl, (refl, (refl, (refl, (refl, (refl, (refl, (refl, (refl, (refl, (refl, (refl, (refl, (refl, (refl, (refl, (refl, (refl, (refl, (refl, (refl, (refl, (refl, (refl, (refl, (refl, (refl, (refl, (refl, (refl, (refl, (refl, (refl, (refl, (refl, (refl, (refl, (refl, (refl, (refl, (refl, (refl, (refl, (refl, (refl, (refl, (refl, (refl, (refl, (refl, (refl, (refl, (refl, (refl, (refl, (refl, (refl, (refl, (refl, (refl, (refl, (refl, (refl, (refl, (refl, (refl, tt))))))))))))))))))))))))))))))))))))))))))))))))))))))))))))))))))))))))))))))))))))))))))))))))))))))))))))))))))))))))))))))))))))))))))))))))))))))))))))))))))
+pub the_examples_hold : All Holds table
+unfolding all_open
+the_examples_hold = (refl, (refl, (refl, (refl, (refl, (refl, (refl, (refl, (refl, (refl, (refl, (refl, (refl, (refl, (refl, (refl, (refl, (refl, (refl, (refl, (refl, (refl, (refl, (refl, (refl, (refl, (refl, (refl, (refl, (refl, (refl, (refl, (refl, (refl, (refl, (refl, (refl, (refl, (refl, (refl, (refl, (refl, (refl, (refl, (refl, (refl, (refl, (refl, (refl, (refl, (refl, (refl, (refl, (refl, (refl, (refl, (refl, (refl, (refl, (refl, (refl, (refl, (refl, (refl, (refl, (refl, (refl, (refl, (refl, (refl, (refl, (refl, (refl, (refl, (refl, (refl, (refl, (refl, (refl, (refl, (refl, (refl, (refl, (refl, (refl, (refl, (refl, (refl, (refl, (refl, (refl, (refl, (refl, (refl, (refl, (refl, (refl, (refl, (refl, (refl, (refl, (refl, (refl, (refl, (refl, (refl, (refl, (refl, (refl, (refl, (refl, (refl, (refl, (refl, (refl, (refl, (refl, (refl, (refl, (refl, (refl, (refl, (refl, (refl, (refl, (refl, (refl, (refl, (refl, (refl, (refl, (refl, (refl, (refl, (refl, (refl, (refl, (refl, (refl, (refl, (refl, (refl, (refl, (refl, (refl, (refl, (refl, (refl, (refl, (refl, (refl, (refl, (refl, (refl, (refl, (refl, (refl, (refl, (refl, (refl, (refl, (refl, tt))))))))))))))))))))))))))))))))))))))))))))))))))))))))))))))))))))))))))))))))))))))))))))))))))))))))))))))))))))))))))))))))))))))))))))))))))))))))))))))))))

@@ -5,10 +5,10 @@ use Rattle.definitions.specs.Tools.{ℕ, Bool, true, false, List, [], ◌∷◌,
 use Rattle.definitions.specs.Result.{Result, done, refused}
 use Rattle.definitions.specs.Operations.{Outcome, ◌leaves◌, Sizes}
 use Rattle.definitions.specs.Dimacs.{ascii}
-use Rattle.definitions.specs.Open.{all-open}
+use Rattle.definitions.specs.Open.{all_open}
 use Rattle.definitions.specs.Examples.{hex}
-use Rattle.definitions.specs.TextReading.{Read, readText, readReply}
-use Rattle.definitions.specs.TextOperations.{text_of, WriteText, ReadText, ReadReply}
+use Rattle.definitions.specs.TextReading.{Read, read_text, read_reply}
+use Rattle.definitions.specs.TextOperations.{text_of, write_text_outcome, read_text_outcome, read_reply_outcome}
 
 pub data Question : Type 0 where
   write : String → List ℕ → Question
@@ -23,10 +23,10 @@ pub data Answer : Type 0 where
   replied : Outcome Bool (List ℕ) → Answer
 
 abbrev pub ask : Question → Answer
-ask (write s lent) = written (WriteText (hex s) lent)
-ask (text t) = read (readText (ascii t))
-ask (list t lent) = listed (ReadText (ascii t) lent)
-ask (reply N t lent) = replied (ReadReply N (ascii t) lent)
+ask (write s lent) = written (write_text_outcome (hex s) lent)
+ask (text t) = read (read_text (ascii t))
+ask (list t lent) = listed (read_text_outcome (ascii t) lent)
+ask (reply N t lent) = replied (read_reply_outcome N (ascii t) lent)
 
 pub record Row : Type 0 where
   pub question : Question
@@ -53,14 +53,14 @@ turned t n d = reply 2 t lent ⇒ replied (refused n d leaves lent)
 abbrev empty : String
 empty = "01 00000006 0000 0000 0000"
 
-abbrev oneValue : String
-oneValue = "01 0000000A 0001 0000 0000 0005 0005"
+abbrev one_value : String
+one_value = "01 0000000A 0001 0000 0000 0005 0005"
 
 abbrev table : List Row
 table =
     -- the writer: the length; longer bytes keep their rest; shorter are refused with the length wanted
     (write empty (ascii "0123456789ab") ⇒ written (done 10 leaves ascii "p cnf 0 0\nab")) ∷
-    (write oneValue (ascii "abcdefghijklmnopqrstuvwxyz") ⇒ written (done 26 leaves ascii "p cnf 2 3\n-1 0\n2 0\n-1 2 0\n")) ∷
+    (write one_value (ascii "abcdefghijklmnopqrstuvwxyz") ⇒ written (done 26 leaves ascii "p cnf 2 3\n-1 0\n2 0\n-1 2 0\n")) ∷
     (write empty (ascii "012345678") ⇒ written (refused 10 10 leaves ascii "012345678")) ∷
     (write "09 00000006 0000 0000 0000" [] ⇒ written (refused 3 0 leaves [])) ∷
     -- good text: blanks before, between and after; the last newline may be missing
@@ -146,6 +146,6 @@ table =
 abbrev pub Holds : Row → Type 0
 Holds r = ask r.question ≡ r.document
 
-pub the-text-examples-hold : All Holds table
-unfolding all-open
-the-text-examples-hold = (refl, (refl, (refl, (refl, (refl, (refl, (refl, (refl, (refl, (refl, (refl, (refl, (refl, (refl, (refl, (refl, (refl, (refl, (refl, (refl, (refl, (refl, (refl, (refl, (refl, (refl, (refl, (refl, (refl, (refl, (refl, (refl, (refl, (refl, (refl, (refl, (refl, (refl, (refl, (refl, (refl, (refl, (refl, (refl, (refl, (refl, (refl, (refl, (refl, (refl, (refl, (refl, (refl, (refl, (refl, (refl, (refl, (refl, (refl, (refl, (refl, (refl, (refl, (refl, (refl, (refl, (refl, (refl, (refl, (refl, (refl, (refl, (refl, tt)))))))))))))))))))))))))))))))))))))))))))))))))))))))))))))))))))))))))
+pub the_text_examples_hold : All Holds table
+unfolding all_open
+the_text_examples_hold = (refl, (refl, (refl, (refl, (refl, (refl, (refl, (refl, (refl, (refl, (refl, (refl, (refl, (refl, (refl, (refl, (refl, (refl, (refl, (refl, (refl, (refl, (refl, (refl, (refl, (refl, (refl, (refl, (refl, (refl, (refl, (refl, (refl, (refl, (refl, (refl, (refl, (refl, (refl, (refl, (refl, (refl, (refl, (refl, (refl, (refl, (refl, (refl, (refl, (refl, (refl, (refl, (refl, (refl, (refl, (refl, (refl, (refl, (refl, (refl, (refl, (refl, (refl, (refl, (refl, (refl, (refl, (refl, (refl, (refl, (refl, (refl, (refl, tt)))))))))))))))))))))))))))))))))))))))))))))))))))))))))))))))))))))))))

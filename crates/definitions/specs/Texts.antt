@@ -1,5 +1,5 @@
 -- Good text and good replies, said by how they are written (02, P2); bytes by number.
-use Rattle.definitions.specs.Tools.{ℕ, suc, ◌≤◌, ◌≡◌, ◌⊎◌, Bool, true, false, ◌||◌, List, [], ◌∷◌, ◌++◌, T, eqb, ℤ, pos, negsuc, nat_abs, if◌then◌else◌, All, eqZ}
+use Rattle.definitions.specs.Tools.{ℕ, suc, ◌≤◌, ◌≡◌, ◌⊎◌, Bool, true, false, ◌||◌, List, [], ◌∷◌, ◌++◌, T, eqb, ℤ, pos, negsuc, nat_abs, if◌then◌else◌, All, eq_z}
 use Rattle.definitions.specs.Dimacs.{ascii, decimal}
 
 -- a number below 10^20 in size, as `decimal` has 20 digits: no plus, no leading zero, no signed 0
@@ -21,13 +21,13 @@ pub data Spaced : Bool → List ℤ → List ℕ → Type 0 where
 -- how many clauses end in a list of numbers: each with a 0
 abbrev pub zeros : List ℤ → ℕ
 zeros [] = 0
-zeros (n ∷ ns) = if eqZ n (pos 0) then suc (zeros ns) else zeros ns
+zeros (n ∷ ns) = if eq_z n (pos 0) then suc (zeros ns) else zeros ns
 
 abbrev pub most : ℕ
 most = 2147483647
 
-abbrev pub firstLine : ℕ → ℕ → List ℕ
-firstLine N M = ascii "p cnf " ++ decimal N ++ ascii " " ++ decimal M ++ ascii "\n"
+abbrev pub first_line : ℕ → ℕ → List ℕ
+first_line N M = ascii "p cnf " ++ decimal N ++ ascii " " ++ decimal M ++ ascii "\n"
 
 -- the last number, if there is one, ends a clause
 abbrev pub Ended : List ℤ → Type 0
@@ -37,7 +37,7 @@ Ended ns = (ns ≡ []) ⊎ ((ms : List ℤ) × (ns ≡ ms ++ (pos 0 ∷ [])))
 pub record GoodText (N M : ℕ) (ns : List ℤ) (t : List ℕ) : Type 0 where
   pub small : (N ≤ most) × (M ≤ most)
   pub body : List ℕ
-  pub lined : t ≡ firstLine N M ++ body
+  pub lined : t ≡ first_line N M ++ body
   pub free : Bool
   pub spaced : Spaced free ns body
   pub known : All (λ n. nat_abs n ≤ N) ns
@@ -47,8 +47,8 @@ pub record GoodText (N M : ℕ) (ns : List ℤ) (t : List ℕ) : Type 0 where
 -- lines of `v` and one or more numbers, each after one space; the last number is told apart, and the last newline is not here
 pub data Values : List ℤ → ℤ → List ℕ → Type 0 where
   first : (n : ℤ) → Values [] n (ascii "v " ++ numeral n)
-  onLine : (n : ℤ) {ns : List ℤ} {m : ℤ} {t : List ℕ} → Values ns m t → Values (ns ++ (m ∷ [])) n (t ++ (ascii " " ++ numeral n))
-  newLine : (n : ℤ) {ns : List ℤ} {m : ℤ} {t : List ℕ} → Values ns m t → Values (ns ++ (m ∷ [])) n (t ++ (ascii "\nv " ++ numeral n))
+  on_line : (n : ℤ) {ns : List ℤ} {m : ℤ} {t : List ℕ} → Values ns m t → Values (ns ++ (m ∷ [])) n (t ++ (ascii " " ++ numeral n))
+  new_line : (n : ℤ) {ns : List ℤ} {m : ℤ} {t : List ℕ} → Values ns m t → Values (ns ++ (m ∷ [])) n (t ++ (ascii "\nv " ++ numeral n))
 
 -- a reply for N with the literals ns: the line, then lines of values with one 0, the last number
 pub record GoodReply (N : ℕ) (ns : List ℤ) (t : List ℕ) : Type 0 where
@@ -58,5 +58,5 @@ pub record GoodReply (N : ℕ) (ns : List ℤ) (t : List ℕ) : Type 0 where
   pub literals : All (λ n. (1 ≤ nat_abs n) × (nat_abs n ≤ N)) ns
 
 -- the reply 'none'
-abbrev pub noModel : List ℕ
-noModel = ascii "s UNSATISFIABLE\n"
+abbrev pub no_model : List ℕ
+no_model = ascii "s UNSATISFIABLE\n"

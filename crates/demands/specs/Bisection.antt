@@ -6,9 +6,9 @@ use Rattle.std.proofs.lemmas.Bool.{eqb-false}
 use Rattle.definitions.specs.Board.{Bounds}
 use Rattle.definitions.specs.Result.{Result, done}
 use Rattle.definitions.specs.Closing.{Earliest, found, none, unfinished, halfway, narrowed, tells, after}
-use Rattle.laws.specs.Whole.{pp, nn, whole, add-law, le-or-lt}
+use Rattle.laws.specs.Whole.{pp, nn, whole, add_law, le_or_lt}
 use Rattle.laws.specs.Readings.{same, never}
-use Rattle.laws.specs.Halving.{half-law, isOpen, is_empty, isOne, stands, tells-open, tells_none, tells-found, narrowed-yes, narrowed-no, after-end, after_one}
+use Rattle.laws.specs.Halving.{half_law, is_open, is_empty, is_one, stands, tells_open, tells_none, tells_found, narrowed_yes, narrowed_no, after-end, after_one}
 
 -- a reply is a yes or a no
 pub yes_or_no : (b : ℕ) → (b ≡ 1) ⊎ (b ≢ 1)
@@ -69,40 +69,40 @@ Narrow n r = pp r.hi + nn r.lo < pp r.lo + nn r.hi + 2 ^ n
 -- a reply halves the range
 halves : (n : ℕ) (r : Bounds) (b : ℕ) → r.lo <ℤ r.hi → Narrow (suc n) r → Narrow n (narrowed r (halfway r) b)
 halves n r b k w = elim (yes_or_no b) [
-  | inl e ↦ rw (narrowed-yes r (halfway r) b e) (omega (whole, half-law r, pow-suc 2 n))
-  | inr e ↦ rw (narrowed-no r (halfway r) b e) (omega (whole, half-law r, pow-suc 2 n, add-law (halfway r) (pos 1)))
+  | inl e ↦ rw (narrowed_yes r (halfway r) b e) (omega (whole, half_law r, pow-suc 2 n))
+  | inr e ↦ rw (narrowed_no r (halfway r) b e) (omega (whole, half_law r, pow-suc 2 n, add_law (halfway r) (pos 1)))
 ]
 
-tells-ends : (n : ℕ) (r : Bounds) → Narrow n r → Ends n (tells r)
-tells-ends zero r w = elim (stands r) [
-  | isOpen k ↦ absurd (omega whole)
+tells_ends : (n : ℕ) (r : Bounds) → Narrow n r → Ends n (tells r)
+tells_ends zero r w = elim (stands r) [
+  | is_open k ↦ absurd (omega whole)
   | is_empty k ↦ rw (tells_none r k) tt
-  | isOne k ↦ rw (tells-found r k) tt
+  | is_one k ↦ rw (tells_found r k) tt
 ]
-tells-ends (suc n) r w = elim (stands r) [
-  | isOpen k ↦ rw (tells-open r k) (λ b. tells-ends n (narrowed r (halfway r) b) (halves n r b k w))
+tells_ends (suc n) r w = elim (stands r) [
+  | is_open k ↦ rw (tells_open r k) (λ b. tells_ends n (narrowed r (halfway r) b) (halves n r b k w))
   | is_empty k ↦ rw (tells_none r k) tt
-  | isOne k ↦ rw (tells-found r k) tt
+  | is_one k ↦ rw (tells_found r k) tt
 ]
 
 -- with the first question one more
 pub first_ends : (n : ℕ) (r : Bounds) → Narrow n r → Ends (suc n) (unfinished r r.hi)
-first_ends n r w b = tells-ends n (narrowed r r.hi b) (elim (yes_or_no b) [
-  | inl e ↦ rw (narrowed-yes r r.hi b e) w
-  | inr e ↦ rw (narrowed-no r r.hi b e) (omega (whole, add-law r.hi (pos 1)))
+first_ends n r w b = tells_ends n (narrowed r r.hi b) (elim (yes_or_no b) [
+  | inl e ↦ rw (narrowed_yes r r.hi b e) w
+  | inr e ↦ rw (narrowed_no r r.hi b e) (omega (whole, add_law r.hi (pos 1)))
 ])
 
 -- so many replies leave no question
-pub no-question : (n : ℕ) (e : Earliest) (replies : List ℕ) → Ends n e → n ≤ length replies → (r : Bounds) (h : ℤ) → after e replies ≡ done (unfinished r h) → ⊥
+pub no_question : (n : ℕ) (e : Earliest) (replies : List ℕ) → Ends n e → n ≤ length replies → (r : Bounds) (h : ℤ) → after e replies ≡ done (unfinished r h) → ⊥
 unfolding after
-no-question zero (found v) [] w l r h d = let z : ◌≡◌ {A = ℕ} 0 1 = cc in omega arith
-no-question zero none [] w l r h d = let z : ◌≡◌ {A = ℕ} 0 1 = cc in omega arith
-no-question zero (unfinished r' h') [] w l r h d = w
-no-question (suc n) e [] w l r h d = omega arith
-no-question n (found v) (b ∷ bs) w l r h d = never d
-no-question n none (b ∷ bs) w l r h d = never d
-no-question zero (unfinished r' h') (b ∷ bs) w l r h d = absurd w
-no-question (suc n) (unfinished r' h') (b ∷ bs) w l r h d = no-question n (tells (narrowed r' h' b)) bs (w b) (omega arith) r h d
+no_question zero (found v) [] w l r h d = let z : ◌≡◌ {A = ℕ} 0 1 = cc in omega arith
+no_question zero none [] w l r h d = let z : ◌≡◌ {A = ℕ} 0 1 = cc in omega arith
+no_question zero (unfinished r' h') [] w l r h d = w
+no_question (suc n) e [] w l r h d = omega arith
+no_question n (found v) (b ∷ bs) w l r h d = never d
+no_question n none (b ∷ bs) w l r h d = never d
+no_question zero (unfinished r' h') (b ∷ bs) w l r h d = absurd w
+no_question (suc n) (unfinished r' h') (b ∷ bs) w l r h d = no_question n (tells (narrowed r' h' b)) bs (w b) (omega arith) r h d
 
 -- ---- ranges only narrow, and each question lies in its range
 module _ (whole-range : Bounds) where
@@ -111,25 +111,25 @@ module _ (whole-range : Bounds) where
   Inside none = Unit {0}
   Inside (unfinished r h) = (whole-range.lo ≤ℤ r.lo) × (r.lo ≤ℤ h) × (h ≤ℤ r.hi) × (r.hi ≤ℤ whole-range.hi)
 
-  tells-inside : (r : Bounds) → whole-range.lo ≤ℤ r.lo → r.hi ≤ℤ whole-range.hi → Inside (tells r)
-  tells-inside r l u = elim (stands r) [
-    | isOpen k ↦ rw (tells-open r k) (l, omega (whole, half-law r), omega (whole, half-law r), u)
+  tells_inside : (r : Bounds) → whole-range.lo ≤ℤ r.lo → r.hi ≤ℤ whole-range.hi → Inside (tells r)
+  tells_inside r l u = elim (stands r) [
+    | is_open k ↦ rw (tells_open r k) (l, omega (whole, half_law r), omega (whole, half_law r), u)
     | is_empty k ↦ rw (tells_none r k) tt
-    | isOne k ↦ rw (tells-found r k) (l, omega whole)
+    | is_one k ↦ rw (tells_found r k) (l, omega whole)
   ]
 
-  step-inside : (r : Bounds) (h : ℤ) (b : ℕ) → Inside (unfinished r h) → Inside (tells (narrowed r h b))
-  step-inside r h b i = elim (yes_or_no b) [
-    | inl e ↦ rw (narrowed-yes r h b e) (tells-inside (record { lo = r.lo; hi = h }) i.0 (omega (whole, i.2, i.3)))
-    | inr e ↦ rw (narrowed-no r h b e) (tells-inside (record { lo = h +ℤ pos 1; hi = r.hi }) (omega (whole, i.0, i.1, add-law h (pos 1))) i.3)
+  step_inside : (r : Bounds) (h : ℤ) (b : ℕ) → Inside (unfinished r h) → Inside (tells (narrowed r h b))
+  step_inside r h b i = elim (yes_or_no b) [
+    | inl e ↦ rw (narrowed_yes r h b e) (tells_inside (record { lo = r.lo; hi = h }) i.0 (omega (whole, i.2, i.3)))
+    | inr e ↦ rw (narrowed_no r h b e) (tells_inside (record { lo = h +ℤ pos 1; hi = r.hi }) (omega (whole, i.0, i.1, add_law h (pos 1))) i.3)
   ]
 
-  pub after-inside : (e : Earliest) (replies : List ℕ) (a : Earliest) → Inside e → after e replies ≡ done a → Inside a
+  pub after_inside : (e : Earliest) (replies : List ℕ) (a : Earliest) → Inside e → after e replies ≡ done a → Inside a
   unfolding after
-  after-inside e [] a i d = rw (sym (same d)) i
-  after-inside (unfinished r h) (b ∷ bs) a i d = after-inside (tells (narrowed r h b)) bs a (step-inside r h b i) d
-  after-inside (found v) (b ∷ bs) a i d = never d
-  after-inside none (b ∷ bs) a i d = never d
+  after_inside e [] a i d = rw (sym (same d)) i
+  after_inside (unfinished r h) (b ∷ bs) a i d = after_inside (tells (narrowed r h b)) bs a (step_inside r h b i) d
+  after_inside (found v) (b ∷ bs) a i d = never d
+  after_inside none (b ∷ bs) a i d = never d
 
 -- ---- only a no to the first question ends with 'none': each later one lies below high
 abbrev Below : Earliest → Type 0
@@ -139,21 +139,21 @@ Below (unfinished r h) = (r.lo ≤ℤ h) × (h <ℤ r.hi)
 
 tells-below : (r : Bounds) → r.lo ≤ℤ r.hi → Below (tells r)
 tells-below r o = elim (stands r) [
-  | isOpen k ↦ rw (tells-open r k) (omega (whole, half-law r), omega (whole, half-law r))
+  | is_open k ↦ rw (tells_open r k) (omega (whole, half_law r), omega (whole, half_law r))
   | is_empty k ↦ absurd (omega whole)
-  | isOne k ↦ rw (tells-found r k) tt
+  | is_one k ↦ rw (tells_found r k) tt
 ]
 
-later-none : (e : Earliest) (replies : List ℕ) → Below e → after e replies ≡ done none → ⊥
+later_none : (e : Earliest) (replies : List ℕ) → Below e → after e replies ≡ done none → ⊥
 unfolding after
-later-none (found v) [] k d = let z : ◌≡◌ {A = ℕ} 0 1 = cc in omega arith
-later-none none [] k d = k
-later-none (unfinished r h) [] k d = let z : ◌≡◌ {A = ℕ} 0 1 = cc in omega arith
-later-none (found v) (b ∷ bs) k d = never d
-later-none none (b ∷ bs) k d = k
-later-none (unfinished r h) (b ∷ bs) k d = later-none (tells (narrowed r h b)) bs (elim (yes_or_no b) [
-  | inl e ↦ rw (narrowed-yes r h b e) (tells-below (record { lo = r.lo; hi = h }) k.0)
-  | inr e ↦ rw (narrowed-no r h b e) (tells-below (record { lo = h +ℤ pos 1; hi = r.hi }) (omega (whole, add-law h (pos 1))))
+later_none (found v) [] k d = let z : ◌≡◌ {A = ℕ} 0 1 = cc in omega arith
+later_none none [] k d = k
+later_none (unfinished r h) [] k d = let z : ◌≡◌ {A = ℕ} 0 1 = cc in omega arith
+later_none (found v) (b ∷ bs) k d = never d
+later_none none (b ∷ bs) k d = k
+later_none (unfinished r h) (b ∷ bs) k d = later_none (tells (narrowed r h b)) bs (elim (yes_or_no b) [
+  | inl e ↦ rw (narrowed_yes r h b e) (tells-below (record { lo = r.lo; hi = h }) k.0)
+  | inr e ↦ rw (narrowed_no r h b e) (tells-below (record { lo = h +ℤ pos 1; hi = r.hi }) (omega (whole, add_law h (pos 1))))
 ]) d
 
 -- no reply may follow
@@ -163,23 +163,23 @@ after_none [] a d = (refl, sym (same d))
 after_none (b ∷ bs) a d = never d
 
 module _ (r : Bounds) where
-  pub first-no : (b : ℕ) (bs : List ℕ) → b ≢ 1 → after (unfinished r r.hi) (b ∷ bs) ≡ after none bs
-  first-no b bs n =
-      let k : r.hi <ℤ (r.hi +ℤ pos 1) = omega (whole, add-law r.hi (pos 1)) in
-      after_one r r.hi b bs ∙ rw (narrowed-no r r.hi b n, tells_none (record { lo = r.hi +ℤ pos 1; hi = r.hi }) k)
+  pub first_no : (b : ℕ) (bs : List ℕ) → b ≢ 1 → after (unfinished r r.hi) (b ∷ bs) ≡ after none bs
+  first_no b bs n =
+      let k : r.hi <ℤ (r.hi +ℤ pos 1) = omega (whole, add_law r.hi (pos 1)) in
+      after_one r r.hi b bs ∙ rw (narrowed_no r r.hi b n, tells_none (record { lo = r.hi +ℤ pos 1; hi = r.hi }) k)
 
   pub none_first : (replies : List ℕ) → r.lo ≤ℤ r.hi → after (unfinished r r.hi) replies ≡ done none → (b : ℕ) × (b ≢ 1) × (replies ≡ b ∷ [])
   none_first [] o d = absurd (let z : ◌≡◌ {A = ℕ} 0 1 = cc (after-end (unfinished r r.hi)) in omega arith)
   none_first (b ∷ bs) o d = elim (yes_or_no b) [
-    | inl e ↦ absurd (later-none (tells r) bs (tells-below r o) (ap (λ r. after (tells r) bs) (sym (narrowed-yes r r.hi b e)) ∙ sym (after_one r r.hi b bs) ∙ d))
-    | inr n ↦ (b, n, ap (λ l. b ∷ l) (after_none bs none (sym (first-no b bs n) ∙ d)).0)
+    | inl e ↦ absurd (later_none (tells r) bs (tells-below r o) (ap (λ r. after (tells r) bs) (sym (narrowed_yes r r.hi b e)) ∙ sym (after_one r r.hi b bs) ∙ d))
+    | inr n ↦ (b, n, ap (λ l. b ∷ l) (after_none bs none (sym (first_no b bs n) ∙ d)).0)
   ]
 
 -- ---- what true replies tell; S says which values are met
 module _ (S : ℤ → Type 0) where
   pub record AtMost (h : ℤ) : Type 0 where
     pub met : ℤ
-    pub is-met : S met
+    pub is_met : S met
     pub most : met ≤ℤ h
 
   -- no value is below the range; and one is not above it, or none is, where only the first question is put
@@ -188,7 +188,7 @@ module _ (S : ℤ → Type 0) where
     pub most : AtMost r.hi ⊎ ((h ≡ r.hi) × ((v : ℤ) → S v → v ≤ℤ r.hi))
 
   pub record Least (v : ℤ) : Type 0 where
-    pub is-met : S v
+    pub is_met : S v
     pub least : (w : ℤ) → S w → v ≤ℤ w
 
   abbrev pub Tells : Earliest → Type 0
@@ -196,34 +196,34 @@ module _ (S : ℤ → Type 0) where
   Tells none = (v : ℤ) → S v → ⊥
   Tells (unfinished r h) = Holds r h
 
-  at-the-end : (r : Bounds) → AtMost r.hi → ((v : ℤ) → S v → r.lo ≤ℤ v) → r.lo ≡ r.hi → Least r.lo
-  at-the-end r a least k =
-      let e : a.met ≡ r.lo = (let l = least a.met a.is-met in omega (whole, a.most)) in
-      record { is-met = rw e at a.is-met; least = least }
+  at_the_end : (r : Bounds) → AtMost r.hi → ((v : ℤ) → S v → r.lo ≤ℤ v) → r.lo ≡ r.hi → Least r.lo
+  at_the_end r a least k =
+      let e : a.met ≡ r.lo = (let l = least a.met a.is_met in omega (whole, a.most)) in
+      record { is_met = rw e at a.is_met; least = least }
 
-  after-yes : (r : Bounds) (h : ℤ) → r.lo ≤ℤ h → Holds r h → AtMost h → Tells (tells (record { lo = r.lo; hi = h }))
-  after-yes r h l k a =
+  after_yes : (r : Bounds) (h : ℤ) → r.lo ≤ℤ h → Holds r h → AtMost h → Tells (tells (record { lo = r.lo; hi = h }))
+  after_yes r h l k a =
       let r' : Bounds = record { lo = r.lo; hi = h } in
       elim (stands r') [
-        | isOpen o ↦ rw (tells-open r' o) (record { least = k.least; most = inl a })
+        | is_open o ↦ rw (tells_open r' o) (record { least = k.least; most = inl a })
         | is_empty o ↦ absurd (omega whole)
-        | isOne o ↦ rw (tells-found r' o) (at-the-end r' a k.least o)
+        | is_one o ↦ rw (tells_found r' o) (at_the_end r' a k.least o)
       ]
 
-  after-no : (r : Bounds) (h : ℤ) → h ≤ℤ r.hi → Holds r h → ¬ AtMost h → Tells (tells (record { lo = h +ℤ pos 1; hi = r.hi }))
-  after-no r h u k n =
+  after_no : (r : Bounds) (h : ℤ) → h ≤ℤ r.hi → Holds r h → ¬ AtMost h → Tells (tells (record { lo = h +ℤ pos 1; hi = r.hi }))
+  after_no r h u k n =
       let r' : Bounds = record { lo = h +ℤ pos 1; hi = r.hi } in
-      let least : (v : ℤ) → S v → (h +ℤ pos 1) ≤ℤ v = λ v s. elim (le-or-lt v h) [
-        | inl l ↦ absurd (n (record { met = v; is-met = s; most = l }))
-        | inr l ↦ omega (whole, add-law h (pos 1))
+      let least : (v : ℤ) → S v → (h +ℤ pos 1) ≤ℤ v = λ v s. elim (le_or_lt v h) [
+        | inl l ↦ absurd (n (record { met = v; is_met = s; most = l }))
+        | inr l ↦ omega (whole, add_law h (pos 1))
       ] in
       elim (stands r') [
-        | isOpen o ↦ rw (tells-open r' o) (record { least = least; most = inl (some r h k (omega (whole, add-law h (pos 1)))) })
+        | is_open o ↦ rw (tells_open r' o) (record { least = least; most = inl (some r h k (omega (whole, add_law h (pos 1)))) })
         | is_empty o ↦ rw (tells_none r' o) (λ v s. elim k.most [
-          | inl a ↦ (let l = least a.met a.is-met in omega (whole, a.most))
+          | inl a ↦ (let l = least a.met a.is_met in omega (whole, a.most))
           | inr z ↦ (let l = least v s in let m = z.1 v s in omega whole)
         ])
-        | isOne o ↦ rw (tells-found r' o) (at-the-end r' (some r h k (omega (whole, add-law h (pos 1)))) least o)
+        | is_one o ↦ rw (tells_found r' o) (at_the_end r' (some r h k (omega (whole, add_law h (pos 1)))) least o)
       ]
     where
       some : (r : Bounds) (h : ℤ) → Holds r h → h <ℤ r.hi → AtMost r.hi
@@ -238,8 +238,8 @@ module _ (S : ℤ → Type 0) where
 
   step-tells : (r : Bounds) (h : ℤ) (b : ℕ) → r.lo ≤ℤ h → h ≤ℤ r.hi → Holds r h → (b ≡ 1) ↔ AtMost h → Tells (tells (narrowed r h b))
   step-tells r h b l u k t = elim (yes_or_no b) [
-    | inl e ↦ rw (narrowed-yes r h b e) (after-yes r h l k (t.0 e))
-    | inr e ↦ rw (narrowed-no r h b e) (after-no r h u k (λ a. e (t.1 a)))
+    | inl e ↦ rw (narrowed_yes r h b e) (after_yes r h l k (t.0 e))
+    | inr e ↦ rw (narrowed_no r h b e) (after_no r h u k (λ a. e (t.1 a)))
   ]
 
   module _ (whole-range : Bounds) where
@@ -247,7 +247,7 @@ module _ (S : ℤ → Type 0) where
     unfolding after
     after-tells e [] a i k t d = rw (sym (same d)) k
     after-tells (unfinished r h) (b ∷ bs) a i k t d =
-        after-tells (tells (narrowed r h b)) bs a (step-inside whole-range r h b i)
+        after-tells (tells (narrowed r h b)) bs a (step_inside whole-range r h b i)
         (step-tells r h b i.1 i.2 k (t.each 0 (omega arith) r h refl))
         (record { each = λ j l r' q e. t.each (suc j) (omega arith) r' q e })
         d

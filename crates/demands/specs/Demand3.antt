@@ -1,49 +1,49 @@
--- The third demand, for every accepted record; and what it says of Decode, Judge and Image. Assumes nothing.
+-- The third demand, for every accepted record; and what it says of decode_outcome, judge_outcome and image_outcome. Assumes nothing.
 use Rattle.std.specs.Prelude.{◌≡◌, refl, ◌↔◌, Bool, List, map, ℕ, ◌-◌, ◌≤◌, ◌<◌, T, get_or, take, ℤ, pos, ◌*ℤ◌, ◌≤ℤ◌}
 use Rattle.std.proofs.Common.{sym, ap, ap₂, ◌∙◌, arith}
 use Rattle.std.proofs.Math.ListN.{length}
-use Rattle.definitions.specs.Tools.{All, Any, sumZ}
-use Rattle.definitions.specs.Board.{Board, Literal, isTrue, isFalse, at_most, bounds_of, variables}
+use Rattle.definitions.specs.Tools.{All, Any, sum_z}
+use Rattle.definitions.specs.Board.{Board, Literal, is_true, is_false, at_most, bounds_of, variables}
 use Rattle.definitions.specs.Result.{done}
-use Rattle.definitions.specs.Encoding.{selector, selections, number, clauseList, N}
-use Rattle.definitions.specs.Meaning.{on, assigned, inBounds, compares, holds, Solution, inModel, Model, values_of, selection, Plain, plainModel}
-use Rattle.definitions.specs.Operations.{accepted, ◌leaves◌, Decode, Judge, Image}
-use Rattle.laws.specs.Lists.{all_read, all-countUp, countUp-all}
-use Rattle.laws.specs.Decide.{Decides, equals, at-mostZ, is_within, every}
+use Rattle.definitions.specs.Encoding.{selector, selections, number, clause_list, N}
+use Rattle.definitions.specs.Meaning.{on, assigned, in_bounds, compares, holds, Solution, in_model, Model, values_of, selection, Plain, plain_model}
+use Rattle.definitions.specs.Operations.{accepted, ◌leaves◌, decode_outcome, judge_outcome, image_outcome}
+use Rattle.laws.specs.Lists.{all_read, all-count_up, count_up-all}
+use Rattle.laws.specs.Decide.{Decides, equals, at_most_z, is_within, every}
 use Rattle.laws.specs.Some.{some, lines}
 use Rattle.laws.specs.Admitted.{Admitted}
-use Rattle.laws.specs.Reread.{accepted-admitted}
-use Rattle.demands.specs.Flat.{Satisfies, is_zero, model-of-list}
+use Rattle.laws.specs.Reread.{accepted_admitted}
+use Rattle.demands.specs.Flat.{Satisfies, is_zero, model_of_list}
 use Rattle.demands.specs.Pairing as pairing
-use Rattle.demands.specs.Accepts.{judge-is, image-gives, decode_is, decode-gives}
+use Rattle.demands.specs.Accepts.{judge_is, image_gives, decode_is, decode_gives}
 
 -- a literal under values and Boolean bytes, as ordinary arithmetic
 abbrev pub Says : List ℤ → List ℕ → Literal → Type 0
-Says values bools (isTrue b) = get_or bools (b - 1) 0 ≡ 1
-Says values bools (isFalse b) = get_or bools (b - 1) 0 ≡ 0
-Says values bools (at_most q) = sumZ (map (λ t. t.coef *ℤ get_or values t.var (pos 0)) q.terms) ≤ℤ q.constant
+Says values bools (is_true b) = get_or bools (b - 1) 0 ≡ 1
+Says values bools (is_false b) = get_or bools (b - 1) 0 ≡ 0
+Says values bools (at_most q) = sum_z (map (λ t. t.coef *ℤ get_or values t.var (pos 0)) q.terms) ≤ℤ q.constant
 
 module _ (B : Board) (values : List ℤ) (bools : List ℕ) where
   said : All (λ b. b ≤ 1) bools → (l : Literal) → Decides (holds (assigned values bools) l) (Says values bools l)
   unfolding holds assigned on compares
-  said h (isTrue b) = equals (get_or bools (b - 1) 0) 1
-  said h (isFalse b) = let z = is_zero (get_or bools (b - 1) 0) (all_read (λ b. b ≤ 1) 0 (omega arith) bools h (b - 1)) in record { sound = z.0; full = z.1 }
-  said h (at_most q) = at-mostZ _ _
+  said h (is_true b) = equals (get_or bools (b - 1) 0) 1
+  said h (is_false b) = let z = is_zero (get_or bools (b - 1) 0) (all_read (λ b. b ≤ 1) 0 (omega arith) bools h (b - 1)) in record { sound = z.0; full = z.1 }
+  said h (at_most q) = at_most_z _ _
 
-  inside : (x : ℕ) → Decides (inBounds B (assigned values bools) x) (((bounds_of B x).lo ≤ℤ get_or values x (pos 0)) × (get_or values x (pos 0) ≤ℤ (bounds_of B x).hi))
-  unfolding inBounds assigned
+  inside : (x : ℕ) → Decides (in_bounds B (assigned values bools) x) (((bounds_of B x).lo ≤ℤ get_or values x (pos 0)) × (get_or values x (pos 0) ≤ℤ (bounds_of B x).hi))
+  unfolding in_bounds assigned
   inside x = is_within (bounds_of B x).lo (bounds_of B x).hi (get_or values x (pos 0))
 
   -- "integers within bounds and Booleans under which all clauses hold as ordinary arithmetic"
-  pub a-solution-means : Solution B values bools ↔ ((length values ≡ length B.bounds) × (length bools ≡ B.bools) × All (λ b. b ≤ 1) bools ×
+  pub a_solution_means : Solution B values bools ↔ ((length values ≡ length B.bounds) × (length bools ≡ B.bools) × All (λ b. b ≤ 1) bools ×
       ((x : ℕ) → x < length B.bounds → ((bounds_of B x).lo ≤ℤ get_or values x (pos 0)) × (get_or values x (pos 0) ≤ℤ (bounds_of B x).hi)) ×
       All (Any (Says values bools)) B.clauses)
   unfolding Solution variables
-  a-solution-means =
+  a_solution_means =
       let n = length B.bounds in
       let tests = lines (holds (assigned values bools)) B.clauses in (
-        λ s. (s.0, s.1, s.2, (λ x h. (inside x).sound (countUp-all _ 0 n s.3 x (omega arith) (omega arith))), (every (some (said s.2)) B.clauses).sound (tests.full s.4)),
-        λ s. (s.0, s.1, s.2, all-countUp _ 0 n (λ x l u. (inside x).full (s.3 x (omega arith))), tests.sound ((every (some (said s.2)) B.clauses).full s.4)),
+        λ s. (s.0, s.1, s.2, (λ x h. (inside x).sound (count_up-all _ 0 n s.3 x (omega arith) (omega arith))), (every (some (said s.2)) B.clauses).sound (tests.full s.4)),
+        λ s. (s.0, s.1, s.2, all-count_up _ 0 n (λ x l u. (inside x).full (s.3 x (omega arith))), tests.sound ((every (some (said s.2)) B.clauses).full s.4)),
       )
 
 -- two tests agree exactly if what they decide does
@@ -61,32 +61,32 @@ pub record Paired (B : Board) (model : List ℕ) (values : List ℤ) (bools : Li
 
 module _ (s : List ℕ) (B : Board) (e : accepted s ≡ done B) where
   good : Admitted B
-  good = accepted-admitted s B e
+  good = accepted_admitted s B e
 
   -- "each model of that list decodes to a solution"
-  pub a-model-means : (model : List ℕ) → Model B model ↔ ((length model ≡ N B) × All (λ b. b ≤ 1) model × Satisfies model (clauseList B))
-  a-model-means = model-of-list B good
+  pub a_model_means : (model : List ℕ) → Model B model ↔ ((length model ≡ N B) × All (λ b. b ≤ 1) model × Satisfies model (clause_list B))
+  a_model_means = model_of_list B good
 
-  pub each-model-decodes-to-a-solution : (model : List ℕ) → Model B model → Solution B (values_of B model) (take B.bools model)
-  each-model-decodes-to-a-solution = pairing.decodes B good
+  pub each_model_decodes_to_a_solution : (model : List ℕ) → Model B model → Solution B (values_of B model) (take B.bools model)
+  each_model_decodes_to_a_solution = pairing.decodes B good
 
   -- "a model is plain if each selector is true exactly when its comparison holds at the decoded values": its byte is 1, the sum at most the constant
-  pub plain-means : (model : List ℕ) → Plain B model ↔
+  pub plain_means : (model : List ℕ) → Plain B model ↔
       ((j : ℕ) → j < length (selections B) → (get_or model (number B (selector j) - 1) 0 ≡ 1) ↔
-      (sumZ (map (λ t. t.coef *ℤ get_or (values_of B model) t.var (pos 0)) (selection B j).terms) ≤ℤ (selection B j).constant))
-  unfolding Plain inModel on compares assigned
-  plain-means model =
+      (sum_z (map (λ t. t.coef *ℤ get_or (values_of B model) t.var (pos 0)) (selection B j).terms) ≤ℤ (selection B j).constant))
+  unfolding Plain in_model on compares assigned
+  plain_means model =
       let n = length (selections B) in (
-        λ p j h. (agree (equals _ 1) (at-mostZ _ _)).0 (countUp-all _ 0 n p j (omega arith) (omega arith)),
-        λ f. all-countUp _ 0 n (λ j l u. (agree (equals _ 1) (at-mostZ _ _)).1 (f j (omega arith))),
+        λ p j h. (agree (equals _ 1) (at_most_z _ _)).0 (count_up-all _ 0 n p j (omega arith) (omega arith)),
+        λ f. all-count_up _ 0 n (λ j l u. (agree (equals _ 1) (at_most_z _ _)).1 (f j (omega arith))),
       )
 
   -- "decoding pairs the plain models with the solutions": none left over on either side
-  pub each-plain-model-is-paired : (model : List ℕ) → Model B model → Plain B model → Paired B model (values_of B model) (take B.bools model)
-  each-plain-model-is-paired model m p = record { satisfies = m; plain = p; solution = each-model-decodes-to-a-solution model m; ints = refl; booleans = refl }
+  pub each_plain_model_is_paired : (model : List ℕ) → Model B model → Plain B model → Paired B model (values_of B model) (take B.bools model)
+  each_plain_model_is_paired model m p = record { satisfies = m; plain = p; solution = each_model_decodes_to_a_solution model m; ints = refl; booleans = refl }
 
-  pub each-solution-is-paired : (values : List ℤ) (bools : List ℕ) → Solution B values bools → Paired B (plainModel B (assigned values bools)) values bools
-  each-solution-is-paired values bools h =
+  pub each_solution_is_paired : (values : List ℤ) (bools : List ℕ) → Solution B values bools → Paired B (plain_model B (assigned values bools)) values bools
+  each_solution_is_paired values bools h =
       record {
         satisfies = pairing.image-model B good values bools h;
         plain = pairing.image-plain B good values bools h;
@@ -96,28 +96,28 @@ module _ (s : List ℕ) (B : Board) (e : accepted s ≡ done B) where
       }
 
   -- "one to one"
-  pub one-solution-each : (model : List ℕ) (values values' : List ℤ) (bools bools' : List ℕ) → Paired B model values bools → Paired B model values' bools' → (values ≡ values') × (bools ≡ bools')
-  one-solution-each model values values' bools bools' p q = (cc, cc)
+  pub one_solution_each : (model : List ℕ) (values values' : List ℤ) (bools bools' : List ℕ) → Paired B model values bools → Paired B model values' bools' → (values ≡ values') × (bools ≡ bools')
+  one_solution_each model values values' bools bools' p q = (cc, cc)
 
-  pub its-plain-model : (model : List ℕ) (values : List ℤ) (bools : List ℕ) → Paired B model values bools → plainModel B (assigned values bools) ≡ model
-  its-plain-model model values bools p = ap (λ a. plainModel B a) (ap₂ assigned (sym p.ints) (sym p.booleans)) ∙ pairing.plain-image B good model p.satisfies p.plain
+  pub its_plain_model : (model : List ℕ) (values : List ℤ) (bools : List ℕ) → Paired B model values bools → plain_model B (assigned values bools) ≡ model
+  its_plain_model model values bools p = ap (λ a. plain_model B a) (ap₂ assigned (sym p.ints) (sym p.booleans)) ∙ pairing.plain-image B good model p.satisfies p.plain
 
-  pub one-plain-model-each : (model model' : List ℕ) (values : List ℤ) (bools : List ℕ) → Paired B model values bools → Paired B model' values bools → model ≡ model'
-  one-plain-model-each model model' values bools p q = sym (its-plain-model model values bools p) ∙ its-plain-model model' values bools q
+  pub one_plain_model_each : (model model' : List ℕ) (values : List ℤ) (bools : List ℕ) → Paired B model values bools → Paired B model' values bools → model ≡ model'
+  one_plain_model_each model model' values bools p q = sym (its_plain_model model values bools p) ∙ its_plain_model model' values bools q
 
   -- ---- by the operations
-  pub judge-accepts-what-decode-leaves : (model : List ℕ) (values : List ℤ) (bools : List ℕ) → (Decode s model values bools).answer ≡ done tt →
-      Judge s (Decode s model values bools).left.0 (Decode s model values bools).left.1 ≡ done tt
-  judge-accepts-what-decode-leaves model values bools h =
+  pub judge_accepts_what_decode_leaves : (model : List ℕ) (values : List ℤ) (bools : List ℕ) → (decode_outcome s model values bools).answer ≡ done tt →
+      judge_outcome s (decode_outcome s model values bools).left.0 (decode_outcome s model values bools).left.1 ≡ done tt
+  judge_accepts_what_decode_leaves model values bools h =
       let m = (decode_is s B e model values bools).0 h in
-      rw (decode-gives s B e model values bools m.0 m.1 m.2) ((judge-is s B e (values_of B model) (take B.bools model)).1 (each-model-decodes-to-a-solution model m.0))
+      rw (decode_gives s B e model values bools m.0 m.1 m.2) ((judge_is s B e (values_of B model) (take B.bools model)).1 (each_model_decodes_to_a_solution model m.0))
 
   module _ (model : List ℕ) (values : List ℤ) (bools : List ℕ) (p : Paired B model values bools) where
-    pub decode-gives-the-solution : (ints : List ℤ) (booleans : List ℕ) → length ints ≡ length B.bounds → length booleans ≡ B.bools → Decode s model ints booleans ≡ (done tt leaves (values, bools))
-    decode-gives-the-solution ints booleans i b = decode-gives s B e model ints booleans p.satisfies i b ∙ cc
+    pub decode_gives_the_solution : (ints : List ℤ) (booleans : List ℕ) → length ints ≡ length B.bounds → length booleans ≡ B.bools → decode_outcome s model ints booleans ≡ (done tt leaves (values, bools))
+    decode_gives_the_solution ints booleans i b = decode_gives s B e model ints booleans p.satisfies i b ∙ cc
 
-    pub judge-accepts-it : Judge s values bools ≡ done tt
-    judge-accepts-it = (judge-is s B e values bools).1 p.solution
+    pub judge_accepts_it : judge_outcome s values bools ≡ done tt
+    judge_accepts_it = (judge_is s B e values bools).1 p.solution
 
-    pub image-gives-the-model-back : (lent : List ℕ) → length lent ≡ N B → Image s values bools lent ≡ (done tt leaves model)
-    image-gives-the-model-back lent l = image-gives s B e values bools lent p.solution l ∙ ap (λ m. done tt leaves m) (its-plain-model model values bools p)
+    pub image_gives_the_model_back : (lent : List ℕ) → length lent ≡ N B → image_outcome s values bools lent ≡ (done tt leaves model)
+    image_gives_the_model_back lent l = image_gives s B e values bools lent p.solution l ∙ ap (λ m. done tt leaves m) (its_plain_model model values bools p)

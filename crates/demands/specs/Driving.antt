@@ -12,9 +12,9 @@ use Rattle.laws.specs.Readings.{same}
 use Rattle.demands.specs.Bytes.{bit, bit-most}
 use Rattle.demands.specs.Bisection.{Finished, Ends, AtMost, True}
 
-bit-says : (t : Bool) → (bit t ≡ 1) ↔ T t
-bit-says true = ((λ e. tt), (λ e. refl))
-bit-says false = ((λ e. omega arith), (λ e. absurd e))
+bit_says : (t : Bool) → (bit t ≡ 1) ↔ T t
+bit_says true = ((λ e. tt), (λ e. refl))
+bit_says false = ((λ e. omega arith), (λ e. absurd e))
 
 -- an answer that ends a search
 pub record Ended (answer : Result Earliest) : Type 0 where
@@ -57,11 +57,11 @@ module _ (f : ℤ → Bool) where
   driven-ahead (suc n) e = ap (λ l. l ++ reply (after e l)) (driven-ahead n e) ∙ ahead_more n e
 
   -- ---- they are few, they are bits, and they end the search
-  ahead-few : (n : ℕ) (e : Earliest) → length (ahead n e) ≤ n
-  ahead-few zero e = omega arith
-  ahead-few (suc n) (found v) = omega arith
-  ahead-few (suc n) none = omega arith
-  ahead-few (suc n) (unfinished r h) = let k = ahead-few n (tells (narrowed r h (bit (f h)))) in omega arith
+  ahead_few : (n : ℕ) (e : Earliest) → length (ahead n e) ≤ n
+  ahead_few zero e = omega arith
+  ahead_few (suc n) (found v) = omega arith
+  ahead_few (suc n) none = omega arith
+  ahead_few (suc n) (unfinished r h) = let k = ahead_few n (tells (narrowed r h (bit (f h)))) in omega arith
 
   ahead-bits : (n : ℕ) (e : Earliest) → All (λ b. b ≤ 1) (ahead n e)
   ahead-bits zero e = tt
@@ -69,22 +69,22 @@ module _ (f : ℤ → Bool) where
   ahead-bits (suc n) none = tt
   ahead-bits (suc n) (unfinished r h) = (bit-most (f h), ahead-bits n (tells (narrowed r h (bit (f h)))))
 
-  ahead-ends : (n : ℕ) (e : Earliest) → Ends n e → Ended (after e (ahead n e))
+  ahead_ends : (n : ℕ) (e : Earliest) → Ends n e → Ended (after e (ahead n e))
   unfolding after
-  ahead-ends zero e k = record { last = e; is = refl; finished = k }
-  ahead-ends (suc n) (found v) k = record { last = found v; is = refl; finished = tt }
-  ahead-ends (suc n) none k = record { last = none; is = refl; finished = tt }
-  ahead-ends (suc n) (unfinished r h) k = ahead-ends n (tells (narrowed r h (bit (f h)))) (k (bit (f h)))
+  ahead_ends zero e k = record { last = e; is = refl; finished = k }
+  ahead_ends (suc n) (found v) k = record { last = found v; is = refl; finished = tt }
+  ahead_ends (suc n) none k = record { last = none; is = refl; finished = tt }
+  ahead_ends (suc n) (unfinished r h) k = ahead_ends n (tells (narrowed r h (bit (f h)))) (k (bit (f h)))
 
   module _ (n : ℕ) (e : Earliest) where
-    pub driven-few : length (driven (after e) n) ≤ n
-    driven-few = rw (driven-ahead n e) (ahead-few n e)
+    pub driven_few : length (driven (after e) n) ≤ n
+    driven_few = rw (driven-ahead n e) (ahead_few n e)
 
     pub driven-bits : All (λ b. b ≤ 1) (driven (after e) n)
     driven-bits = rw (driven-ahead n e) (ahead-bits n e)
 
-    pub driven-ends : Ends n e → Ended (after e (driven (after e) n))
-    driven-ends k = rw (driven-ahead n e) (ahead-ends n e k)
+    pub driven_ends : Ends n e → Ended (after e (driven (after e) n))
+    driven_ends k = rw (driven-ahead n e) (ahead_ends n e k)
 
   -- ---- they are true where f is
   module _ (S : ℤ → Type 0) (right : (h : ℤ) → T (f h) ↔ AtMost S h) where
@@ -96,14 +96,14 @@ module _ (f : ℤ → Bool) where
         go zero l r' q d = let e : h ≡ q = cc in rw (sym e) k
         go (suc i) l r' q d = t.each i (omega arith) r' q d
 
-    ahead-true : (n : ℕ) (e : Earliest) → True S (after e) (ahead n e)
-    ahead-true zero e = record { each = λ i l r h d. absurd (omega arith) }
-    ahead-true (suc n) (found v) = record { each = λ i l r h d. absurd (omega arith) }
-    ahead-true (suc n) none = record { each = λ i l r h d. absurd (omega arith) }
-    ahead-true (suc n) (unfinished r h) =
-        let b = bit-says (f h) in
+    ahead_true : (n : ℕ) (e : Earliest) → True S (after e) (ahead n e)
+    ahead_true zero e = record { each = λ i l r h d. absurd (omega arith) }
+    ahead_true (suc n) (found v) = record { each = λ i l r h d. absurd (omega arith) }
+    ahead_true (suc n) none = record { each = λ i l r h d. absurd (omega arith) }
+    ahead_true (suc n) (unfinished r h) =
+        let b = bit_says (f h) in
         let k = right h in
-        one_more r h (bit (f h)) (ahead n (tells (narrowed r h (bit (f h))))) (λ e. k.0 (b.0 e), λ a. b.1 (k.1 a)) (ahead-true n (tells (narrowed r h (bit (f h)))))
+        one_more r h (bit (f h)) (ahead n (tells (narrowed r h (bit (f h))))) (λ e. k.0 (b.0 e), λ a. b.1 (k.1 a)) (ahead_true n (tells (narrowed r h (bit (f h)))))
 
-    pub driven-true : (n : ℕ) (e : Earliest) → True S (after e) (driven (after e) n)
-    driven-true n e = rw (driven-ahead n e) (ahead-true n e)
+    pub driven_true : (n : ℕ) (e : Earliest) → True S (after e) (driven (after e) n)
+    driven_true n e = rw (driven-ahead n e) (ahead_true n e)

@@ -18,8 +18,8 @@ pub record Wrong (Good : List ℕ → Type 0) (t : List ℕ) (e : ℕ) : Type 0 
   pub fine : Begins Good (take e t)
   pub wrong : ¬ Begins Good (take (suc e) t)
 
-pub not-refused : {A B : Type 0} {a : A} {n d : ℕ} → done a ≡ refused n d → B
-not-refused e = never (sym e)
+pub not_refused : {A B : Type 0} {a : A} {n d : ℕ} → done a ≡ refused n d → B
+not_refused e = never (sym e)
 
 -- ---- the byte at which a step refuses
 record Stop (s : State) (at : ℕ) (t : List ℕ) (n d : ℕ) : Type 0 where
@@ -32,7 +32,7 @@ record Stop (s : State) (at : ℕ) (t : List ℕ) (n d : ℕ) : Type 0 where
   refuses : step state (at + length before) byte ≡ refused n d
 
 stop : (t : List ℕ) (s : State) (at n d : ℕ) → fed s at t ≡ refused n d → Stop s at t n d
-stop [] s at n d h = not-refused h
+stop [] s at n d h = not_refused h
 stop (b ∷ t) s at n d h = go (step s at b) refl h (λ s' k. stop t s' (suc at) n d k)
   where
     go : (m : Result State) → step s at b ≡ m → (m >>= λ s'. fed s' (suc at) t) ≡ refused n d → ((s' : State) → fed s' (suc at) t ≡ refused n d → Stop s' (suc at) t n d) → Stop s at (b ∷ t) n d
@@ -52,12 +52,12 @@ stop (b ∷ t) s at n d h = go (step s at b) refl h (λ s' k. stop t s' (suc at)
 
 -- ---- 18's detail, pinned from both sides. `Beyond u d`: these bytes end in a number beyond N, whose first byte stands at d
 pub record Pinned (Good : List ℕ → Type 0) (Beyond : List ℕ → ℕ → Type 0) (t : List ℕ) (n d : ℕ) : Type 0 where
-  pub is-18 : n ≡ 18
-  pub at-the-end : (d ≡ length t) ↔ Begins Good t
-  pub a-wrong-byte : ¬ Begins Good t → (e : ℕ) × Wrong Good t e
-  pub at-the-number : (e d' : ℕ) → Wrong Good t e → Beyond (take (suc e) t) d' → d ≡ d'
-  pub at-the-byte : (e : ℕ) → Wrong Good t e → ((d' : ℕ) → ¬ Beyond (take (suc e) t) d') → d ≡ e
-  pub at-one-of-them : (e : ℕ) → Wrong Good t e → (d ≡ e) ⊎ Beyond (take (suc e) t) d
+  pub is_18 : n ≡ 18
+  pub at_the_end : (d ≡ length t) ↔ Begins Good t
+  pub a_wrong_byte : ¬ Begins Good t → (e : ℕ) × Wrong Good t e
+  pub at_the_number : (e d' : ℕ) → Wrong Good t e → Beyond (take (suc e) t) d' → d ≡ d'
+  pub at_the_byte : (e : ℕ) → Wrong Good t e → ((d' : ℕ) → ¬ Beyond (take (suc e) t) d') → d ≡ e
+  pub at_one_of_them : (e : ℕ) → Wrong Good t e → (d ≡ e) ⊎ Beyond (take (suc e) t) d
 
 -- what is good is read, what is not refused begins something good, and why a byte or the end is refused
 pub record Reader {A : Type 0} (start : State) (end : ℕ → State → Result A) (Good : List ℕ → Type 0) (Beyond : List ℕ → ℕ → Type 0) : Type 0 where
@@ -70,20 +70,20 @@ pub record Reader {A : Type 0} (start : State) (end : ℕ → State → Result A
 
 module _ {A : Type 0} (start : State) (end : ℕ → State → Result A) (Good : List ℕ → Type 0) (Beyond : List ℕ → ℕ → Type 0) (reader : Reader start end Good Beyond) where
   -- what is refused before its end is refused with anything after it
-  refused-on : (t u : List ℕ) (n d : ℕ) → fed start 0 t ≡ refused n d → fed start 0 (t ++ u) ≡ refused n d
-  refused-on t u n d h = fed-append t u start 0 ∙ ap (λ m. m >>= λ s. fed s (0 + length t) u) h
+  refused_on : (t u : List ℕ) (n d : ℕ) → fed start 0 t ≡ refused n d → fed start 0 (t ++ u) ≡ refused n d
+  refused_on t u n d h = fed-append t u start 0 ∙ ap (λ m. m >>= λ s. fed s (0 + length t) u) h
 
-  never-begins : (t : List ℕ) (n d : ℕ) → fed start 0 t ≡ refused n d → ¬ Begins Good t
-  never-begins t n d h g =
+  never_begins : (t : List ℕ) (n d : ℕ) → fed start 0 t ≡ refused n d → ¬ Begins Good t
+  never_begins t n d h g =
       let r = reader.reads (t ++ g.rest) g.good in
-      never (sym (ap (λ m. m >>= end (length (t ++ g.rest))) (refused-on t g.rest n d h)) ∙ r.1)
+      never (sym (ap (λ m. m >>= end (length (t ++ g.rest))) (refused_on t g.rest n d h)) ∙ r.1)
 
-  begun-done : (t : List ℕ) → Begins Good t → (s : State) × (fed start 0 t ≡ done s)
-  begun-done t g = go (fed start 0 t) refl
+  begun_done : (t : List ℕ) → Begins Good t → (s : State) × (fed start 0 t ≡ done s)
+  begun_done t g = go (fed start 0 t) refl
     where
       go : (m : Result State) → fed start 0 t ≡ m → (s : State) × (fed start 0 t ≡ done s)
       go (done s) e = (s, e)
-      go (refused n d) e = absurd (never-begins t n d e g)
+      go (refused n d) e = absurd (never_begins t n d e g)
 
   one_more : (t : List ℕ) (s : State) (b : ℕ) → fed start 0 t ≡ done s → fed start 0 (t ++ (b ∷ [])) ≡ step s (length t) b
   one_more t s b h =
@@ -101,8 +101,8 @@ module _ {A : Type 0} (start : State) (end : ℕ → State → Result A) (Good :
         go (refused n' d') e k = let r = refusal_is k in inl (e ∙ ap (λ x. refused x d') r.0 ∙ ap (refused n) r.1)
 
     -- the byte that refuses is wrong, and the detail does not come after it
-    the-byte : fed start 0 t ≡ refused n d → (n ≡ 18) × ((d < length t) × ((e : ℕ) × Wrong Good t e))
-    the-byte k =
+    the_byte : fed start 0 t ≡ refused n d → (n ≡ 18) × ((d < length t) × ((e : ℕ) × Wrong Good t e))
+    the_byte k =
         let i = stop t start 0 n d k in
         let u : List ℕ = i.before in
         let e : ℕ = length u in
@@ -124,21 +124,21 @@ module _ {A : Type 0} (start : State) (end : ℕ → State → Result A) (Good :
               record {
                 inside = inside;
                 fine = rw until (reader.lives u i.state i.reached);
-                wrong = rw through (never-begins (u ++ (b ∷ [])) n d refused-there);
+                wrong = rw through (never_begins (u ++ (b ∷ [])) n d refused-there);
               },
             ),
           ),
         )
 
     -- through a wrong byte the text is refused as the whole is
-    wrong-step : (e : ℕ) → Wrong Good t e → (s : State) × ((fed start 0 (take e t) ≡ done s) × (fed start 0 (take e t ++ (get_or t e 0 ∷ [])) ≡ refused n d))
-    wrong-step e w = let s = begun-done (take e t) w.fine in (s.0, (s.1, ap (fed start 0) (sym through) ∙ go (fed start 0 (take (suc e) t)) refl))
+    wrong_step : (e : ℕ) → Wrong Good t e → (s : State) × ((fed start 0 (take e t) ≡ done s) × (fed start 0 (take e t ++ (get_or t e 0 ∷ [])) ≡ refused n d))
+    wrong_step e w = let s = begun_done (take e t) w.fine in (s.0, (s.1, ap (fed start 0) (sym through) ∙ go (fed start 0 (take (suc e) t)) refl))
       where
         through : take (suc e) t ≡ take e t ++ (get_or t e 0 ∷ [])
         through = take-suc t e 0 w.inside
 
         whole : (n' d' : ℕ) → fed start 0 (take (suc e) t) ≡ refused n' d' → fed start 0 t ≡ refused n' d'
-        whole n' d' k = ap (fed start 0) (sym (take-append-drop (suc e) t)) ∙ refused-on (take (suc e) t) (drop (suc e) t) n' d' k
+        whole n' d' k = ap (fed start 0) (sym (take-append-drop (suc e) t)) ∙ refused_on (take (suc e) t) (drop (suc e) t) n' d' k
 
         go : (m : Result State) → fed start 0 (take (suc e) t) ≡ m → fed start 0 (take (suc e) t) ≡ refused n d
         go (done s') k = absurd (w.wrong (reader.lives (take (suc e) t) s' k))
@@ -146,9 +146,9 @@ module _ {A : Type 0} (start : State) (end : ℕ → State → Result A) (Good :
             let r = refusal_is (sym (ap (λ m. m >>= end (length t)) (whole n' d' k)) ∙ h) in
             k ∙ ap (λ x. refused x d') r.0 ∙ ap (refused n) r.1
 
-    byte-or-number : (e : ℕ) → Wrong Good t e → (d ≡ e) ⊎ Beyond (take (suc e) t) d
-    byte-or-number e w =
-        let s = wrong-step e w in
+    byte_or_number : (e : ℕ) → Wrong Good t e → (d ≡ e) ⊎ Beyond (take (suc e) t) d
+    byte_or_number e w =
+        let s = wrong_step e w in
         let u : List ℕ = take e t in
         let why = reader.steps u s.0 (get_or t e 0) n d s.1.0 (sym (one_more u s.0 (get_or t e 0) s.1.0) ∙ s.1.1) in
         let long = length-take-le e t (omega (arith, w.inside)) in
@@ -156,15 +156,15 @@ module _ {A : Type 0} (start : State) (end : ℕ → State → Result A) (Good :
 
     pub pinned : Pinned Good Beyond t n d
     pinned = record {
-      is-18 = elim either [ inl k ↦ (the-byte k).0 | inr k ↦ (reader.ends (length t) k.0 n d k.1.1).0 ];
-      at-the-end = (
-        (λ e. elim either [ inl k ↦ absurd (omega (arith, (the-byte k).1.0)) | inr k ↦ reader.lives t k.0 k.1.0 ]),
-        (λ g. elim either [ inl k ↦ absurd (never-begins t n d k g) | inr k ↦ (reader.ends (length t) k.0 n d k.1.1).1 ]),
+      is_18 = elim either [ inl k ↦ (the_byte k).0 | inr k ↦ (reader.ends (length t) k.0 n d k.1.1).0 ];
+      at_the_end = (
+        (λ e. elim either [ inl k ↦ absurd (omega (arith, (the_byte k).1.0)) | inr k ↦ reader.lives t k.0 k.1.0 ]),
+        (λ g. elim either [ inl k ↦ absurd (never_begins t n d k g) | inr k ↦ (reader.ends (length t) k.0 n d k.1.1).1 ]),
       );
-      a-wrong-byte = λ f. (elim either [ inl k ↦ (the-byte k).1.1 | inr k ↦ absurd (f (reader.lives t k.0 k.1.0)) ]);
-      at-the-number = λ e d' w b.
-          let s = wrong-step e w in
+      a_wrong_byte = λ f. (elim either [ inl k ↦ (the_byte k).1.1 | inr k ↦ absurd (f (reader.lives t k.0 k.1.0)) ]);
+      at_the_number = λ e d' w b.
+          let s = wrong_step e w in
           reader.numbers (take e t) s.0 (get_or t e 0) n d d' s.1.0 s.1.1 (subst (λ u. Beyond u d') (take-suc t e 0 w.inside) b);
-      at-the-byte = λ e w f. (elim (byte-or-number e w) [ inl z ↦ z | inr z ↦ absurd (f d z) ]);
-      at-one-of-them = byte-or-number;
+      at_the_byte = λ e w f. (elim (byte_or_number e w) [ inl z ↦ z | inr z ↦ absurd (f d z) ]);
+      at_one_of_them = byte_or_number;
     }

@@ -3,14 +3,14 @@ use Rattle.std.specs.Prelude.{◌≡◌, refl, ◌⊎◌, Bool, true, false, not
 use Rattle.std.proofs.Common.{sym, ap, ◌∙◌, subst, inl, inr, append_assoc, append-nil, arith, ne_eqb, eqb-true, ltb-true, leb-true, length-append}
 use Rattle.std.proofs.lemmas.Bool.{eqb-false}
 use Rattle.std.proofs.Math.Dec.{leb-suc-zero}
-use Rattle.definitions.specs.Tools.{All, neg, if◌then◌else◌, eqZ}
+use Rattle.definitions.specs.Tools.{All, neg, if◌then◌else◌, eq_z}
 use Rattle.definitions.specs.Result.{Result, ◌>>=◌, ◌>>◌, need, done, refused}
 use Rattle.definitions.specs.Dimacs.{ascii, decimal}
 use Rattle.laws.specs.Readings.{same, never}
 use Rattle.laws.specs.Lists.{all_append}
 use Rattle.laws.specs.Decimals.{decimal-one, decimal-more}
-use Rattle.definitions.specs.Texts.{numeral, blank, Spaced, nothing, gap, number, zeros, Ended, most, firstLine, Values, first, onLine, newLine, GoodReply, noModel}
-use Rattle.definitions.specs.TextReading.{digit, Number, numberRead, whole, begun, further, longer, grown, Count, countN, countM, Kind, text, reply, model, State, word, count, countOn, verdict, inNumber, over, awaits, counted, stops, beyond, step, fed, atNumber, unsatisfiable}
+use Rattle.definitions.specs.Texts.{numeral, blank, Spaced, nothing, gap, number, zeros, Ended, most, first_line, Values, first, on_line, new_line, GoodReply, no_model}
+use Rattle.definitions.specs.TextReading.{digit, Number, number_read, whole, begun, further, longer, grown, Count, count_N, count_M, Kind, text, reply, model, State, word, count, count_on, verdict, in_number, over, awaits, counted, stops, beyond, step, fed, at_number, unsatisfiable}
 use Rattle.laws.specs.Stepping.{cases, num, free}
 
 -- ---- what a step that was passed tells
@@ -27,19 +27,19 @@ pub both : (b c : Bool) → (b && c) ≡ true → (b ≡ true) × (c ≡ true)
 both true c h = (refl, h)
 both false c h = absurd (let z : ◌≡◌ {A = Bool} false true = h in let n : ◌≡◌ {A = ℕ} 0 1 = cc in omega arith)
 
-is_true : (b : Bool) → b ≡ true → T b
-is_true b e = rw e tt
+is_true_lem : (b : Bool) → b ≡ true → T b
+is_true_lem b e = rw e tt
 
 -- ---- digits
-pub digit-is : (b : ℕ) → digit b ≡ true → (48 + (b - 48) ≡ b) × (b - 48 < 10)
-digit-is b h =
+pub digit_is : (b : ℕ) → digit b ≡ true → (48 + (b - 48) ≡ b) × (b - 48 < 10)
+digit_is b h =
     let l = both (leb 48 b) (leb b 57) h in
     let m = leb-true 48 b l.0 in
     let k = leb-true b 57 l.1 in
     (omega arith, omega arith)
 
 decimal-first : (b : ℕ) → digit b ≡ true → decimal (b - 48) ≡ b ∷ []
-decimal-first b h = let d = digit-is b h in decimal-one (b - 48) d.1 ∙ ap (λ c. c ∷ []) d.0
+decimal-first b h = let d = digit_is b h in decimal-one (b - 48) d.1 ∙ ap (λ c. c ∷ []) d.0
 
 -- any number of 32 bits
 abbrev pub wide : ℕ
@@ -47,7 +47,7 @@ wide = 4294967295
 
 decimal-longer : (v b : ℕ) → 1 ≤ v → v ≤ wide → digit b ≡ true → decimal (10 * v + (b - 48)) ≡ decimal v ++ (b ∷ [])
 decimal-longer v b l s h =
-    let d = digit-is b h in
+    let d = digit_is b h in
     let n : ℕ = 10 * v + (b - 48) in
     let q : n / 10 ≡ v = omega (arith, d.1) in
     let m : 48 + n % 10 ≡ b = omega (arith, d.0, d.1) in
@@ -57,7 +57,7 @@ decimal-longer v b l s h =
 abbrev pub bytes : Number → List ℕ
 bytes p = if p.minus then 45 ∷ (if eqb p.size 0 then [] else decimal p.size) else decimal p.size
 
-pub whole-bytes : (p : Number) → whole p ≡ true → bytes p ≡ numeral (numberRead p)
+pub whole-bytes : (p : Number) → whole p ≡ true → bytes p ≡ numeral (number_read p)
 whole-bytes p h = go p.minus p.size h
   where
     go : (m : Bool) (v : ℕ) → (ltb 0 v || not m) ≡ true → (if m then 45 ∷ (if eqb v 0 then [] else decimal v) else decimal v) ≡ numeral (if m then neg v else pos v)
@@ -82,7 +82,7 @@ longer-bytes p b s h =
         rw (e, ne_eqb (b - 48) 0 (λ z. omega arith), decimal-first b d)
     go true (suc v) s o d = rw (ne_eqb (10 * suc v + (b - 48)) 0 (λ z. omega arith), ne_eqb (suc v) 0 (λ z. omega arith), decimal-longer (suc v) b (omega arith) s d)
 
-pub value-size : (p : Number) → nat_abs (numberRead p) ≡ p.size
+pub value-size : (p : Number) → nat_abs (number_read p) ≡ p.size
 value-size p = go p.minus p.size
   where
     go : (m : Bool) (v : ℕ) → nat_abs (if m then neg v else pos v) ≡ v
@@ -111,7 +111,7 @@ begun_fresh N at b p h = elim (cases (eqb b 45)) [
 -- ---- clauses that have ended
 pub zeros-append : (ns ms : List ℤ) → zeros (ns ++ ms) ≡ zeros ns + zeros ms
 zeros-append [] ms = omega arith
-zeros-append (n ∷ ns) ms = go (eqZ n (pos 0)) (zeros-append ns ms)
+zeros-append (n ∷ ns) ms = go (eq_z n (pos 0)) (zeros-append ns ms)
   where
     go : (t : Bool) → zeros (ns ++ ms) ≡ zeros ns + zeros ms → (if t then suc (zeros (ns ++ ms)) else zeros (ns ++ ms)) ≡ (if t then suc (zeros ns) else zeros ns) + zeros ms
     go true e = omega arith
@@ -135,27 +135,27 @@ more_room M ns n f = let l = ltb-true (zeros ns) M f in elim (zero_or n) [
 
 -- ---- what is read: text, or a reply for N
 pub data Which : Type 0 where
-  ofText : Which
-  ofReply : ℕ → Which
+  of_text : Which
+  of_reply : ℕ → Which
 
 abbrev pub OfText : Which → Type 0
-OfText ofText = Unit {0}
-OfText (ofReply N) = ⊥
+OfText of_text = Unit {0}
+OfText (of_reply N) = ⊥
 
 abbrev pub OfReply : Which → ℕ → Type 0
-OfReply ofText N = ⊥
-OfReply (ofReply N') N = N ≡ N'
+OfReply of_text N = ⊥
+OfReply (of_reply N') N = N ≡ N'
 
 -- up to a count of the first line
 abbrev pub UpTo : Count → List ℕ → Type 0
-UpTo countN w = w ≡ ascii "p cnf "
-UpTo (countM N) w = (N ≤ most) × (w ≡ ascii "p cnf " ++ (decimal N ++ ascii " "))
+UpTo count_N w = w ≡ ascii "p cnf "
+UpTo (count_M N) w = (N ≤ most) × (w ≡ ascii "p cnf " ++ (decimal N ++ ascii " "))
 
 -- up to where a number may begin
 pub record InText (N M : ℕ) (ns : List ℤ) (w : List ℕ) : Type 0 where
   pub small : (N ≤ most) × (M ≤ most)
   pub body : List ℕ
-  pub lined : w ≡ firstLine N M ++ body
+  pub lined : w ≡ first_line N M ++ body
   pub spaced : Spaced true ns body
   pub known : All (λ n. nat_abs n ≤ N) ns
   pub room : Room M ns
@@ -183,23 +183,23 @@ pub record Inside (q : Which) (k : Kind) (ns : List ℤ) (p : Number) (w : List 
 abbrev pub Reached : Which → State → List ℕ → Type 0
 Reached q (word c cs s) w = Reached q s (w ++ (c ∷ cs))
 Reached q (count c) w = OfText q × UpTo c w
-Reached q (countOn c v) w = OfText q × ((v ≤ most) × ((h : List ℕ) × (UpTo c h × (w ≡ h ++ decimal v))))
+Reached q (count_on c v) w = OfText q × ((v ≤ most) × ((h : List ℕ) × (UpTo c h × (w ≡ h ++ decimal v))))
 Reached q (verdict N) w = OfReply q N × (w ≡ ascii "s ")
-Reached q (atNumber k ns) w = Before q k ns w
-Reached q (inNumber k ns p) w = Inside q k ns p w
+Reached q (at_number k ns) w = Before q k ns w
+Reached q (in_number k ns p) w = Inside q k ns p w
 Reached q (over (model ns)) w = (N : ℕ) × (OfReply q N × GoodReply N ns w)
-Reached q (over unsatisfiable) w = (N : ℕ) × (OfReply q N × (w ≡ noModel))
+Reached q (over unsatisfiable) w = (N : ℕ) × (OfReply q N × (w ≡ no_model))
 
 -- no number of more than 32 bits is asked for
 abbrev pub Narrow : Which → Type 0
 Narrow q = (N : ℕ) → OfReply q N → N ≤ wide
 
 -- ---- each byte keeps it
-snoc-assoc : (w cs : List ℕ) (b c : ℕ) → b ≡ c → w ++ (c ∷ cs) ≡ (w ++ (b ∷ [])) ++ cs
-snoc-assoc w cs b c e = ap (λ x. w ++ (x ∷ cs)) (sym e) ∙ sym (append_assoc w (b ∷ []) cs)
+snoc_assoc : (w cs : List ℕ) (b c : ℕ) → b ≡ c → w ++ (c ∷ cs) ≡ (w ++ (b ∷ [])) ++ cs
+snoc_assoc w cs b c e = ap (λ x. w ++ (x ∷ cs)) (sym e) ∙ sym (append_assoc w (b ∷ []) cs)
 
-longer-by-one : (w : List ℕ) (b : ℕ) → suc (length w) ≡ length (w ++ (b ∷ []))
-longer-by-one w b = omega (arith, length-append w (b ∷ []))
+longer_by_one : (w : List ℕ) (b : ℕ) → suc (length w) ≡ length (w ++ (b ∷ []))
+longer_by_one w b = omega (arith, length-append w (b ∷ []))
 
 -- bytes after a head and a part
 pub onto : {w : List ℕ} (h u : List ℕ) (c : ℕ) → w ≡ h ++ u → w ++ (c ∷ []) ≡ h ++ (u ++ (c ∷ []))
@@ -212,48 +212,48 @@ module _ (q : Which) (narrow : Narrow q) where
 
   count_kept : (c : Count) (w : List ℕ) (b v : ℕ) (s' : State) → OfText q → v ≤ most → UpTo c w → counted c v (length (w ++ decimal v)) b ≡ done s'
       → Reached q s' ((w ++ decimal v) ++ (b ∷ []))
-  count_kept countN w b v s' o m u h =
-      let k = passed (length (w ++ decimal v)) (eqb b 32) (done (count (countM v))) h in
+  count_kept count_N w b v s' o m u h =
+      let k = passed (length (w ++ decimal v)) (eqb b 32) (done (count (count_M v))) h in
       subst (λ s. Reached q s ((w ++ decimal v) ++ (b ∷ []))) (same k.1)
       (o, (m, append_assoc w (decimal v) (b ∷ []) ∙ ap (λ x. x ++ (decimal v ++ (b ∷ []))) u ∙ ap (λ c. ascii "p cnf " ++ (decimal v ++ (c ∷ []))) (eqb-true b 32 k.0)))
-  count_kept (countM N) w b v s' o m u h =
-      let k = passed (length (w ++ decimal v)) (eqb b 10) (done (atNumber (text N v) [])) h in
-      let line : (w ++ decimal v) ++ (b ∷ []) ≡ firstLine N v ++ [] =
+  count_kept (count_M N) w b v s' o m u h =
+      let k = passed (length (w ++ decimal v)) (eqb b 10) (done (at_number (text N v) [])) h in
+      let line : (w ++ decimal v) ++ (b ∷ []) ≡ first_line N v ++ [] =
       ap (λ c. (w ++ decimal v) ++ (c ∷ [])) (eqb-true b 10 k.0) ∙ ap (λ x. (x ++ decimal v) ++ (10 ∷ [])) u.1 ∙ simp append_assoc in
       subst (λ s. Reached q s ((w ++ decimal v) ++ (b ∷ []))) (same k.1)
       (o, record { small = (u.0, m); body = []; lined = line; spaced = nothing; known = tt; room = record { few = omega arith; ended = λ e. inl refl } })
 
   begun_kept : (k : Kind) (ns : List ℤ) (w : List ℕ) (b : ℕ) (s' : State) → Before q k ns w → free k ns ≡ true
-      → (begun (beyond k) (length w) b >>= λ p. done (inNumber k ns p)) ≡ done s' → Reached q s' (w ++ (b ∷ []))
+      → (begun (beyond k) (length w) b >>= λ p. done (in_number k ns p)) ≡ done s' → Reached q s' (w ++ (b ∷ []))
   begun_kept k ns w b s' r f h =
-      let m = made (begun (beyond k) (length w) b) (λ p. done (inNumber k ns p)) h in
+      let m = made (begun (beyond k) (length w) b) (λ p. done (in_number k ns p)) h in
       let g = begun_fresh (beyond k) (length w) b m.0 m.1.0 in
       subst (λ s. Reached q s (w ++ (b ∷ []))) (same m.1.1)
       (record { head = w; before = r; is = ap (λ x. w ++ x) (sym g.is); begins = g.begins; more = f; small = g.small; room = g.room })
 
   -- a number ends in text
   text-ended : (N M : ℕ) (ns : List ℤ) (p : Number) (w : List ℕ) (b : ℕ) → blank b ≡ true → whole p ≡ true → Inside q (text N M) ns p w
-      → Before q (text N M) (ns ++ (numberRead p ∷ [])) (w ++ (b ∷ []))
+      → Before q (text N M) (ns ++ (number_read p ∷ [])) (w ++ (b ∷ []))
   text-ended N M ns p w b e z i =
       let t = i.before.1 in
-      let n = numberRead p in (
+      let n = number_read p in (
         i.before.0,
         record {
           small = t.small;
           body = (t.body ++ numeral n) ++ (b ∷ []);
-          lined = onto (firstLine N M) (t.body ++ numeral n) b (i.is ∙ ap (λ x. x ++ bytes p) t.lined ∙ ap (λ x. (firstLine N M ++ t.body) ++ x) (whole-bytes p z) ∙ append_assoc (firstLine N M) t.body (numeral n));
-          spaced = gap b (is_true (blank b) e) (number n t.spaced);
+          lined = onto (first_line N M) (t.body ++ numeral n) b (i.is ∙ ap (λ x. x ++ bytes p) t.lined ∙ ap (λ x. (first_line N M ++ t.body) ++ x) (whole-bytes p z) ∙ append_assoc (first_line N M) t.body (numeral n));
+          spaced = gap b (is_true_lem (blank b) e) (number n t.spaced);
           known = all_append (λ n. nat_abs n ≤ N) ns (n ∷ []) t.known (rw (value-size p) i.small, tt);
           room = more_room M ns n i.more;
         },
       )
 
   -- a literal ends in a reply, and a number may follow these bytes
-  reply-goes-on : (N : ℕ) (ns : List ℤ) (p : Number) (w u u' : List ℕ) → u ≡ u' ++ ascii " " → whole p ≡ true → (p.size ≡ 0 → ⊥) → Inside q (reply N) ns p w
-      → ((m n : ℤ) (t : List ℕ) → Values ns m t → Values (ns ++ (m ∷ [])) n (t ++ (u ++ numeral n))) → Before q (reply N) (ns ++ (numberRead p ∷ [])) (w ++ u)
-  reply-goes-on N ns p w u u' y z f i on =
+  reply_goes_on : (N : ℕ) (ns : List ℤ) (p : Number) (w u u' : List ℕ) → u ≡ u' ++ ascii " " → whole p ≡ true → (p.size ≡ 0 → ⊥) → Inside q (reply N) ns p w
+      → ((m n : ℤ) (t : List ℕ) → Values ns m t → Values (ns ++ (m ∷ [])) n (t ++ (u ++ numeral n))) → Before q (reply N) (ns ++ (number_read p ∷ [])) (w ++ u)
+  reply_goes_on N ns p w u u' y z f i on =
       let r = i.before.1 in
-      let n = numberRead p in
+      let n = number_read p in
       let v : List ℕ = r.values ++ numeral n in
       let size = value-size p in (
         i.before.0,
@@ -275,7 +275,7 @@ module _ (q : Which) (narrow : Narrow q) where
   reply-ended : (N : ℕ) (ns : List ℤ) (p : Number) (w : List ℕ) (b : ℕ) → b ≡ 10 → whole p ≡ true → p.size ≡ 0 → Inside q (reply N) ns p w → GoodReply N ns (w ++ (b ∷ []))
   reply-ended N ns p w b e z f i =
       let r = i.before.1 in
-      let value : numeral (numberRead p) ≡ numeral (pos 0) = ap numeral (zero-value (numberRead p) (value-size p ∙ f)) in
+      let value : numeral (number_read p) ≡ numeral (pos 0) = ap numeral (zero_value (number_read p) (value-size p ∙ f)) in
       record {
         values = r.values ++ numeral (pos 0);
         lined = onto (ascii "s SATISFIABLE\n") (r.values ++ numeral (pos 0)) b (i.is ∙ ap (λ x. x ++ bytes p) r.lined ∙ ap (λ x. (ascii "s SATISFIABLE\n" ++ r.values) ++ x) (whole-bytes p z ∙ value)
@@ -284,42 +284,42 @@ module _ (q : Which) (narrow : Narrow q) where
         literals = r.literals;
       }
     where
-      zero-value : (n : ℤ) → nat_abs n ≡ 0 → n ≡ pos 0
-      zero-value (pos zero) h = refl
-      zero-value (pos (suc v)) h = absurd (omega arith)
-      zero-value (negsuc v) h = absurd (omega arith)
+      zero_value : (n : ℤ) → nat_abs n ≡ 0 → n ≡ pos 0
+      zero_value (pos zero) h = refl
+      zero_value (pos (suc v)) h = absurd (omega arith)
+      zero_value (negsuc v) h = absurd (omega arith)
 
-  space-is : (b : ℕ) → blank b ≡ true → eqb b 10 ≡ false → b ≡ 32
-  space-is b e f = elim (cases (eqb b 32)) [ inl g ↦ eqb-true b 32 g | inr g ↦ absurd (let z : false ≡ true = rw (g, f) at e in let y : ◌≡◌ {A = ℕ} 0 1 = cc in omega arith) ]
+  space_is : (b : ℕ) → blank b ≡ true → eqb b 10 ≡ false → b ≡ 32
+  space_is b e f = elim (cases (eqb b 32)) [ inl g ↦ eqb-true b 32 g | inr g ↦ absurd (let z : false ≡ true = rw (g, f) at e in let y : ◌≡◌ {A = ℕ} 0 1 = cc in omega arith) ]
 
-  stops-kept : (k : Kind) (ns : List ℤ) (p : Number) (w : List ℕ) (b : ℕ) (s' : State) → blank b ≡ true → whole p ≡ true → Inside q k ns p w
+  stops_kept : (k : Kind) (ns : List ℤ) (p : Number) (w : List ℕ) (b : ℕ) (s' : State) → blank b ≡ true → whole p ≡ true → Inside q k ns p w
       → stops k ns p (length w) b ≡ done s' → Reached q s' (w ++ (b ∷ []))
-  stops-kept (text N M) ns p w b s' e z i h = subst (λ s. Reached q s (w ++ (b ∷ []))) (same h) (text-ended N M ns p w b e z i)
-  stops-kept (reply N) ns p w b s' e z i h = elim (cases (eqb p.size 0)) [
+  stops_kept (text N M) ns p w b s' e z i h = subst (λ s. Reached q s (w ++ (b ∷ []))) (same h) (text-ended N M ns p w b e z i)
+  stops_kept (reply N) ns p w b s' e z i h = elim (cases (eqb p.size 0)) [
     | inl f ↦ (let k = passed (length w) (eqb b 10) (done (over (model ns))) (rw f at h) in
         subst (λ s. Reached q s (w ++ (b ∷ []))) (same k.1) (N, (i.before.0, reply-ended N ns p w b (eqb-true b 10 k.0) z (eqb-true p.size 0 f) i)))
     | inr f ↦ elim (cases (eqb b 10)) [
-      | inl g ↦ (let r = reply-goes-on N ns p w (ascii "\nv ") (ascii "\nv") refl z (eqb-false p.size 0 f) i (λ m n t v. newLine n v) in
-          let y : awaits (ascii "v ") (atNumber (reply N) (ns ++ (numberRead p ∷ []))) ≡ s' = same (rw (f, g) at h) in
-          subst (λ s. Reached q s (w ++ (b ∷ []))) y (subst (Before q (reply N) (ns ++ (numberRead p ∷ []))) (snoc-assoc w (ascii "v ") b 10 (eqb-true b 10 g)) r))
-      | inr g ↦ (let r = reply-goes-on N ns p w (ascii " ") [] refl z (eqb-false p.size 0 f) i (λ m n t v. onLine n v) in
-          let y : atNumber (reply N) (ns ++ (numberRead p ∷ [])) ≡ s' = same (rw (f, g) at h) in
-          subst (λ s. Reached q s (w ++ (b ∷ []))) y (subst (λ c. Before q (reply N) (ns ++ (numberRead p ∷ [])) (w ++ (c ∷ []))) (sym (space-is b e g)) r))
+      | inl g ↦ (let r = reply_goes_on N ns p w (ascii "\nv ") (ascii "\nv") refl z (eqb-false p.size 0 f) i (λ m n t v. new_line n v) in
+          let y : awaits (ascii "v ") (at_number (reply N) (ns ++ (number_read p ∷ []))) ≡ s' = same (rw (f, g) at h) in
+          subst (λ s. Reached q s (w ++ (b ∷ []))) y (subst (Before q (reply N) (ns ++ (number_read p ∷ []))) (snoc_assoc w (ascii "v ") b 10 (eqb-true b 10 g)) r))
+      | inr g ↦ (let r = reply_goes_on N ns p w (ascii " ") [] refl z (eqb-false p.size 0 f) i (λ m n t v. on_line n v) in
+          let y : at_number (reply N) (ns ++ (number_read p ∷ [])) ≡ s' = same (rw (f, g) at h) in
+          subst (λ s. Reached q s (w ++ (b ∷ []))) y (subst (λ c. Before q (reply N) (ns ++ (number_read p ∷ [])) (w ++ (c ∷ []))) (sym (space_is b e g)) r))
     ]
   ]
 
-  pub narrow-head : (k : Kind) (ns : List ℤ) (w : List ℕ) → Before q k ns w → beyond k ≤ wide
-  narrow-head (text N M) ns w r = let m = r.1.small.0 in omega arith
-  narrow-head (reply N) ns w r = narrow N r.0
+  pub narrow_head : (k : Kind) (ns : List ℤ) (w : List ℕ) → Before q k ns w → beyond k ≤ wide
+  narrow_head (text N M) ns w r = let m = r.1.small.0 in omega arith
+  narrow_head (reply N) ns w r = narrow N r.0
 
-  grown-kept : (k : Kind) (ns : List ℤ) (p : Number) (w : List ℕ) (b : ℕ) (s' : State) → Inside q k ns p w
-      → (grown (beyond k) p (length w) b >>= λ p. done (inNumber k ns p)) ≡ done s' → Reached q s' (w ++ (b ∷ []))
-  grown-kept k ns p w b s' i h =
-      let m = made (grown (beyond k) p (length w) b) (λ p. done (inNumber k ns p)) h in
+  grown_kept : (k : Kind) (ns : List ℤ) (p : Number) (w : List ℕ) (b : ℕ) (s' : State) → Inside q k ns p w
+      → (grown (beyond k) p (length w) b >>= λ p. done (in_number k ns p)) ≡ done s' → Reached q s' (w ++ (b ∷ []))
+  grown_kept k ns p w b s' i h =
+      let m = made (grown (beyond k) p (length w) b) (λ p. done (in_number k ns p)) h in
       let f = passed (length w) (further p b) (need 18 p.start (leb (longer p b).size (beyond k)) >> done (longer p b)) m.1.0 in
       let g = passed p.start (leb (longer p b).size (beyond k)) (done (longer p b)) f.1 in
-      let wide-size : p.size ≤ wide = omega (arith, narrow-head k ns i.head i.before, i.small) in
-      subst (λ s. Reached q s (w ++ (b ∷ []))) (ap (inNumber k ns) (same g.1) ∙ same m.1.1)
+      let wide-size : p.size ≤ wide = omega (arith, narrow_head k ns i.head i.before, i.small) in
+      subst (λ s. Reached q s (w ++ (b ∷ []))) (ap (in_number k ns) (same g.1) ∙ same m.1.1)
       (record {
         head = i.head;
         before = i.before;
@@ -333,14 +333,14 @@ module _ (q : Which) (narrow : Narrow q) where
   pub kept : (s : State) (w : List ℕ) (b : ℕ) (s' : State) → Reached q s w → step s (length w) b ≡ done s' → Reached q s' (w ++ (b ∷ []))
   kept (word c cs s) w b s' r h =
       let k = passed (length w) (eqb b c) (done (awaits cs s)) h in
-      subst (λ s. Reached q s (w ++ (b ∷ []))) (same k.1) (awaited cs s (w ++ (b ∷ [])) (subst (Reached q s) (snoc-assoc w cs b c (eqb-true b c k.0)) r))
+      subst (λ s. Reached q s (w ++ (b ∷ []))) (same k.1) (awaited cs s (w ++ (b ∷ [])) (subst (Reached q s) (snoc_assoc w cs b c (eqb-true b c k.0)) r))
   kept (count c) w b s' r h =
-      let k = passed (length w) (digit b) (done (countOn c (b - 48))) h in
-      let d = digit-is b k.0 in
+      let k = passed (length w) (digit b) (done (count_on c (b - 48))) h in
+      let d = digit_is b k.0 in
       subst (λ s. Reached q s (w ++ (b ∷ []))) (same k.1) (r.0, (omega (arith, d.1), (w, (r.1, ap (λ x. w ++ x) (sym (decimal-first b k.0))))))
-  kept (countOn c v) w b s' r h = elim (cases (ltb 0 v && digit b)) [
+  kept (count_on c v) w b s' r h = elim (cases (ltb 0 v && digit b)) [
     | inl e ↦ (let l = both (ltb 0 v) (digit b) e in
-        let k = passed (length w) (leb (10 * v + (b - 48)) most) (done (countOn c (10 * v + (b - 48)))) (rw e at h) in
+        let k = passed (length w) (leb (10 * v + (b - 48)) most) (done (count_on c (10 * v + (b - 48)))) (rw e at h) in
         let x = r.1.1 in
         let m = r.1.0 in
         let more : decimal v ++ (b ∷ []) ≡ decimal (10 * v + (b - 48)) = sym (decimal-longer v b (ltb-true 0 v l.0) (omega arith) l.1) in
@@ -352,7 +352,7 @@ module _ (q : Which) (narrow : Narrow q) where
   ]
   kept (verdict N) w b s' r h = elim (cases (eqb b 85)) [
     | inl e ↦ subst (λ s. Reached q s (w ++ (b ∷ []))) (same (rw e at h)) (N, (r.0, ap (λ x. (x ++ (b ∷ [])) ++ ascii "NSATISFIABLE\n") r.1 ∙ ap (λ c. ascii "s " ++ (c ∷ ascii "NSATISFIABLE\n")) (eqb-true b 85 e)))
-    | inr e ↦ (let k = passed (length w) (eqb b 83) (done (awaits (ascii "ATISFIABLE\nv ") (atNumber (reply N) []))) (rw e at h) in
+    | inr e ↦ (let k = passed (length w) (eqb b 83) (done (awaits (ascii "ATISFIABLE\nv ") (at_number (reply N) []))) (rw e at h) in
         subst (λ s. Reached q s (w ++ (b ∷ []))) (same k.1) (
           r.0,
           record {
@@ -364,32 +364,32 @@ module _ (q : Which) (narrow : Narrow q) where
           },
         ))
   ]
-  kept (atNumber (text N M) ns) w b s' r h = elim (cases (blank b)) [
+  kept (at_number (text N M) ns) w b s' r h = elim (cases (blank b)) [
     | inl e ↦ (let t = r.1 in
         subst (λ s. Reached q s (w ++ (b ∷ []))) (same (rw e at h)) (
           r.0,
           record {
             small = t.small;
             body = t.body ++ (b ∷ []);
-            lined = onto (firstLine N M) t.body b t.lined;
-            spaced = gap b (is_true (blank b) e) t.spaced;
+            lined = onto (first_line N M) t.body b t.lined;
+            spaced = gap b (is_true_lem (blank b) e) t.spaced;
             known = t.known;
             room = t.room;
           },
         ))
-    | inr e ↦ (let k = passed (length w) (ltb (zeros ns) M) (begun N (length w) b >>= λ p. done (inNumber (text N M) ns p)) (rw e at h) in
+    | inr e ↦ (let k = passed (length w) (ltb (zeros ns) M) (begun N (length w) b >>= λ p. done (in_number (text N M) ns p)) (rw e at h) in
         begun_kept (text N M) ns w b s' r k.0 k.1)
   ]
-  kept (atNumber (reply N) ns) w b s' r h = begun_kept (reply N) ns w b s' r refl h
-  kept (inNumber k ns p) w b s' r h = elim (cases (blank b)) [
-    | inl e ↦ (let m = passed (length w) (whole p) (stops k ns p (length w) b) (rw e at h) in stops-kept k ns p w b s' e m.0 r m.1)
-    | inr e ↦ grown-kept k ns p w b s' r (rw e at h)
+  kept (at_number (reply N) ns) w b s' r h = begun_kept (reply N) ns w b s' r refl h
+  kept (in_number k ns p) w b s' r h = elim (cases (blank b)) [
+    | inl e ↦ (let m = passed (length w) (whole p) (stops k ns p (length w) b) (rw e at h) in stops_kept k ns p w b s' e m.0 r m.1)
+    | inr e ↦ grown_kept k ns p w b s' r (rw e at h)
   ]
   kept (over r') w b s' r h = never h
 
-  pub all-kept : (t : List ℕ) (s : State) (w : List ℕ) (s' : State) → Reached q s w → fed s (length w) t ≡ done s' → Reached q s' (w ++ t)
-  all-kept [] s w s' r h = subst (λ z. Reached q z (w ++ [])) (same h) (subst (Reached q s) (sym (append-nil w)) r)
-  all-kept (b ∷ t) s w s' r h =
+  pub all_kept : (t : List ℕ) (s : State) (w : List ℕ) (s' : State) → Reached q s w → fed s (length w) t ≡ done s' → Reached q s' (w ++ t)
+  all_kept [] s w s' r h = subst (λ z. Reached q z (w ++ [])) (same h) (subst (Reached q s) (sym (append-nil w)) r)
+  all_kept (b ∷ t) s w s' r h =
       let m = made (step s (length w) b) (λ s''. fed s'' (suc (length w)) t) h in
-      let on : fed m.0 (length (w ++ (b ∷ []))) t ≡ done s' = subst (λ k. fed m.0 k t ≡ done s') (longer-by-one w b) m.1.1 in
-      subst (Reached q s') (append_assoc w (b ∷ []) t) (all-kept t m.0 (w ++ (b ∷ [])) s' (kept s w b m.0 r m.1.0) on)
+      let on : fed m.0 (length (w ++ (b ∷ []))) t ≡ done s' = subst (λ k. fed m.0 k t ≡ done s') (longer_by_one w b) m.1.1 in
+      subst (Reached q s') (append_assoc w (b ∷ []) t) (all_kept t m.0 (w ++ (b ∷ [])) s' (kept s w b m.0 r m.1.0) on)

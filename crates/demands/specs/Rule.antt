@@ -7,22 +7,22 @@ use mathlib.Core.List.{List, [], ◌∷◌, map, zip_with, map-map}
 use Rattle.std.proofs.Math.Dec.{not_T}
 use Rattle.std.proofs.Math.IntN.{ℤ, pos}
 use Rattle.std.specs.Int.Signed.{le_z, lt_z}
-use Rattle.definitions.specs.Tools.{All, Any, floor, ceil, sumZ}
+use Rattle.definitions.specs.Tools.{All, Any, floor, ceil, sum_z}
 use Rattle.definitions.specs.Board.{Bounds, Term, Comparison}
-use Rattle.definitions.specs.Encoding.{Atom, SatLiteral, SatClause, order, minus, termBounds, least, tuplesOf, sharp, clausesUnder}
+use Rattle.definitions.specs.Encoding.{Atom, SatLiteral, SatClause, order, minus, term_bounds, least, tuples_of, sharp, clauses_under}
 use Rattle.definitions.specs.Meaning.{Assignment, satisfies, compares}
-use Rattle.laws.specs.Whole.{whole, add-law, mul-rises, mul-falls, ne-in, part-law}
+use Rattle.laws.specs.Whole.{whole, add_law, mul_rises, mul_falls, ne_in, part_law}
 use Rattle.laws.specs.Division.{below_floor, not-below-ceil, floor-within, ceil-within}
-use Rattle.laws.specs.Lists.{all-every, all-impl, all_map, map-all}
+use Rattle.laws.specs.Lists.{all_every, all_impl, all_map, map-all}
 use Rattle.demands.specs.Truth.{Holds, Satisfied, Tells}
 use Rattle.demands.specs.TupleRule.{Bounded, two-numbers, tuple-rule, low_sum}
 
 -- ---- linear expressions: α(e) under an assignment, and u(e); ℓ(e) is `least of e`
 abbrev pub value_at : Assignment → List Term → ℤ
-value_at αβ e = sumZ (map (λ t. t.coef *ℤ αβ.α t.var) e)
+value_at αβ e = sum_z (map (λ t. t.coef *ℤ αβ.α t.var) e)
 
 abbrev pub greatest : (ℕ → Bounds) → List Term → ℤ
-greatest of e = sumZ (map (λ t. (termBounds of t).hi) e)
+greatest of e = sum_z (map (λ t. (term_bounds of t).hi) e)
 
 -- the variable of a term has a value within its bounds
 abbrev pub InBounds : (ℕ → Bounds) → Assignment → Term → Type 0
@@ -30,15 +30,15 @@ InBounds of αβ t = ((of t.var).lo ≤ℤ αβ.α t.var) × (αβ.α t.var ≤�
 
 module _ (of : ℕ → Bounds) (αβ : Assignment) where
   abbrev Within : Term → Type 0
-  Within t = let v = t.coef *ℤ αβ.α t.var in ((termBounds of t).lo ≤ℤ v) × (v ≤ℤ (termBounds of t).hi)
+  Within t = let v = t.coef *ℤ αβ.α t.var in ((term_bounds of t).lo ≤ℤ v) × (v ≤ℤ (term_bounds of t).hi)
 
   term-within : (t : Term) → InBounds of αβ t → Within t
-  unfolding termBounds
+  unfolding term_bounds
   term-within t h = go (lt_z (pos 0) t.coef) refl
     where
       go : (s : Bool) → lt_z (pos 0) t.coef ≡ s → Within t
-      go true e = let p : pos 0 <ℤ t.coef = omega whole in rw e (mul-rises t.coef _ _ p h.0, mul-rises t.coef _ _ p h.1)
-      go false e = let p : t.coef ≤ℤ pos 0 = omega whole in rw e (mul-falls t.coef _ _ p h.1, mul-falls t.coef _ _ p h.0)
+      go true e = let p : pos 0 <ℤ t.coef = omega whole in rw e (mul_rises t.coef _ _ p h.0, mul_rises t.coef _ _ p h.1)
+      go false e = let p : t.coef ≤ℤ pos 0 = omega whole in rw e (mul_falls t.coef _ _ p h.1, mul_falls t.coef _ _ p h.0)
 
   sum-within : (e : List Term) → All (InBounds of αβ) e → (least of e ≤ℤ value_at αβ e) × (value_at αβ e ≤ℤ greatest of e)
   unfolding least
@@ -46,14 +46,14 @@ module _ (of : ℕ → Bounds) (αβ : Assignment) where
   sum-within (t ∷ e) h =
       let w = term-within t h.0 in
       let r = sum-within e h.1 in
-      let value = add-law (t.coef *ℤ αβ.α t.var) (value_at αβ e) in
-      (omega (whole, w.0, r.0, value, add-law (termBounds of t).lo (least of e)), omega (whole, w.1, r.1, value, add-law (termBounds of t).hi (greatest of e)))
+      let value = add_law (t.coef *ℤ αβ.α t.var) (value_at αβ e) in
+      (omega (whole, w.0, r.0, value, add_law (term_bounds of t).lo (least of e)), omega (whole, w.1, r.1, value, add_law (term_bounds of t).hi (greatest of e)))
 
   -- e + f ≤ c exactly if, for all a and b in their ranges with a + b = c - 1, e ≤ a or f ≤ b
-  pub lemma-1 : (e f : List Term) (c : ℤ) → All (InBounds of αβ) e → All (InBounds of αβ) f → (least of e +ℤ least of f) ≤ℤ c →
+  pub lemma_1 : (e f : List Term) (c : ℤ) → All (InBounds of αβ) e → All (InBounds of αβ) f → (least of e +ℤ least of f) ≤ℤ c →
       ((value_at αβ e +ℤ value_at αβ f) ≤ℤ c) ↔
       ((a b : ℤ) → a +ℤ b ≡ c -ℤ pos 1 → (least of e -ℤ pos 1) ≤ℤ a → a ≤ℤ greatest of e → (least of f -ℤ pos 1) ≤ℤ b → b ≤ℤ greatest of f → (value_at αβ e ≤ℤ a) ⊎ (value_at αβ f ≤ℤ b))
-  lemma-1 e f c h k =
+  lemma_1 e f c h k =
       let w = sum-within e h in
       let z = sum-within f k in
       two-numbers _ _ _ _ _ _ c w.0 w.1 z.0 z.1
@@ -71,10 +71,10 @@ module _ (of : ℕ → Bounds) (v : Atom → Bool) (a : Assignment) where
   True l = T (satisfies v l)
 
   abbrev Says : Term → Type 0
-  Says = Bounded (λ t. (termBounds of t).lo) (λ t. (termBounds of t).hi) value True sharp
+  Says = Bounded (λ t. (term_bounds of t).lo) (λ t. (term_bounds of t).hi) value True sharp
 
   says : (t : Term) → KnownTerm t → Says t
-  unfolding termBounds sharp satisfies
+  unfolding term_bounds sharp satisfies
   says t h = go (lt_z (pos 0) n) refl
     where
       n : ℤ
@@ -102,7 +102,7 @@ module _ (of : ℕ → Bounds) (v : Atom → Bool) (a : Assignment) where
                 rw e (λ k. w.1 (s.0 k), λ k. s.1 (w.0 k));
           }
       go false e =
-          let p : n <ℤ pos 0 = omega (whole, ne-in n (pos 0) h.0, part-law n) in
+          let p : n <ℤ pos 0 = omega (whole, ne_in n (pos 0) h.0, part_law n) in
           record {
             least = inside.0;
             most = inside.1;
@@ -115,53 +115,53 @@ module _ (of : ℕ → Bounds) (v : Atom → Bool) (a : Assignment) where
           }
 
   -- all clauses hold exactly if the comparison does
-  pub proposition-1 : (q : Comparison) → All KnownTerm q.terms → Satisfied v (clausesUnder [] of q) ↔ T (compares a q)
-  unfolding clausesUnder tuplesOf least compares
-  proposition-1 q h = go (le_z (least of ts) q.constant) refl
+  pub proposition_1 : (q : Comparison) → All KnownTerm q.terms → Satisfied v (clauses_under [] of q) ↔ T (compares a q)
+  unfolding clauses_under tuples_of least compares
+  proposition_1 q h = go (le_z (least of ts) q.constant) refl
     where
       ts : List Term
       ts = q.terms
 
       sum : ℤ
-      sum = sumZ (map value ts)
+      sum = sum_z (map value ts)
 
       said : All Says ts
-      said = all-impl KnownTerm Says says ts h
+      said = all_impl KnownTerm Says says ts h
 
-      go : (s : Bool) → le_z (least of ts) q.constant ≡ s → Satisfied v (clausesUnder [] of q) ↔ T (le_z sum q.constant)
+      go : (s : Bool) → le_z (least of ts) q.constant ≡ s → Satisfied v (clauses_under [] of q) ↔ T (le_z sum q.constant)
       go true e =
           let rule = tuple-rule _ _ value True sharp ts q.constant said (omega whole) in
           rw e (
-            λ s. (rule.0 (map-all (Any True) (zip_with sharp ts) (tuplesOf of q) s)).le,
-            λ s. all_map (Any True) (zip_with sharp ts) (tuplesOf of q) (rule.1 (record { le = s })),
+            λ s. (rule.0 (map-all (Any True) (zip_with sharp ts) (tuples_of of q) s)).le,
+            λ s. all_map (Any True) (zip_with sharp ts) (tuples_of of q) (rule.1 (record { le = s })),
           )
       go false e =
           let least = low_sum _ _ value True sharp ts said in
           rw e (λ s. absurd s.0, λ s. absurd (let k : sum ≤ℤ q.constant = record { le = s } in omega (whole, least)))
 
 -- ---- led by a negated selector: where that is true
-led-by : (l : SatLiteral) (of : ℕ → Bounds) (q : Comparison) → clausesUnder (l ∷ []) of q ≡ map (λ c. l ∷ c) (clausesUnder [] of q)
-unfolding clausesUnder
-led-by l of q = go (le_z (least of q.terms) q.constant) refl
+led_by : (l : SatLiteral) (of : ℕ → Bounds) (q : Comparison) → clauses_under (l ∷ []) of q ≡ map (λ c. l ∷ c) (clauses_under [] of q)
+unfolding clauses_under
+led_by l of q = go (le_z (least of q.terms) q.constant) refl
   where
-    go : (s : Bool) → le_z (least of q.terms) q.constant ≡ s → clausesUnder (l ∷ []) of q ≡ map (λ c. l ∷ c) (clausesUnder [] of q)
-    go true e = rw e (sym (map-map (λ c. l ∷ c) (zip_with sharp q.terms) (tuplesOf of q)))
+    go : (s : Bool) → le_z (least of q.terms) q.constant ≡ s → clauses_under (l ∷ []) of q ≡ map (λ c. l ∷ c) (clauses_under [] of q)
+    go true e = rw e (sym (map-map (λ c. l ∷ c) (zip_with sharp q.terms) (tuples_of of q)))
     go false e = rw e refl
 
-pub led : (of : ℕ → Bounds) (v : Atom → Bool) (j : Atom) (q : Comparison) → Satisfied v (clausesUnder (minus j ∷ []) of q) ↔ (T (v j) → Satisfied v (clausesUnder [] of q))
+pub led : (of : ℕ → Bounds) (v : Atom → Bool) (j : Atom) (q : Comparison) → Satisfied v (clauses_under (minus j ∷ []) of q) ↔ (T (v j) → Satisfied v (clauses_under [] of q))
 unfolding satisfies
-led of v j q = rw (led-by (minus j) of q) (to, λ f. all_map (Holds v) (λ c. minus j ∷ c) cs (from (v j) refl f))
+led of v j q = rw (led_by (minus j) of q) (to, λ f. all_map (Holds v) (λ c. minus j ∷ c) cs (from (v j) refl f))
   where
     cs : List SatClause
-    cs = clausesUnder [] of q
+    cs = clauses_under [] of q
 
     to : Satisfied v (map (λ c. minus j ∷ c) cs) → T (v j) → Satisfied v cs
-    to a t = all-impl (λ c. Holds v (minus j ∷ c)) (Holds v) past cs (map-all (Holds v) (λ c. minus j ∷ c) cs a)
+    to a t = all_impl (λ c. Holds v (minus j ∷ c)) (Holds v) past cs (map-all (Holds v) (λ c. minus j ∷ c) cs a)
       where
         past : (c : SatClause) → Holds v (minus j ∷ c) → Holds v c
         past c (inl n) = absurd (T_not (v j) n t)
         past c (inr k) = k
 
     from : (s : Bool) → v j ≡ s → (T s → Satisfied v cs) → All (λ c. Holds v (minus j ∷ c)) cs
-    from true e f = all-impl (Holds v) (λ c. Holds v (minus j ∷ c)) (λ c k. inr k) cs (f tt)
-    from false e f = all-every (λ c. Holds v (minus j ∷ c)) (λ c. inl (rw e tt)) cs
+    from true e f = all_impl (Holds v) (λ c. Holds v (minus j ∷ c)) (λ c k. inr k) cs (f tt)
+    from false e f = all_every (λ c. Holds v (minus j ∷ c)) (λ c. inl (rw e tt)) cs

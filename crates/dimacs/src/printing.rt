@@ -1,10 +1,10 @@
 // All that the program prints for a record, in a buffer.
 ghost use Rattle.std.specs.Prelude.{◌+◌, ◌*◌, ◌≤◌, length};
 ghost use Rattle.io.specs.Counts.{IsPrefixLen};
-ghost use Rattle.definitions.specs.Answers.{saidSizing};
+ghost use Rattle.definitions.specs.Answers.{said_sizing};
 ghost use Rattle.definitions.specs.Dimacs.{shown, printed};
 ghost use Rattle.text.specs.Puts.{Put};
-ghost use Rattle.dimacs.specs.Shown.{cnf, refusalLine, listed};
+ghost use Rattle.dimacs.specs.Shown.{cnf, refusal_line, listed};
 
 use answers::{detail_of, number_of};
 use compile::compile;
@@ -23,7 +23,7 @@ fn put_cnf(n: u64, m: u64, clauses: &[i32], out: &mut [u8]) -> usize
 
 fn put_refusal(r: Refusal, out: &mut [u8]) -> usize
     requires { 64 ≤ length out.old }
-    ensures { Put (refusalLine r) out.old result out.new }
+    ensures { Put (refusal_line r) out.old result out.new }
 {
     put_text_line(b"refused ", number_of(r), detail_of(r), out)
 }
@@ -31,7 +31,7 @@ fn put_refusal(r: Refusal, out: &mut [u8]) -> usize
 // The clauses stand in the first numbers of the list.
 fn put_shown(answer: Sizing, list: &[i32], out: &mut [u8]) -> usize
     requires { (listed answer ≤ length list.now) × (64 + 22 * length list.now ≤ length out.old) }
-    ensures { Put (shown (saidSizing answer) list.now) out.old result out.new }
+    ensures { Put (shown (said_sizing answer) list.now) out.old result out.new }
 {
     match answer {
         Sizing::Sizes { n, m, k } => put_cnf(n as u64, m as u64, &list[..k], out),

@@ -5,10 +5,10 @@ use Rattle.definitions.specs.Reading.{Got}
 use Rattle.fields.specs.declared.Unsigned.{Unsigned}
 use Rattle.fields.specs.declared.Signed.{Signed}
 
-abbrev pub saidUnsigned : ℕ → Unsigned → Result (Got ℕ)
-saidUnsigned at (Unsigned.Value value next) = done (record { value = value; next = next })
-saidUnsigned at Unsigned.Missing = refused 8 at
+abbrev pub said_unsigned : ℕ → Unsigned → Result (Got ℕ)
+said_unsigned at (Unsigned.Value value next) = done (record { value = value; next = next })
+said_unsigned at Unsigned.Missing = refused 8 at
 
-abbrev pub saidSigned : ℕ → Signed → Result (Got ℤ)
-saidSigned at (Signed.Value value next) = done (record { value = value; next = next })
-saidSigned at Signed.Missing = refused 8 at
+abbrev pub said_signed : ℕ → Signed → Result (Got ℤ)
+said_signed at (Signed.Value value next) = done (record { value = value; next = next })
+said_signed at Signed.Missing = refused 8 at

@@ -1,7 +1,7 @@
 // Big-endian numbers of 1 to 4 bytes at a place of a slice: unsigned, and as two's complement.
 ghost use Rattle.std.specs.Prelude.{◌≡◌, ◌+◌, ◌≤◌, ◌<◌, ◌^◌, length};
 ghost use Rattle.definitions.specs.Reading.{big, twos, unsigned, signed};
-ghost use Rattle.fields.specs.Said.{saidUnsigned, saidSigned};
+ghost use Rattle.fields.specs.Said.{said_unsigned, said_signed};
 
 // A field's value and the place after it, or that its bytes are not all there.
 #[derive(Drop)]
@@ -33,7 +33,7 @@ pub fn unchecked(bytes: &[u8], at: usize, width: usize) -> u32
 
 pub fn unsigned_at(bytes: &[u8], at: usize, width: usize) -> Unsigned
     requires { width ≤ 4 }
-    ensures { saidUnsigned at result ≡ unsigned width bytes.now at }
+    ensures { said_unsigned at result ≡ unsigned width bytes.now at }
 {
     if bytes.len() < at {
         return Unsigned::Missing;
@@ -82,7 +82,7 @@ pub fn unchecked_signed(bytes: &[u8], at: usize, width: usize) -> i32
 
 pub fn signed_at(bytes: &[u8], at: usize, width: usize) -> Signed
     requires { width ≤ 4 }
-    ensures { saidSigned at result ≡ signed width bytes.now at }
+    ensures { said_signed at result ≡ signed width bytes.now at }
 {
     let Unsigned::Value { value, next } = unsigned_at(bytes, at, width) else {
         return Signed::Missing;

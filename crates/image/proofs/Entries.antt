@@ -10,5 +10,5 @@ module _ (q o m : List ℕ) (i : ℕ) (e : m ≡ written (take i q) o) where
   pub put : (v : ℕ) → v ≡ get_or q i 0 → i < length q → i < length o → set m i v ≡ written (take (i + 1) q) o
   put v f hq ho = ap₂ (λ m v. set m i v) e f ∙ written-take 0 q o i hq ho
 
-  pub all-put : length q ≤ i → m ≡ written q o
-  all-put h = e ∙ ap (λ l. written l o) (take_all i q h)
+  pub all_put : length q ≤ i → m ≡ written q o
+  all_put h = e ∙ ap (λ l. written l o) (take_all i q h)

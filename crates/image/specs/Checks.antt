@@ -3,23 +3,23 @@ use Rattle.std.specs.Prelude.{◌≡◌, Bool, true, false, List, ℕ, length, �
 use Rattle.definitions.specs.Board.{Board}
 use Rattle.definitions.specs.Result.{Result, done, refused, ◌>>◌, need}
 use Rattle.definitions.specs.Encoding.{N}
-use Rattle.laws.specs.Boards.{boardOf}
+use Rattle.laws.specs.Boards.{board_of}
 use Rattle.opening.specs.declared.Header.{Header}
-use Rattle.opening.specs.Said.{headerOf}
+use Rattle.opening.specs.Said.{header_of}
 use Rattle.judge.specs.Suited.{Near}
 use Rattle.judge.specs.Checks.{Long, fitting, solving}
 
 -- 11, of the values, the Booleans and a model of length `lent`; 12, 14 and 13
 unfoldable pub imaging : Board → List ℤ → List ℕ → ℕ → Result (Unit {0})
 imaging B values booleans lent =
-    (fitting (headerOf B) values booleans >> need 11 (N B) (eqb lent (N B))) >> solving B values booleans
+    (fitting (header_of B) values booleans >> need 11 (N B) (eqb lent (N B))) >> solving B values booleans
 
-abbrev pub isDone : {A : Type 0} → Result A → Bool
-isDone (done a) = true
-isDone (refused n d) = false
+abbrev pub is_done : {A : Type 0} → Result A → Bool
+is_done (done a) = true
+is_done (refused n d) = false
 
 -- an accepted record, lists as long as it wants, values no greater than bounds are
 pub record Writable (s : List ℕ) (header : Header) (values : List ℤ) (booleans model : List ℕ) : Type 0 where
   pub lists : Long s header values booleans
   pub near : Near values
-  pub room : length model ≡ N (boardOf s)
+  pub room : length model ≡ N (board_of s)

@@ -2,13 +2,13 @@
 use Rattle.std.specs.Prelude.{◌≡◌, List, ℕ, ℤ}
 use Rattle.std.proofs.Common.{sym, ◌∙◌}
 use Rattle.definitions.specs.declared.Verdict.{Verdict}
-use Rattle.definitions.specs.Operations.{Image}
-use Rattle.definitions.specs.Answers.{saidVerdict}
-use Rattle.laws.specs.Outcomes.{one-verdict}
+use Rattle.definitions.specs.Operations.{image_outcome}
+use Rattle.definitions.specs.Answers.{said_verdict}
+use Rattle.laws.specs.Outcomes.{one_verdict}
 
 abbrev pub Allowed : List ℕ → List ℤ → List ℕ → List ℕ → Verdict → List ℕ → Type 0
-Allowed s values booleans model r left = (saidVerdict r ≡ (Image s values booleans model).answer) × (left ≡ (Image s values booleans model).left)
+Allowed s values booleans model r left = (said_verdict r ≡ (image_outcome s values booleans model).answer) × (left ≡ (image_outcome s values booleans model).left)
 
-pub one-outcome : (s : List ℕ) (values : List ℤ) (booleans model : List ℕ) (r r' : Verdict) (left left' : List ℕ)
+pub one_outcome : (s : List ℕ) (values : List ℤ) (booleans model : List ℕ) (r r' : Verdict) (left left' : List ℕ)
     → Allowed s values booleans model r left → Allowed s values booleans model r' left' → (r ≡ r') × (left ≡ left')
-one-outcome s values booleans model r r' left left' a a' = (one-verdict r r' (a.0 ∙ sym a'.0), a.1 ∙ sym a'.1)
+one_outcome s values booleans model r r' left left' a a' = (one_verdict r r' (a.0 ∙ sym a'.0), a.1 ∙ sym a'.1)

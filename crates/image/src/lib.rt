@@ -1,10 +1,10 @@
-// Image: the plain model of a solution.
+// image_outcome: the plain model of a solution.
 ghost use Rattle.std.specs.Prelude.{◌≡◌};
-ghost use Rattle.definitions.specs.Meaning.{assigned, plainModel};
-ghost use Rattle.definitions.specs.Answers.{saidVerdict};
-ghost use Rattle.laws.specs.Boards.{boardOf};
+ghost use Rattle.definitions.specs.Meaning.{assigned, plain_model};
+ghost use Rattle.definitions.specs.Answers.{said_verdict};
+ghost use Rattle.laws.specs.Boards.{board_of};
 ghost use Rattle.measure.specs.Told.{Measures};
-ghost use Rattle.image.specs.Checks.{imaging, isDone, Writable};
+ghost use Rattle.image.specs.Checks.{imaging, is_done, Writable};
 ghost use Rattle.image.specs.Outcome.{Allowed};
 
 use crate::parts::put_booleans;
@@ -29,7 +29,7 @@ fn checked(
     lent: usize,
 ) -> Verdict
     requires { Measures bytes.now header totals }
-    ensures { saidVerdict result ≡ imaging (boardOf bytes.now) values.now booleans.now lent }
+    ensures { said_verdict result ≡ imaging (board_of bytes.now) values.now booleans.now lent }
 {
     match lengths(header, values, booleans) {
         Verdict::Accepted => {
@@ -44,7 +44,7 @@ fn checked(
 }
 
 fn is_accepted(verdict: Verdict) -> bool
-    ensures { result ≡ isDone (saidVerdict verdict) }
+    ensures { result ≡ is_done (said_verdict verdict) }
 {
     match verdict {
         Verdict::Accepted => true,
@@ -55,7 +55,7 @@ fn is_accepted(verdict: Verdict) -> bool
 // Booleans, order variables, selectors, each into the part of the model that follows the bytes already written.
 fn put_model(bytes: &[u8], header: Header, values: &[i32], booleans: &[u8], model: &mut [u8])
     requires { Writable bytes.now header values.now booleans.now model.old }
-    ensures { model.new ≡ plainModel (boardOf bytes.now) (assigned values.now booleans.now) }
+    ensures { model.new ≡ plain_model (board_of bytes.now) (assigned values.now booleans.now) }
 {
     let orders = put_booleans(booleans, model);
     let selectors = orders + put_variables(bytes, values, &mut model[orders..]);

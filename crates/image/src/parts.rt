@@ -1,7 +1,7 @@
 // The plain model's bytes: of the Boolean variables, and of an integer variable's order variables.
 ghost use Rattle.std.specs.Prelude.{◌≡◌, ◌≤◌, nat_abs, length};
 ghost use Rattle.laws.specs.Written.{written};
-ghost use Rattle.image.specs.Parts.{bit, booleanBytes, orderFrom};
+ghost use Rattle.image.specs.Parts.{bit, boolean_bytes, order_from};
 
 pub fn bit(b: bool) -> u8
     ensures { result ≡ bit b }
@@ -11,7 +11,7 @@ pub fn bit(b: bool) -> u8
 
 pub fn put_booleans(booleans: &[u8], model: &mut [u8]) -> usize
     requires { length booleans.now ≤ length model.old }
-    ensures { (result ≡ length booleans.now) × (model.new ≡ written (booleanBytes booleans.now) model.old) }
+    ensures { (result ≡ length booleans.now) × (model.new ≡ written (boolean_bytes booleans.now) model.old) }
 {
     let mut i: usize = 0;
     while i < booleans.len() {
@@ -24,7 +24,7 @@ pub fn put_booleans(booleans: &[u8], model: &mut [u8]) -> usize
 // For so many c from lower - 1 on, whether the value is at most c.
 pub fn put_orders(value: i32, lower: i32, width: usize, model: &mut [u8]) -> usize
     requires { (nat_abs lower ≤ 4096) × (width ≤ 8193) × (width ≤ length model.old) }
-    ensures { (result ≡ width) × (model.new ≡ written (orderFrom value lower width) model.old) }
+    ensures { (result ≡ width) × (model.new ≡ written (order_from value lower width) model.old) }
 {
     let first = lower - 1;
     let mut i: usize = 0;

@@ -3,12 +3,12 @@ ghost use Rattle.std.specs.Prelude.{◌≡◌, [], ◌≤◌, length};
 ghost use Rattle.definitions.specs.Encoding.{selections};
 ghost use Rattle.definitions.specs.Meaning.{assigned};
 ghost use Rattle.judge.specs.Suited.{Near};
-ghost use Rattle.laws.specs.Boards.{boardOf};
+ghost use Rattle.laws.specs.Boards.{board_of};
 ghost use Rattle.laws.specs.Written.{written};
 ghost use Rattle.opening.specs.Headers.{Opened};
 ghost use Rattle.rules.specs.Cursors.{at_start};
-ghost use Rattle.image.specs.Parts.{selectorBytes};
-ghost use Rattle.image.specs.Selectors.{ledAt, Passing};
+ghost use Rattle.image.specs.Parts.{selector_bytes};
+ghost use Rattle.image.specs.Selectors.{led_at, Passing};
 
 use crate::parts::bit;
 use judge::literals::compares;
@@ -17,8 +17,8 @@ use rules::{Ahead, Piece, next_piece, start};
 
 // Of the pieces of the rules, a comparison under its selector has a byte.
 fn put_led(rules: &[u8], clauses: usize, values: &[i32], model: &mut [u8]) -> usize
-    requires { Passing rules.now values.now (at_start clauses) × Near values.now × (length (ledAt rules.now (at_start clauses)) ≤ length model.old) }
-    ensures { (result ≡ length (ledAt rules.now (at_start clauses))) × (model.new ≡ written (selectorBytes (assigned values.now []) (ledAt rules.now (at_start clauses))) model.old) }
+    requires { Passing rules.now values.now (at_start clauses) × Near values.now × (length (led_at rules.now (at_start clauses)) ≤ length model.old) }
+    ensures { (result ≡ length (led_at rules.now (at_start clauses))) × (model.new ≡ written (selector_bytes (assigned values.now []) (led_at rules.now (at_start clauses))) model.old) }
 {
     let mut at: usize = 0;
     let mut cursor = start(clauses);
@@ -55,8 +55,8 @@ fn put_led(rules: &[u8], clauses: usize, values: &[i32], model: &mut [u8]) -> us
 
 // The rules are the record's tail.
 pub fn put_selectors(bytes: &[u8], header: Header, values: &[i32], model: &mut [u8]) -> usize
-    requires { Opened bytes.now header × (length values.now ≡ length (boardOf bytes.now).bounds) × Near values.now × (length (selections (boardOf bytes.now)) ≤ length model.old) }
-    ensures { (result ≡ length (selections (boardOf bytes.now))) × (model.new ≡ written (selectorBytes (assigned values.now []) (selections (boardOf bytes.now))) model.old) }
+    requires { Opened bytes.now header × (length values.now ≡ length (board_of bytes.now).bounds) × Near values.now × (length (selections (board_of bytes.now)) ≤ length model.old) }
+    ensures { (result ≡ length (selections (board_of bytes.now))) × (model.new ≡ written (selector_bytes (assigned values.now []) (selections (board_of bytes.now))) model.old) }
 {
     let tail = header.rules;
     put_led(&bytes[tail..], header.clauses, values, model)

@@ -1,16 +1,16 @@
 // The order variables of all integer variables, one variable after another.
 ghost use Rattle.std.specs.Prelude.{◌≡◌, [], ◌≤◌, length};
 ghost use Rattle.definitions.specs.Meaning.{assigned};
-ghost use Rattle.laws.specs.Boards.{Opens, boardOf};
+ghost use Rattle.laws.specs.Boards.{Opens, board_of};
 ghost use Rattle.laws.specs.Written.{written};
-ghost use Rattle.image.specs.Variables.{ordersFrom};
+ghost use Rattle.image.specs.Variables.{orders_from};
 
 use crate::parts::put_orders;
 use slots::variables::{bounds_of, width_of};
 
 pub fn put_variables(bytes: &[u8], values: &[i32], model: &mut [u8]) -> usize
-    requires { Opens bytes.now × (length values.now ≡ length (boardOf bytes.now).bounds) × (length (ordersFrom (boardOf bytes.now) (assigned values.now []) 0) ≤ length model.old) }
-    ensures { (result ≡ length (ordersFrom (boardOf bytes.now) (assigned values.now []) 0)) × (model.new ≡ written (ordersFrom (boardOf bytes.now) (assigned values.now []) 0) model.old) }
+    requires { Opens bytes.now × (length values.now ≡ length (board_of bytes.now).bounds) × (length (orders_from (board_of bytes.now) (assigned values.now []) 0) ≤ length model.old) }
+    ensures { (result ≡ length (orders_from (board_of bytes.now) (assigned values.now []) 0)) × (model.new ≡ written (orders_from (board_of bytes.now) (assigned values.now []) 0) model.old) }
 {
     let mut x: usize = 0;
     let mut at: usize = 0;

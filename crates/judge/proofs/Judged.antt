@@ -1,4 +1,4 @@
--- Judge in the parts that the code has: the record, the lengths (refusal 11), the other checks. Assumes nothing.
+-- judge_outcome in the parts that the code has: the record, the lengths (refusal 11), the other checks. Assumes nothing.
 use mathlib.Core.Path.{◌≡◌, refl, ◌∙◌}
 use mathlib.Core.Logic.{◌≢◌}
 use mathlib.Core.Bool.{Bool, true, false}
@@ -12,23 +12,23 @@ use Rattle.definitions.specs.Tools.{any}
 use Rattle.definitions.specs.Board.{Board, variables}
 use Rattle.definitions.specs.Result.{Result, done, refused, ◌>>◌, need, each}
 use Rattle.definitions.specs.Result as result
-use Rattle.definitions.specs.Meaning.{assigned, inBounds, holds}
-use Rattle.definitions.specs.Operations.{accepted, long, bits, judged, Judge}
+use Rattle.definitions.specs.Meaning.{assigned, in_bounds, holds}
+use Rattle.definitions.specs.Operations.{accepted, long, bits, judged, judge_outcome}
 use Rattle.opening.specs.declared.Header.{Header}
-use Rattle.opening.specs.Said.{headerOf}
-use Rattle.opening.specs.Headers.{Opened, ints-is, bools-is}
+use Rattle.opening.specs.Said.{header_of}
+use Rattle.opening.specs.Headers.{Opened, ints_is, bools_is}
 use Rattle.laws.specs.Readings.{never}
 use Rattle.judge.specs.Checks.{Long, fitting, solving}
 
 -- ---- lengths
 module _ (header : Header) (values : List ℤ) (booleans : List ℕ) where
-  pub values-wrong : length values ≢ header.ints → refused 11 header.ints ≡ fitting header values booleans
+  pub values_wrong : length values ≢ header.ints → refused 11 header.ints ≡ fitting header values booleans
   unfolding fitting
-  values-wrong n = rw (ne_eqb (length values) header.ints n)
+  values_wrong n = rw (ne_eqb (length values) header.ints n)
 
-  pub booleans-wrong : length values ≡ header.ints → length booleans ≢ header.bools → refused 11 header.bools ≡ fitting header values booleans
+  pub booleans_wrong : length values ≡ header.ints → length booleans ≢ header.bools → refused 11 header.bools ≡ fitting header values booleans
   unfolding fitting
-  booleans-wrong e n = rw (eq-eqb (length values) header.ints e, ne_eqb (length booleans) header.bools n)
+  booleans_wrong e n = rw (eq-eqb (length values) header.ints e, ne_eqb (length booleans) header.bools n)
 
   pub both_long : length values ≡ header.ints → length booleans ≡ header.bools → done tt ≡ fitting header values booleans
   unfolding fitting
@@ -57,21 +57,21 @@ gather (done x) (done y) (done z) (done u) (done v) (refused n i) B = refl
 gather (done x) (done y) (done z) (done u) (done v) (done w) B = refl
 
 module _ (s : List ℕ) (values : List ℤ) (booleans : List ℕ) (also : Board → Result (Unit {0})) where
-  pub judged-is : (B : Board) → accepted s ≡ done B
-      → judged s values booleans also ≡ (((fitting (headerOf B) values booleans >> also B) >> solving B values booleans) >> done B)
+  pub judged_is : (B : Board) → accepted s ≡ done B
+      → judged s values booleans also ≡ (((fitting (header_of B) values booleans >> also B) >> solving B values booleans) >> done B)
   unfolding judged fitting solving
-  judged-is B e =
+  judged_is B e =
       let a = assigned values booleans in
-      rw e (gather (long (length B.bounds) values) (long B.bools booleans) (also B) (bits booleans) (each 14 0 (map (inBounds B a) (variables B))) (each 13 0 (map (any (holds a)) B.clauses)) B)
+      rw e (gather (long (length B.bounds) values) (long B.bools booleans) (also B) (bits booleans) (each 14 0 (map (in_bounds B a) (variables B))) (each 13 0 (map (any (holds a)) B.clauses)) B)
 
   pub not-judged : {n i : ℕ} → accepted s ≡ refused n i → judged s values booleans also ≡ refused n i
   unfolding judged
   not-judged e = rw e
 
-pub judge-is : (s : List ℕ) (values : List ℤ) (booleans : List ℕ) (B : Board) {p q : Result (Unit {0})} → accepted s ≡ done B
-    → fitting (headerOf B) values booleans ≡ p → solving B values booleans ≡ q → (p >> q) ≡ Judge s values booleans
-unfolding Judge
-judge-is s values booleans B {p} {q} e f g = rw (judged-is s values booleans (λ B. done tt) B e, f, g) (go p q)
+pub judge_is : (s : List ℕ) (values : List ℤ) (booleans : List ℕ) (B : Board) {p q : Result (Unit {0})} → accepted s ≡ done B
+    → fitting (header_of B) values booleans ≡ p → solving B values booleans ≡ q → (p >> q) ≡ judge_outcome s values booleans
+unfolding judge_outcome
+judge_is s values booleans B {p} {q} e f g = rw (judged_is s values booleans (λ B. done tt) B e, f, g) (go p q)
   where
     nothing : Result (Unit {0})
     nothing = done tt
@@ -81,12 +81,12 @@ judge-is s values booleans B {p} {q} e f g = rw (judged-is s values booleans (λ
     go (done x) (refused n i) = refl
     go (done x) (done y) = refl
 
-pub judge-not : (s : List ℕ) (values : List ℤ) (booleans : List ℕ) {n i : ℕ} → accepted s ≡ refused n i → refused n i ≡ Judge s values booleans
-unfolding Judge
+pub judge-not : (s : List ℕ) (values : List ℤ) (booleans : List ℕ) {n i : ℕ} → accepted s ≡ refused n i → refused n i ≡ judge_outcome s values booleans
+unfolding judge_outcome
 judge-not s values booleans e = rw (not-judged s values booleans (λ B. done tt) e)
 
 module _ (s : List ℕ) where
-  pub long-enough : (header : Header) (values : List ℤ) (booleans : List ℕ) → Opened s header → fitting header values booleans ≡ done tt → Long s header values booleans
-  long-enough header values booleans o f =
+  pub long_enough : (header : Header) (values : List ℤ) (booleans : List ℕ) → Opened s header → fitting header values booleans ≡ done tt → Long s header values booleans
+  long_enough header values booleans o f =
       let l = fitted header values booleans f in
-      record { opened = o; ints = l.0 ∙ ints-is o; bools = l.1 ∙ bools-is o }
+      record { opened = o; ints = l.0 ∙ ints_is o; bools = l.1 ∙ bools_is o }

@@ -3,17 +3,17 @@ use Rattle.std.specs.Prelude.{◌≡◌, List, map, ℕ, length, ℤ}
 use Rattle.definitions.specs.Tools.{any}
 use Rattle.definitions.specs.Board.{Board, variables}
 use Rattle.definitions.specs.Result.{Result, ◌>>◌, each}
-use Rattle.definitions.specs.Meaning.{assigned, inBounds, holds}
+use Rattle.definitions.specs.Meaning.{assigned, in_bounds, holds}
 use Rattle.definitions.specs.Operations.{long, bits}
-use Rattle.laws.specs.Boards.{boardOf}
+use Rattle.laws.specs.Boards.{board_of}
 use Rattle.opening.specs.declared.Header.{Header}
 use Rattle.opening.specs.Headers.{Opened}
 
 -- an accepted record, and lists as long as it wants
 pub record Long (s : List ℕ) (header : Header) (values : List ℤ) (booleans : List ℕ) : Type 0 where
   pub opened : Opened s header
-  pub ints : length values ≡ length (boardOf s).bounds
-  pub bools : length booleans ≡ (boardOf s).bools
+  pub ints : length values ≡ length (board_of s).bounds
+  pub bools : length booleans ≡ (board_of s).bools
 
 -- 11, for the values and for the Booleans
 unfoldable pub fitting : Header → List ℤ → List ℕ → Result (Unit {0})
@@ -22,5 +22,5 @@ fitting header values booleans = long header.ints values >> long header.bools bo
 -- 12, 14 and 13
 unfoldable pub solving : Board → List ℤ → List ℕ → Result (Unit {0})
 solving B values booleans =
-    bits booleans >> each 14 0 (map (inBounds B (assigned values booleans)) (variables B)) >>
+    bits booleans >> each 14 0 (map (in_bounds B (assigned values booleans)) (variables B)) >>
     each 13 0 (map (any (holds (assigned values booleans))) B.clauses)

@@ -2,12 +2,12 @@
 use Rattle.std.specs.Prelude.{◌≡◌, List, ℕ, ℤ}
 use Rattle.std.proofs.Common.{sym, ◌∙◌}
 use Rattle.definitions.specs.declared.Verdict.{Verdict}
-use Rattle.definitions.specs.Operations.{Judge}
-use Rattle.definitions.specs.Answers.{saidVerdict}
-use Rattle.laws.specs.Outcomes.{one-verdict}
+use Rattle.definitions.specs.Operations.{judge_outcome}
+use Rattle.definitions.specs.Answers.{said_verdict}
+use Rattle.laws.specs.Outcomes.{one_verdict}
 
 abbrev pub Allowed : List ℕ → List ℤ → List ℕ → Verdict → Type 0
-Allowed s values booleans r = saidVerdict r ≡ Judge s values booleans
+Allowed s values booleans r = said_verdict r ≡ judge_outcome s values booleans
 
-pub one-outcome : (s : List ℕ) (values : List ℤ) (booleans : List ℕ) (r r' : Verdict) → Allowed s values booleans r → Allowed s values booleans r' → r ≡ r'
-one-outcome s values booleans r r' a a' = one-verdict r r' (a ∙ sym a')
+pub one_outcome : (s : List ℕ) (values : List ℤ) (booleans : List ℕ) (r r' : Verdict) → Allowed s values booleans r → Allowed s values booleans r' → r ≡ r'
+one_outcome s values booleans r r' a a' = one_verdict r r' (a ∙ sym a')

@@ -3,9 +3,9 @@ ghost use Rattle.std.specs.Prelude.{◌≡◌, map};
 ghost use Rattle.definitions.specs.Tools.{any};
 ghost use Rattle.definitions.specs.Result.{each};
 ghost use Rattle.definitions.specs.Meaning.{assigned, holds};
-ghost use Rattle.definitions.specs.Answers.{saidVerdict};
-ghost use Rattle.laws.specs.Boards.{boardOf};
-ghost use Rattle.lent.specs.Said.{saidFound};
+ghost use Rattle.definitions.specs.Answers.{said_verdict};
+ghost use Rattle.laws.specs.Boards.{board_of};
+ghost use Rattle.lent.specs.Said.{said_found};
 ghost use Rattle.judge.specs.Suited.{Near};
 ghost use Rattle.judge.specs.Checks.{Long, fitting, solving};
 
@@ -17,7 +17,7 @@ use opening::Header;
 
 // Refusal 11 for the values and for the Booleans.
 pub fn lengths(header: Header, values: &[i32], booleans: &[u8]) -> Verdict
-    ensures { saidVerdict result ≡ fitting header values.now booleans.now }
+    ensures { said_verdict result ≡ fitting header values.now booleans.now }
 {
     let ints = header.ints;
     let bools = header.bools;
@@ -33,7 +33,7 @@ pub fn lengths(header: Header, values: &[i32], booleans: &[u8]) -> Verdict
 // The rules are the record's tail.
 fn first_broken(bytes: &[u8], header: Header, values: &[i32], booleans: &[u8]) -> Found
     requires { Long bytes.now header values.now booleans.now × Near values.now }
-    ensures { saidFound 13 result ≡ each 13 0 (map (any (holds (assigned values.now booleans.now))) (boardOf bytes.now).clauses) }
+    ensures { said_found 13 result ≡ each 13 0 (map (any (holds (assigned values.now booleans.now))) (board_of bytes.now).clauses) }
 {
     let at = header.rules;
     first_failing(&bytes[at..], values, booleans, header.clauses)
@@ -42,7 +42,7 @@ fn first_broken(bytes: &[u8], header: Header, values: &[i32], booleans: &[u8]) -
 // Refusals 12, 14 and 13: no sum is formed before every value is known to be within its bounds.
 pub fn solved(bytes: &[u8], header: Header, values: &[i32], booleans: &[u8]) -> Verdict
     requires { Long bytes.now header values.now booleans.now }
-    ensures { saidVerdict result ≡ solving (boardOf bytes.now) values.now booleans.now }
+    ensures { said_verdict result ≡ solving (board_of bytes.now) values.now booleans.now }
 {
     match first_bad_byte(booleans) {
         Found::At(index) => Verdict::Refused(Refusal::ByteWrong { index: index }),

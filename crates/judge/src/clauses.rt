@@ -2,13 +2,13 @@
 ghost use Rattle.std.specs.Prelude.{◌≡◌, map};
 ghost use Rattle.definitions.specs.Tools.{any};
 ghost use Rattle.definitions.specs.Result.{done, each};
-ghost use Rattle.definitions.specs.Reading.{times, readLiteral};
+ghost use Rattle.definitions.specs.Reading.{times, read_literal};
 ghost use Rattle.definitions.specs.Meaning.{assigned, holds};
-ghost use Rattle.laws.specs.Again.{literalsAt, clausesAt};
-ghost use Rattle.lent.specs.Said.{saidFound};
+ghost use Rattle.laws.specs.Again.{literals_at, clauses_at};
+ghost use Rattle.lent.specs.Said.{said_found};
 ghost use Rattle.rules.specs.Cursors.{Held, Sound, at_start};
 ghost use Rattle.judge.specs.Suited.{Suiting};
-ghost use Rattle.judge.specs.Clauses.{begun, holdsIn};
+ghost use Rattle.judge.specs.Clauses.{begun, holds_in};
 
 use crate::literals::{compares, holds};
 use lent::Found;
@@ -17,8 +17,8 @@ use rules::{Ahead, Piece, next_piece, start};
 
 // Whether one of n literals holds.
 fn any_holds(rules: &[u8], values: &[i32], booleans: &[u8], n: usize, at: usize) -> bool
-    requires { Suiting values.now booleans.now (λ ctx. times n (readLiteral ctx) rules.now at ≡ done (literalsAt rules.now n at)) }
-    ensures { result ≡ any (holds (assigned values.now booleans.now)) (literalsAt rules.now n at).value }
+    requires { Suiting values.now booleans.now (λ ctx. times n (read_literal ctx) rules.now at ≡ done (literals_at rules.now n at)) }
+    ensures { result ≡ any (holds (assigned values.now booleans.now)) (literals_at rules.now n at).value }
 {
     let mut place = at;
     let mut left = n;
@@ -37,7 +37,7 @@ fn any_holds(rules: &[u8], values: &[i32], booleans: &[u8], n: usize, at: usize)
 // Whether a piece's clause holds: a comparison under its selector belongs to its line, which was met before.
 fn piece_holds(rules: &[u8], values: &[i32], booleans: &[u8], piece: Piece) -> bool
     requires { Suiting values.now booleans.now (λ ctx. Held ctx rules.now piece) }
-    ensures { result ≡ holdsIn (assigned values.now booleans.now) rules.now piece }
+    ensures { result ≡ holds_in (assigned values.now booleans.now) rules.now piece }
 {
     match piece {
         Piece::Line {
@@ -78,7 +78,7 @@ fn clauses_in(piece: Piece) -> usize
 
 pub fn first_failing(rules: &[u8], values: &[i32], booleans: &[u8], clauses: usize) -> Found
     requires { Suiting values.now booleans.now (λ ctx. Sound ctx rules.now (at_start clauses)) }
-    ensures { saidFound 13 result ≡ each 13 0 (map (any (holds (assigned values.now booleans.now))) (clausesAt rules.now clauses 0).value) }
+    ensures { said_found 13 result ≡ each 13 0 (map (any (holds (assigned values.now booleans.now))) (clauses_at rules.now clauses 0).value) }
 {
     let mut number: usize = 0;
     let mut cursor = start(clauses);

@@ -3,9 +3,9 @@ ghost use Rattle.std.specs.Prelude.{◌≡◌, [], map, length};
 ghost use Rattle.definitions.specs.Tools.{within};
 ghost use Rattle.definitions.specs.Board.{variables};
 ghost use Rattle.definitions.specs.Result.{each};
-ghost use Rattle.definitions.specs.Meaning.{assigned, inBounds};
-ghost use Rattle.laws.specs.Boards.{Opens, boardOf};
-ghost use Rattle.lent.specs.Said.{saidFound};
+ghost use Rattle.definitions.specs.Meaning.{assigned, in_bounds};
+ghost use Rattle.laws.specs.Boards.{Opens, board_of};
+ghost use Rattle.lent.specs.Said.{said_found};
 
 use lent::Found;
 use slots::variables::bounds_of;
@@ -20,8 +20,8 @@ fn is_within(lower: i32, upper: i32, value: i32) -> bool
 }
 
 pub fn first_outside(bytes: &[u8], values: &[i32]) -> Found
-    requires { Opens bytes.now × (length values.now ≡ length (boardOf bytes.now).bounds) }
-    ensures { saidFound 14 result ≡ each 14 0 (map (inBounds (boardOf bytes.now) (assigned values.now [])) (variables (boardOf bytes.now))) }
+    requires { Opens bytes.now × (length values.now ≡ length (board_of bytes.now).bounds) }
+    ensures { said_found 14 result ≡ each 14 0 (map (in_bounds (board_of bytes.now) (assigned values.now [])) (variables (board_of bytes.now))) }
 {
     let mut x: usize = 0;
     while x < values.len() {

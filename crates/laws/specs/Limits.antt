@@ -3,21 +3,21 @@
 use Rattle.std.specs.Prelude.{ℕ, ◌^◌}
 
 -- how far a comparison's constant may lie above its least sum
-abbrev pub sumsLimit : ℕ
-sumsLimit = 2 ^ 21
+abbrev pub sums_limit : ℕ
+sums_limit = 2 ^ 21
 
 -- a comparison's tuples
-abbrev pub tuplesLimit : ℕ
-tuplesLimit = 2 ^ 41
+abbrev pub tuples_limit : ℕ
+tuples_limit = 2 ^ 41
 
 -- a board's selectors
-abbrev pub selectorsLimit : ℕ
-selectorsLimit = 300000
+abbrev pub selectors_limit : ℕ
+selectors_limit = 300000
 
 -- the first number of a variable, or of the selectors
-abbrev pub firstsLimit : ℕ
-firstsLimit = 10000000
+abbrev pub firsts_limit : ℕ
+firsts_limit = 10000000
 
 -- every variable's number, as a clause has it
-abbrev pub numbersLimit : ℕ
-numbersLimit = 20000000
+abbrev pub numbers_limit : ℕ
+numbers_limit = 20000000

@@ -10,7 +10,7 @@ use Rattle.definitions.specs.declared.Replied.{Replied}
 use Rattle.definitions.specs.Result.{Result, done, refused}
 use Rattle.definitions.specs.Operations.{Sizes}
 use Rattle.definitions.specs.Closing.{Earliest, found, none, unfinished}
-use Rattle.definitions.specs.Answers.{said, saidVerdict, saidSizing, saidHour, saidTexted, saidReplied}
+use Rattle.definitions.specs.Answers.{said, said_verdict, said_sizing, said_hour, said_texted, said_replied}
 
 -- a refusal's number and detail tell which it is; 20 and 21 are not given yet
 pub unsaid : ℕ × ℕ → Refusal
@@ -25,58 +25,58 @@ unsaid p =
     (replicate 2 Refusal.RecordTooLong ++ (Refusal.NoVariable d ∷ Refusal.RepliesLeft d ∷ [])))
     (p.0 - 1) Refusal.RecordTooLong
 
-pub unsaid-said : (r : Refusal) → unsaid (said r) ≡ r
+pub unsaid_said : (r : Refusal) → unsaid (said r) ≡ r
 unfolding unsaid
-unsaid-said Refusal.RecordTooLong = refl
-unsaid-said Refusal.LengthWrong = refl
-unsaid-said Refusal.VersionUnknown = refl
-unsaid-said (Refusal.CountWrong d) = refl
-unsaid-said (Refusal.BoundWrong d) = refl
-unsaid-said (Refusal.LiteralWrong d) = refl
-unsaid-said (Refusal.CoefficientWrong d) = refl
-unsaid-said (Refusal.EndWrong d) = refl
-unsaid-said Refusal.ListTooLong = refl
-unsaid-said (Refusal.ListTooShort d) = refl
-unsaid-said (Refusal.LentWrong d) = refl
-unsaid-said (Refusal.ByteWrong d) = refl
-unsaid-said (Refusal.ClauseFails d) = refl
-unsaid-said (Refusal.ValueOutside d) = refl
-unsaid-said (Refusal.VariableUnknown d) = refl
-unsaid-said (Refusal.VariableRepeated d) = refl
-unsaid-said (Refusal.ConstantWrong d) = refl
-unsaid-said (Refusal.TextWrong d) = refl
-unsaid-said (Refusal.VariableNotOnce d) = refl
-unsaid-said (Refusal.NoVariable d) = refl
-unsaid-said (Refusal.RepliesLeft d) = refl
+unsaid_said Refusal.RecordTooLong = refl
+unsaid_said Refusal.LengthWrong = refl
+unsaid_said Refusal.VersionUnknown = refl
+unsaid_said (Refusal.CountWrong d) = refl
+unsaid_said (Refusal.BoundWrong d) = refl
+unsaid_said (Refusal.LiteralWrong d) = refl
+unsaid_said (Refusal.CoefficientWrong d) = refl
+unsaid_said (Refusal.EndWrong d) = refl
+unsaid_said Refusal.ListTooLong = refl
+unsaid_said (Refusal.ListTooShort d) = refl
+unsaid_said (Refusal.LentWrong d) = refl
+unsaid_said (Refusal.ByteWrong d) = refl
+unsaid_said (Refusal.ClauseFails d) = refl
+unsaid_said (Refusal.ValueOutside d) = refl
+unsaid_said (Refusal.VariableUnknown d) = refl
+unsaid_said (Refusal.VariableRepeated d) = refl
+unsaid_said (Refusal.ConstantWrong d) = refl
+unsaid_said (Refusal.TextWrong d) = refl
+unsaid_said (Refusal.VariableNotOnce d) = refl
+unsaid_said (Refusal.NoVariable d) = refl
+unsaid_said (Refusal.RepliesLeft d) = refl
 
 -- what can be read back from its saying is told by it
 pub told : {A S : Type 0} (say : A → S) (back : S → A) → ((a : A) → back (say a) ≡ a) → (a b : A) → say a ≡ say b → a ≡ b
 told say back e a b h = sym (e a) ∙ ap back h ∙ e b
 
-pub one-verdict : (v v' : Verdict) → saidVerdict v ≡ saidVerdict v' → v ≡ v'
-one-verdict = told saidVerdict back is
+pub one_verdict : (v v' : Verdict) → said_verdict v ≡ said_verdict v' → v ≡ v'
+one_verdict = told said_verdict back is
   where
     back : Result (Unit {0}) → Verdict
     back (done a) = Verdict.Accepted
     back (refused n d) = Verdict.Refused (unsaid (n, d))
 
-    is : (v : Verdict) → back (saidVerdict v) ≡ v
+    is : (v : Verdict) → back (said_verdict v) ≡ v
     is Verdict.Accepted = refl
-    is (Verdict.Refused r) = ap Verdict.Refused (unsaid-said r)
+    is (Verdict.Refused r) = ap Verdict.Refused (unsaid_said r)
 
-pub one-sizing : (z z' : Sizing) → saidSizing z ≡ saidSizing z' → z ≡ z'
-one-sizing = told saidSizing back is
+pub one_sizing : (z z' : Sizing) → said_sizing z ≡ said_sizing z' → z ≡ z'
+one_sizing = told said_sizing back is
   where
     back : Result Sizes → Sizing
     back (done z) = Sizing.Sizes z.n z.m z.k
     back (refused n d) = Sizing.Unsized (unsaid (n, d))
 
-    is : (z : Sizing) → back (saidSizing z) ≡ z
+    is : (z : Sizing) → back (said_sizing z) ≡ z
     is (Sizing.Sizes n m k) = refl
-    is (Sizing.Unsized r) = ap Sizing.Unsized (unsaid-said r)
+    is (Sizing.Unsized r) = ap Sizing.Unsized (unsaid_said r)
 
-pub one-hour : (h h' : Hour) → saidHour h ≡ saidHour h' → h ≡ h'
-one-hour = told saidHour back is
+pub one_hour : (h h' : Hour) → said_hour h ≡ said_hour h' → h ≡ h'
+one_hour = told said_hour back is
   where
     back : Result Earliest → Hour
     back (done (found v)) = Hour.Found v
@@ -84,32 +84,32 @@ one-hour = told saidHour back is
     back (done (unfinished r question)) = Hour.Unfinished r.lo r.hi question
     back (refused n d) = Hour.Refused (unsaid (n, d))
 
-    is : (h : Hour) → back (saidHour h) ≡ h
+    is : (h : Hour) → back (said_hour h) ≡ h
     is (Hour.Found v) = refl
     is Hour.None = refl
     is (Hour.Unfinished low high question) = refl
-    is (Hour.Refused r) = ap Hour.Refused (unsaid-said r)
+    is (Hour.Refused r) = ap Hour.Refused (unsaid_said r)
 
-pub one-text : (r r' : Texted) → saidTexted r ≡ saidTexted r' → r ≡ r'
-one-text = told saidTexted back is
+pub one-text : (r r' : Texted) → said_texted r ≡ said_texted r' → r ≡ r'
+one-text = told said_texted back is
   where
     back : Result ℕ → Texted
     back (done n) = Texted.Length n
     back (refused n d) = Texted.Refused (unsaid (n, d))
 
-    is : (r : Texted) → back (saidTexted r) ≡ r
+    is : (r : Texted) → back (said_texted r) ≡ r
     is (Texted.Length n) = refl
-    is (Texted.Refused r) = ap Texted.Refused (unsaid-said r)
+    is (Texted.Refused r) = ap Texted.Refused (unsaid_said r)
 
-pub one-reply : (r r' : Replied) → saidReplied r ≡ saidReplied r' → r ≡ r'
-one-reply = told saidReplied back is
+pub one-reply : (r r' : Replied) → said_replied r ≡ said_replied r' → r ≡ r'
+one-reply = told said_replied back is
   where
     back : Result Bool → Replied
     back (done true) = Replied.Model
     back (done false) = Replied.None
     back (refused n d) = Replied.Refused (unsaid (n, d))
 
-    is : (r : Replied) → back (saidReplied r) ≡ r
+    is : (r : Replied) → back (said_replied r) ≡ r
     is Replied.Model = refl
     is Replied.None = refl
-    is (Replied.Refused r) = ap Replied.Refused (unsaid-said r)
+    is (Replied.Refused r) = ap Replied.Refused (unsaid_said r)

@@ -3,34 +3,34 @@ use Rattle.std.specs.Prelude.{◌≡◌, refl, ◌↔◌, Bool, true, false, ℕ
 use Rattle.std.proofs.Common.{sym, ◌∙◌, zero-add, mul-suc, arith, length-drop, leb→le, eqb→eq, le-leb, eq-eqb}
 use Rattle.std.proofs.Math.Path.{ap}
 use mathlib.Core.List.{List, [], ◌∷◌, map, flatten}
-use Rattle.definitions.specs.Tools.{countUp}
+use Rattle.definitions.specs.Tools.{count_up}
 use Rattle.definitions.specs.Board.{Bounds, Term, Comparison, Board, bounds_of}
 use Rattle.definitions.specs.Result.{Result, done, refused, need}
 use Rattle.definitions.specs.Result as result
-use Rattle.definitions.specs.Reading.{Got, Context, times, big, twos, readBounds, readComparison, readClause, read_body}
+use Rattle.definitions.specs.Reading.{Got, Context, times, big, twos, read_bounds, read_comparison, read_clause, read_body}
 use Rattle.definitions.specs.Encoding.{K}
-use Rattle.definitions.specs.Operations.{readBoard, accepted}
+use Rattle.definitions.specs.Operations.{read_board, accepted}
 use Rattle.laws.specs.Lists.{counted-at}
 use Rattle.laws.specs.Admitted.{Admitted, GoodComparison}
 use Rattle.laws.specs.Readings.{same, never, from_start}
-use Rattle.laws.specs.Spelling.{Field, several, integer, Stand, none, more, append-stand, stand-onward, stand-span, span, boundsFields, termFields, comparisonFields, bodyFields}
+use Rattle.laws.specs.Spelling.{Field, several, integer, Stand, none, more, append_stand, stand_onward, stand_span, span, bounds_fields, term_fields, comparison_fields, body_fields}
 use Rattle.laws.specs.Grammar.{spelt, finds, found, reads_times}
-use Rattle.laws.specs.Reads.{reads-bounds, reads-comparison, reads-clause, reads-body}
+use Rattle.laws.specs.Reads.{reads_bounds, reads_comparison, reads-clause, reads-body}
 
 -- the one version, and where its variable table begins
-abbrev pub theVersion : ℕ
-theVersion = 1
+abbrev pub the_version : ℕ
+the_version = 1
 
-abbrev pub tableStart : ℕ
-tableStart = 11
+abbrev pub table_start : ℕ
+table_start = 11
 
 -- ---- the record around its body
 pub record Wrapped (s : List ℕ) (B : Board) : Type 0 where
   pub short : length s ≤ 65536
   pub head : 5 ≤ length s
-  pub version : get_or s 0 0 ≡ theVersion
+  pub version : get_or s 0 0 ≡ the_version
   pub stated : big s 1 4 ≡ length s - 5
-  pub body : read_body theVersion s 5 ≡ finds B (length s)
+  pub body : read_body the_version s 5 ≡ finds B (length s)
 
 met : {A : Type 0} {a : A} (n d : ℕ) (t : Bool) (m : Result A) → result.◌>>◌ (need n d t) m ≡ done a → T t × (m ≡ done a)
 met n d true m e = (tt, e)
@@ -43,14 +43,14 @@ ended s B (done g) e =
     rw (← same t.1, ← eqb→eq g.next (length s) t.0)
 ended s B (refused n d) e = never e
 
-pub wrapped : (s : List ℕ) (B : Board) → readBoard s ≡ done B → Wrapped s B
-unfolding readBoard
+pub wrapped : (s : List ℕ) (B : Board) → read_board s ≡ done B → Wrapped s B
+unfolding read_board
 wrapped s B e =
     let a = met 1 0 (leb (length s) 65536) _ e in
     let b = met 2 0 (leb 5 (length s)) _ a.1 in
-    let c = met 3 0 (eqb (get_or s 0 0) theVersion) _ b.1 in
+    let c = met 3 0 (eqb (get_or s 0 0) the_version) _ b.1 in
     let d = met 2 0 (eqb (big s 1 4) (length s - 5)) _ c.1 in
-    let one : get_or s 0 0 ≡ theVersion = eqb→eq (get_or s 0 0) theVersion c.0 in
+    let one : get_or s 0 0 ≡ the_version = eqb→eq (get_or s 0 0) the_version c.0 in
     record {
       short = leb→le (length s) 65536 a.0;
       head = leb→le 5 (length s) b.0;
@@ -59,18 +59,18 @@ wrapped s B e =
       body = rw (← one) (ended s B (read_body (get_or s 0 0) s 5) d.1);
     }
 
-pub unwrapped : (s : List ℕ) (B : Board) → Wrapped s B → readBoard s ≡ done B
-unfolding readBoard
+pub unwrapped : (s : List ℕ) (B : Board) → Wrapped s B → read_board s ≡ done B
+unfolding read_board
 unwrapped s B w = rw (le-leb (length s) 65536 w.short, le-leb 5 (length s) w.head, w.version, eq-eqb (big s 1 4) (length s - 5) w.stated, w.body, eq-eqb (length s) (length s) refl)
 
 -- the board is good, and its fields stand after the first 5 bytes
-pub body-read : (s : List ℕ) (B : Board) → readBoard s ≡ done B → Admitted B × Stand s 5 (bodyFields B) (length s)
-body-read s B e = found ((reads-body theVersion).told s 5 B (length s) (wrapped s B e).body)
+pub body-read : (s : List ℕ) (B : Board) → read_board s ≡ done B → Admitted B × Stand s 5 (body_fields B) (length s)
+body-read s B e = found ((reads-body the_version).told s 5 B (length s) (wrapped s B e).body)
 
 -- all operations' checks
-pub accepted-parts : (s : List ℕ) (B : Board) → (accepted s ≡ done B) ↔ ((readBoard s ≡ done B) × (K B ≤ 2000000000))
+pub accepted-parts : (s : List ℕ) (B : Board) → (accepted s ≡ done B) ↔ ((read_board s ≡ done B) × (K B ≤ 2000000000))
 unfolding accepted
-accepted-parts s B = (to (readBoard s), λ h. rw (h.0, le-leb (K B) 2000000000 h.1))
+accepted-parts s B = (to (read_board s), λ h. rw (h.0, le-leb (K B) 2000000000 h.1))
   where
     to : (m : Result Board) → result.◌>>=◌ m (λ C. result.◌>>◌ (need 9 0 (leb (K C) 2000000000)) (done C)) ≡ done B → (m ≡ done B) × (K B ≤ 2000000000)
     to (done C) e =
@@ -81,12 +81,12 @@ accepted-parts s B = (to (readBoard s), λ h. rw (h.0, le-leb (K B) 2000000000 h
 -- ---- n parts of k bytes, one after another
 module _ {A : Type 0} (f : ℕ → A) (k : ℕ) where
   abbrev pub row : ℕ → ℕ → List A
-  row at n = map (λ i. f (at + k * i)) (countUp 0 n)
+  row at n = map (λ i. f (at + k * i)) (count_up 0 n)
 
   further : (at i : ℕ) → at + k * suc i ≡ at + k + k * i
   further at i = omega (arith, mul-suc k i)
 
-  shift : (at i n : ℕ) → map (λ j. f (at + k * j)) (countUp (suc i) n) ≡ map (λ j. f (at + k + k * j)) (countUp i n)
+  shift : (at i n : ℕ) → map (λ j. f (at + k * j)) (count_up (suc i) n) ≡ map (λ j. f (at + k + k * j)) (count_up i n)
   shift at i zero = refl
   shift at i (suc n) = rw (further at i, shift at (suc i) n)
 
@@ -99,44 +99,44 @@ module _ {A : Type 0} (f : ℕ → A) (k : ℕ) where
   row_at d at n i h = rw zero-add at (counted-at (λ i. f (at + k * i)) d 0 n i h)
 
   module _ (w : A → List Field) (s : List ℕ) (one : (at end : ℕ) (a : A) → Stand s at (w a) end → (a ≡ f at) × (end ≡ at + k)) where
-    pub stand-row : (at end : ℕ) (l : List A) → Stand s at (several w l) end → (l ≡ row at (length l)) × (end ≡ at + k * length l)
+    pub stand_row : (at end : ℕ) (l : List A) → Stand s at (several w l) end → (l ≡ row at (length l)) × (end ≡ at + k * length l)
     unfolding flatten
-    stand-row at end [] none = (refl, omega arith)
-    stand-row at end (a ∷ l) p =
-        let d = append-stand (w a) (several w l) p in
+    stand_row at end [] none = (refl, omega arith)
+    stand_row at end (a ∷ l) p =
+        let d = append_stand (w a) (several w l) p in
         let h = one at d.mid a d.front in
-        let q = stand-row d.mid end l d.back in
+        let q = stand_row d.mid end l d.back in
         (rw (row_cons, ← h.0, ← h.1) (ap (λ z. a ∷ z) q.0), omega (arith, h.1, q.1, further at (length l)))
 
-abbrev pub boundsAt : List ℕ → ℕ → Bounds
-boundsAt s at = record { lo = twos 2 (big s at 2); hi = twos 2 (big s (at + 2) 2) }
+abbrev pub bounds_at : List ℕ → ℕ → Bounds
+bounds_at s at = record { lo = twos 2 (big s at 2); hi = twos 2 (big s (at + 2) 2) }
 
-abbrev pub termAt : List ℕ → ℕ → Term
-termAt s at = record { coef = twos 1 (big s at 1); var = big s (at + 1) 2 }
+abbrev pub term_at : List ℕ → ℕ → Term
+term_at s at = record { coef = twos 1 (big s at 1); var = big s (at + 1) 2 }
 
-one-bounds : (s : List ℕ) (at end : ℕ) (b : Bounds) → Stand s at (boundsFields b) end → (b ≡ boundsAt s at) × (end ≡ at + 4)
-one-bounds s at end b (more h l (more h' u none)) = (rw (l, u), omega arith)
+one_bounds : (s : List ℕ) (at end : ℕ) (b : Bounds) → Stand s at (bounds_fields b) end → (b ≡ bounds_at s at) × (end ≡ at + 4)
+one_bounds s at end b (more h l (more h' u none)) = (rw (l, u), omega arith)
 
-one-term : (s : List ℕ) (at end : ℕ) (t : Term) → Stand s at (termFields t) end → (t ≡ termAt s at) × (end ≡ at + 3)
+one-term : (s : List ℕ) (at end : ℕ) (t : Term) → Stand s at (term_fields t) end → (t ≡ term_at s at) × (end ≡ at + 3)
 one-term s at end t (more h a (more h' x none)) = (rw (a, x), omega arith)
 
 -- ---- a comparison
 -- the terms of the comparison at a place
-unfoldable pub termsAt : List ℕ → ℕ → List Term
-termsAt s at = row (termAt s) 3 (at + 1) (big s at 1)
+unfoldable pub terms_at : List ℕ → ℕ → List Term
+terms_at s at = row (term_at s) 3 (at + 1) (big s at 1)
 
 -- the comparison whose term count stands at a place, its constant known
-abbrev pub comparisonAt : List ℕ → ℕ → ℤ → Comparison
-comparisonAt s at constant = record { terms = termsAt s at; constant = constant }
+abbrev pub comparison_at : List ℕ → ℕ → ℤ → Comparison
+comparison_at s at constant = record { terms = terms_at s at; constant = constant }
 
 -- its constant, which stands behind the terms
-abbrev pub constantAt : List ℕ → ℕ → ℤ
-constantAt s at = twos 4 (big s (at + 1 + 3 * big s at 1) 4)
+abbrev pub constant_at : List ℕ → ℕ → ℤ
+constant_at s at = twos 4 (big s (at + 1 + 3 * big s at 1) 4)
 
 pub record ComparisonRead (s : List ℕ) (at : ℕ) (q : Comparison) (end : ℕ) : Type 0 where
   pub few : big s at 1 ≤ 3
-  pub terms : q.terms ≡ termsAt s at
-  pub constant : q.constant ≡ constantAt s at
+  pub terms : q.terms ≡ terms_at s at
+  pub constant : q.constant ≡ constant_at s at
   pub next : end ≡ at + 5 + 3 * big s at 1
   pub room : end ≤ length s
 
@@ -148,65 +148,65 @@ pub record TermsStand (s : List ℕ) (place : ℕ) : Type 0 where
 -- they make a good comparison with a constant that is known
 pub record Stands (ints : ℕ) (s : List ℕ) (place : ℕ) (constant : ℤ) : Type 0 where
   pub terms : TermsStand s place
-  pub good : GoodComparison ints (comparisonAt s place constant)
+  pub good : GoodComparison ints (comparison_at s place constant)
 
 module _ (ints : ℕ) (s : List ℕ) (at : ℕ) (q : Comparison) where
-  comparison-end : (mid end : ℕ) → GoodComparison ints q → big s at 1 ≡ length q.terms → q.terms ≡ row (termAt s) 3 (at + 1) (length q.terms)
+  comparison_end : (mid end : ℕ) → GoodComparison ints q → big s at 1 ≡ length q.terms → q.terms ≡ row (term_at s) 3 (at + 1) (length q.terms)
       → mid ≡ at + 1 + 3 * length q.terms → Stand s mid (integer 4 q.constant ∷ []) end → ComparisonRead s at q end
-  unfolding termsAt
-  comparison-end mid end g n t m (more h k none) = record {
+  unfolding terms_at
+  comparison_end mid end g n t m (more h k none) = record {
     few = omega (arith, n, g.few);
-    terms = t ∙ ap (row (termAt s) 3 (at + 1)) (sym n);
+    terms = t ∙ ap (row (term_at s) 3 (at + 1)) (sym n);
     constant = rw (n, ← m) (sym k);
     next = omega (arith, n);
     room = h;
   }
 
-  pub comparison-stand : (end : ℕ) → GoodComparison ints q → Stand s at (comparisonFields q) end → ComparisonRead s at q end
-  comparison-stand end g (more h n p) =
-      let d = append-stand (several termFields q.terms) _ p in
-      let r = stand-row (termAt s) 3 termFields s (one-term s) (at + 1) d.mid q.terms d.front in
-      comparison-end d.mid end g n r.0 r.1 d.back
+  pub comparison_stand : (end : ℕ) → GoodComparison ints q → Stand s at (comparison_fields q) end → ComparisonRead s at q end
+  comparison_stand end g (more h n p) =
+      let d = append_stand (several term_fields q.terms) _ p in
+      let r = stand_row (term_at s) 3 term_fields s (one-term s) (at + 1) d.mid q.terms d.front in
+      comparison_end d.mid end g n r.0 r.1 d.back
 
-pub comparison-read : (ctx : Context) (s : List ℕ) (at : ℕ) (g : Got Comparison) → readComparison ctx s at ≡ done g → ComparisonRead s at g.value g.next
-comparison-read ctx s at g e =
-    let d = found ((reads-comparison ctx).told s at g.value g.next e) in
-    comparison-stand ctx.ints s at g.value g.next d.0 d.1
+pub comparison_read : (ctx : Context) (s : List ℕ) (at : ℕ) (g : Got Comparison) → read_comparison ctx s at ≡ done g → ComparisonRead s at g.value g.next
+comparison_read ctx s at g e =
+    let d = found ((reads_comparison ctx).told s at g.value g.next e) in
+    comparison_stand ctx.ints s at g.value g.next d.0 d.1
 
 -- ---- the board
 -- the variable table has 4 bytes for each variable
-pub table-read : (n : ℕ) (s : List ℕ) (at end : ℕ) (bs : List Bounds) → times n readBounds s at ≡ finds bs end → (length bs ≡ n) × (end ≡ at + 4 * length bs)
+pub table-read : (n : ℕ) (s : List ℕ) (at end : ℕ) (bs : List Bounds) → times n read_bounds s at ≡ finds bs end → (length bs ≡ n) × (end ≡ at + 4 * length bs)
 table-read n s at end bs e =
-    let d = found ((reads_times reads-bounds n).told s at bs end e) in
-    (d.0.0, (stand-row (boundsAt s) 4 boundsFields s (one-bounds s) at end bs d.1).1)
+    let d = found ((reads_times reads_bounds n).told s at bs end e) in
+    (d.0.0, (stand_row (bounds_at s) 4 bounds_fields s (one_bounds s) at end bs d.1).1)
 
 abbrev pub context_of : Board → Context
-context_of B = record { version = theVersion; ints = length B.bounds; bools = B.bools }
+context_of B = record { version = the_version; ints = length B.bounds; bools = B.bools }
 
 -- where the variable table ends
 abbrev pub table_end : Board → ℕ
-table_end B = tableStart + 4 * length B.bounds
+table_end B = table_start + 4 * length B.bounds
 
 pub record BoardRead (s : List ℕ) (B : Board) : Type 0 where
   pub ints : length B.bounds ≡ big s 5 2
   pub bools : B.bools ≡ big s 7 2
   pub rules : length B.clauses ≡ big s 9 2
   pub room : table_end B ≤ length s
-  pub bounds : (x : ℕ) → x < length B.bounds → bounds_of B x ≡ boundsAt s (tableStart + 4 * x)
-  pub clauses : times (length B.clauses) (readClause (context_of B)) (drop (table_end B) s) 0 ≡ finds B.clauses (length (drop (table_end B) s))
+  pub bounds : (x : ℕ) → x < length B.bounds → bounds_of B x ≡ bounds_at s (table_start + 4 * x)
+  pub clauses : times (length B.clauses) (read_clause (context_of B)) (drop (table_end B) s) 0 ≡ finds B.clauses (length (drop (table_end B) s))
 
-bounds-read : (s : List ℕ) (B : Board) → B.bounds ≡ row (boundsAt s) 4 tableStart (length B.bounds) → (x : ℕ) → x < length B.bounds → bounds_of B x ≡ boundsAt s (tableStart + 4 * x)
+bounds_read_lem : (s : List ℕ) (B : Board) → B.bounds ≡ row (bounds_at s) 4 table_start (length B.bounds) → (x : ℕ) → x < length B.bounds → bounds_of B x ≡ bounds_at s (table_start + 4 * x)
 unfolding bounds_of
-bounds-read s B e x h = ap (λ bs. get_or bs x zeros) e ∙ row_at (boundsAt s) 4 zeros tableStart (length B.bounds) x h
+bounds_read_lem s B e x h = ap (λ bs. get_or bs x zeros) e ∙ row_at (bounds_at s) 4 zeros table_start (length B.bounds) x h
   where
     zeros : Bounds
     zeros = record { lo = pos 0; hi = pos 0 }
 
-board-stand : (s : List ℕ) (B : Board) (end : ℕ) → end ≡ length s → Admitted B → Stand s 5 (bodyFields B) end → BoardRead s B
-board-stand s B end e g (more h v (more h' m (more h'' c p))) =
-    let d = append-stand (several boundsFields B.bounds) _ p in
-    let r = stand-row (boundsAt s) 4 boundsFields s (one-bounds s) tableStart d.mid B.bounds d.front in
-    let i : table_end B ≤ length s = omega (arith, stand-onward d.back) in
+board_stand : (s : List ℕ) (B : Board) (end : ℕ) → end ≡ length s → Admitted B → Stand s 5 (body_fields B) end → BoardRead s B
+board_stand s B end e g (more h v (more h' m (more h'' c p))) =
+    let d = append_stand (several bounds_fields B.bounds) _ p in
+    let r = stand_row (bounds_at s) 4 bounds_fields s (one_bounds s) table_start d.mid B.bounds d.front in
+    let i : table_end B ≤ length s = omega (arith, stand_onward d.back) in
     let c' = reads_times (reads-clause (context_of B)) (length B.clauses) in
     let k = c'.read s d.mid B.clauses end _ (spelt (refl, g.clauses)) d.back in
     record {
@@ -214,25 +214,25 @@ board-stand s B end e g (more h v (more h' m (more h'' c p))) =
       bools = sym m;
       rules = sym c;
       room = i;
-      bounds = bounds-read s B r.0;
+      bounds = bounds_read_lem s B r.0;
       clauses = rw (length-drop, ← e) (from_start c'.orderly s (table_end B) i (rw r.1 at k));
     }
 
-pub reading-admitted : (s : List ℕ) (B : Board) → readBoard s ≡ done B → Admitted B
-reading-admitted s B e = (body-read s B e).0
+pub reading_admitted : (s : List ℕ) (B : Board) → read_board s ≡ done B → Admitted B
+reading_admitted s B e = (body-read s B e).0
 
 -- the board of a record: its fields take no more bytes than a record has
 pub record Recorded (B : Board) : Type 0 where
   pub admitted : Admitted B
-  pub short : span (bodyFields B) ≤ 65536
+  pub short : span (body_fields B) ≤ 65536
 
-pub reading-recorded : (s : List ℕ) (B : Board) → readBoard s ≡ done B → Recorded B
-reading-recorded s B e =
+pub reading_recorded : (s : List ℕ) (B : Board) → read_board s ≡ done B → Recorded B
+reading_recorded s B e =
     let b = body-read s B e in
-    record { admitted = b.0; short = omega (arith, stand-span b.1, (wrapped s B e).short) }
+    record { admitted = b.0; short = omega (arith, stand_span b.1, (wrapped s B e).short) }
 
-pub accepted-admitted : (s : List ℕ) (B : Board) → accepted s ≡ done B → Admitted B
-accepted-admitted s B e = reading-admitted s B ((accepted-parts s B).0 e).0
+pub accepted_admitted : (s : List ℕ) (B : Board) → accepted s ≡ done B → Admitted B
+accepted_admitted s B e = reading_admitted s B ((accepted-parts s B).0 e).0
 
-pub board-read : (s : List ℕ) (B : Board) → readBoard s ≡ done B → BoardRead s B
-board-read s B e = board-stand s B (length s) refl (body-read s B e).0 (body-read s B e).1
+pub board-read : (s : List ℕ) (B : Board) → read_board s ≡ done B → BoardRead s B
+board-read s B e = board_stand s B (length s) refl (body-read s B e).0 (body-read s B e).1

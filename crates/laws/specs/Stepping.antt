@@ -6,7 +6,7 @@ use Rattle.definitions.specs.Result.{Result, ◌>>=◌, ◌>>◌, need, done, re
 use Rattle.definitions.specs.Dimacs.{decimal}
 use Rattle.laws.specs.Decimals.{decimal-one, decimal-more}
 use Rattle.definitions.specs.Texts.{numeral, blank, zeros, most}
-use Rattle.definitions.specs.TextReading.{digit, Number, begun, Count, Kind, text, reply, State, count, countOn, atNumber, inNumber, awaits, starts, beyond, step, fed}
+use Rattle.definitions.specs.TextReading.{digit, Number, begun, Count, Kind, text, reply, State, count, count_on, at_number, in_number, awaits, starts, beyond, step, fed}
 
 pub cases : (b : Bool) → (b ≡ true) ⊎ (b ≡ false)
 cases true = inl refl
@@ -47,17 +47,17 @@ module _ (d : ℕ) (h : d < 10) where
   pub not-blank : blank (48 + d) ≡ false
   not-blank = rw (ne_eqb (48 + d) 32 (λ e. omega arith), ne_eqb (48 + d) 10 (λ e. omega arith))
 
-  pub not-minus : eqb (48 + d) 45 ≡ false
-  not-minus = ne_eqb (48 + d) 45 (λ e. omega arith)
+  pub not_minus : eqb (48 + d) 45 ≡ false
+  not_minus = ne_eqb (48 + d) 45 (λ e. omega arith)
 
-  pub digit-worth : (48 + d) - 48 ≡ d
-  digit-worth = omega arith
+  pub digit_worth : (48 + d) - 48 ≡ d
+  digit_worth = omega arith
 
 -- ---- a count
-pub count-fed : (c : Count) (at f v : ℕ) → v ≤ f → v ≤ most → fed (count c) at (decimal v) ≡ done (countOn c v)
-count-fed c at zero v l m = let h : v < 10 = omega arith in rw (decimal-one v h, is_digit v h, digit-worth v h)
+pub count-fed : (c : Count) (at f v : ℕ) → v ≤ f → v ≤ most → fed (count c) at (decimal v) ≡ done (count_on c v)
+count-fed c at zero v l m = let h : v < 10 = omega arith in rw (decimal-one v h, is_digit v h, digit_worth v h)
 count-fed c at (suc f) v l m = elim (cases (ltb v 10)) [
-  | inl e ↦ (let h = ltb-true v 10 e in rw (decimal-one v h, is_digit v h, digit-worth v h))
+  | inl e ↦ (let h = ltb-true v 10 e in rw (decimal-one v h, is_digit v h, digit_worth v h))
   | inr e ↦ (let h = ltb-false v 10 e in
       let q : 10 * (v / 10) + ((48 + v % 10) - 48) ≡ v = omega arith in
       ap (fed (count c) at) (decimal-more v (omega arith) h)
@@ -77,9 +77,9 @@ free (reply N) ns = true
 module _ (k : Kind) (ns : List ℤ) (start : ℕ) (minus more : Bool) where
   -- the digits of v have been read, or are beyond N
   abbrev pub spelled : ℕ → Result State
-  spelled v = need 18 start (more && leb v (beyond k)) >> done (inNumber k ns (num start minus v))
+  spelled v = need 18 start (more && leb v (beyond k)) >> done (in_number k ns (num start minus v))
 
-  grows : (p : Number) (t : Bool) → (((need 18 start t >> done p) >>= λ q. done (inNumber k ns q)) >>= λ s. done s) ≡ (need 18 start t >> done (inNumber k ns p))
+  grows : (p : Number) (t : Bool) → (((need 18 start t >> done p) >>= λ q. done (in_number k ns q)) >>= λ s. done s) ≡ (need 18 start t >> done (in_number k ns p))
   grows p true = refl
   grows p false = refl
 
@@ -87,11 +87,11 @@ module _ (k : Kind) (ns : List ℤ) (start : ℕ) (minus more : Bool) where
   digit-more v d at l h = go more (leb v (beyond k)) refl
     where
       go : (g t : Bool) → leb v (beyond k) ≡ t
-          → ((need 18 start (g && t) >> done (inNumber k ns (num start minus v))) >>= λ s. fed s at ((48 + d) ∷ []))
-          ≡ (need 18 start (g && leb (10 * v + d) (beyond k)) >> done (inNumber k ns (num start minus (10 * v + d))))
+          → ((need 18 start (g && t) >> done (in_number k ns (num start minus v))) >>= λ s. fed s at ((48 + d) ∷ []))
+          ≡ (need 18 start (g && leb (10 * v + d) (beyond k)) >> done (in_number k ns (num start minus (10 * v + d))))
       go false t e = refl
       go true false e = rw (lt-leb (10 * v + d) (beyond k) (omega (arith, leb-false v (beyond k) e)))
-      go true true e = rw (not-blank d h, is_digit d h, lt-ltb 0 v l, digit-worth d h) (grows (num start minus (10 * v + d)) (leb (10 * v + d) (beyond k)))
+      go true true e = rw (not-blank d h, is_digit d h, lt-ltb 0 v l, digit_worth d h) (grows (num start minus (10 * v + d)) (leb (10 * v + d) (beyond k)))
 
   digits-fed : (s : State) (at : ℕ) → ((d : ℕ) → 1 ≤ d → d < 10 → fed s at ((48 + d) ∷ []) ≡ spelled d)
       → (f v : ℕ) → v ≤ f → 1 ≤ v → v < 2 ^ 64 → fed s at (decimal v) ≡ spelled v
@@ -113,38 +113,38 @@ negative (pos v) = false
 negative (negsuc v) = true
 
 module _ (k : Kind) (ns : List ℤ) (at : ℕ) where
-  begins : (b : ℕ) → blank b ≡ false → step (atNumber k ns) at b ≡ (need 18 at (free k ns) >> (begun (beyond k) at b >>= λ p. done (inNumber k ns p)))
+  begins : (b : ℕ) → blank b ≡ false → step (at_number k ns) at b ≡ (need 18 at (free k ns) >> (begun (beyond k) at b >>= λ p. done (in_number k ns p)))
   begins b e = go k
     where
-      go : (k : Kind) → starts k ns at b ≡ (need 18 at (free k ns) >> (begun (beyond k) at b >>= λ p. done (inNumber k ns p)))
+      go : (k : Kind) → starts k ns at b ≡ (need 18 at (free k ns) >> (begun (beyond k) at b >>= λ p. done (in_number k ns p)))
       go (text N M) = rw e
       go (reply N) = refl
 
-  both-needed : (g t : Bool) (p : Number) → (need 18 at g >> ((need 18 at t >> done p) >>= λ p. done (inNumber k ns p))) ≡ (need 18 at (g && t) >> done (inNumber k ns p))
-  both-needed false t p = refl
-  both-needed true false p = refl
-  both-needed true true p = refl
+  both_needed : (g t : Bool) (p : Number) → (need 18 at g >> ((need 18 at t >> done p) >>= λ p. done (in_number k ns p))) ≡ (need 18 at (g && t) >> done (in_number k ns p))
+  both_needed false t p = refl
+  both_needed true false p = refl
+  both_needed true true p = refl
 
-  first-digit : (d : ℕ) → d < 10 → fed (atNumber k ns) at ((48 + d) ∷ []) ≡ spelled k ns at false (free k ns) d
+  first-digit : (d : ℕ) → d < 10 → fed (at_number k ns) at ((48 + d) ∷ []) ≡ spelled k ns at false (free k ns) d
   first-digit d h =
-      fed-one (atNumber k ns) at (48 + d)
+      fed-one (at_number k ns) at (48 + d)
       ∙ begins (48 + d) (not-blank d h)
-      ∙ rw (not-minus d h, is_digit d h, digit-worth d h) (both-needed (free k ns) (leb d (beyond k)) (num at false d))
+      ∙ rw (not_minus d h, is_digit d h, digit_worth d h) (both_needed (free k ns) (leb d (beyond k)) (num at false d))
 
-  after_minus : (d : ℕ) → 1 ≤ d → d < 10 → fed (inNumber k ns (num at true 0)) (suc at) ((48 + d) ∷ []) ≡ spelled k ns at true true d
+  after_minus : (d : ℕ) → 1 ≤ d → d < 10 → fed (in_number k ns (num at true 0)) (suc at) ((48 + d) ∷ []) ≡ spelled k ns at true true d
   after_minus d l h =
       let e : 10 * 0 + ((48 + d) - 48) ≡ d = omega arith in
       rw (not-blank d h, is_digit d h, lt-ltb 48 (48 + d) (omega arith), e) (grows k ns at true true (num at true d) (leb d (beyond k)))
 
   -- a number where one may begin: read, or refused at its first byte
-  pub numeral-fed : (x : ℤ) → nat_abs x < 2 ^ 64 → fed (atNumber k ns) at (numeral x) ≡ spelled k ns at (negative x) (free k ns) (nat_abs x)
+  pub numeral-fed : (x : ℤ) → nat_abs x < 2 ^ 64 → fed (at_number k ns) at (numeral x) ≡ spelled k ns at (negative x) (free k ns) (nat_abs x)
   numeral-fed (pos zero) m = rw (decimal-one 0 (omega arith)) (first-digit 0 (omega arith))
-  numeral-fed (pos (suc v)) m = digits-fed k ns at false (free k ns) (atNumber k ns) at (λ d l h. first-digit d h) (suc v) (suc v) (omega arith) (omega arith) m
+  numeral-fed (pos (suc v)) m = digits-fed k ns at false (free k ns) (at_number k ns) at (λ d l h. first-digit d h) (suc v) (suc v) (omega arith) (omega arith) m
   numeral-fed (negsuc v) m = ap (λ m. m >>= λ s'. fed s' (suc at) (decimal (suc v))) (begins 45 refl) ∙ go (free k ns) (leb 1 (beyond k)) refl
     where
       go : (g t : Bool) → leb 1 (beyond k) ≡ t
-          → ((need 18 at g >> ((need 18 at t >> done (num at true 0)) >>= λ p. done (inNumber k ns p))) >>= λ s'. fed s' (suc at) (decimal (suc v)))
+          → ((need 18 at g >> ((need 18 at t >> done (num at true 0)) >>= λ p. done (in_number k ns p))) >>= λ s'. fed s' (suc at) (decimal (suc v)))
           ≡ spelled k ns at true g (suc v)
       go false t e = refl
       go true false e = rw (lt-leb (suc v) (beyond k) (omega (arith, leb-false 1 (beyond k) e)))
-      go true true e = digits-fed k ns at true true (inNumber k ns (num at true 0)) (suc at) after_minus (suc v) (suc v) (omega arith) (omega arith) m
+      go true true e = digits-fed k ns at true true (in_number k ns (num at true 0)) (suc at) after_minus (suc v) (suc v) (omega arith) (omega arith) m

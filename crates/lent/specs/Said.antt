@@ -3,6 +3,6 @@ use Rattle.std.specs.Prelude.{ℕ}
 use Rattle.definitions.specs.Result.{Result, done, refused}
 use Rattle.lent.specs.declared.Found.{Found}
 
-abbrev pub saidFound : ℕ → Found → Result (Unit {0})
-saidFound n (Found.At i) = refused n i
-saidFound n Found.Nothing = done tt
+abbrev pub said_found : ℕ → Found → Result (Unit {0})
+said_found n (Found.At i) = refused n i
+said_found n Found.Nothing = done tt

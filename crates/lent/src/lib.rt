@@ -2,7 +2,7 @@
 ghost use Rattle.std.specs.Prelude.{◌≡◌, ◌≤◌, length};
 ghost use Rattle.definitions.specs.Meaning.{on};
 ghost use Rattle.definitions.specs.Operations.{bits};
-ghost use Rattle.lent.specs.Said.{saidFound};
+ghost use Rattle.lent.specs.Said.{said_found};
 
 // The first index that fails a test.
 #[derive(Drop)]
@@ -13,7 +13,7 @@ pub enum Found {
 
 // The first byte that is neither 0 nor 1 (refusal 12).
 pub fn first_bad_byte(bytes: &[u8]) -> Found
-    ensures { saidFound 12 result ≡ bits bytes.now }
+    ensures { said_found 12 result ≡ bits bytes.now }
 {
     let mut i: usize = 0;
     while i < bytes.len() {

@@ -6,27 +6,27 @@ use native.Mathlib.Omega.{arith}
 use borrow.Author.Tests.{lt-leb}
 use Rattle.definitions.specs.Encoding.{K}
 use Rattle.definitions.specs.Result.{done, refused}
-use Rattle.definitions.specs.Operations.{readBoard, accepted}
+use Rattle.definitions.specs.Operations.{read_board, accepted}
 use Rattle.laws.specs.Reread.{accepted-parts}
-use Rattle.laws.specs.Boards.{boardOf, opens-is}
+use Rattle.laws.specs.Boards.{board_of, opens_is}
 use Rattle.opening.specs.declared.Header.{Header}
-use Rattle.opening.specs.Said.{mapDone, headerOf}
-use Rattle.opening.specs.Told.{mapped-refused, opened}
+use Rattle.opening.specs.Said.{map_done, header_of}
+use Rattle.opening.specs.Told.{mapped_refused, opened}
 use Rattle.measure.specs.declared.Totals.{Totals}
-use Rattle.measure.specs.Said.{totalsOf, measuredOf}
+use Rattle.measure.specs.Said.{totals_of, measured_of}
 
 module _ (s : List ℕ) where
-  module _ (h : Header) (e : mapDone headerOf (readBoard s) ≡ done h) (t : Totals) (q : t ≡ totalsOf (boardOf s)) where
-    pub measured : t.k ≤ 2000000000 → done (h, t) ≡ mapDone measuredOf (accepted s)
+  module _ (h : Header) (e : map_done header_of (read_board s) ≡ done h) (t : Totals) (q : t ≡ totals_of (board_of s)) where
+    pub measured : t.k ≤ 2000000000 → done (h, t) ≡ map_done measured_of (accepted s)
     measured l =
-        let f : K (boardOf s) ≤ 2000000000 = omega (arith, ap (λ z. z.k) q) in
+        let f : K (board_of s) ≤ 2000000000 = omega (arith, ap (λ z. z.k) q) in
         ap₂ (λ a b. done (a, b)) (opened s e).header q
-        ∙ ap (mapDone measuredOf) (sym ((accepted-parts s (boardOf s)).1 (opens-is s (opened s e).opens, f)))
+        ∙ ap (map_done measured_of) (sym ((accepted-parts s (board_of s)).1 (opens_is s (opened s e).opens, f)))
 
-    pub too_long : 2000000000 < t.k → refused 9 0 ≡ mapDone measuredOf (accepted s)
+    pub too_long : 2000000000 < t.k → refused 9 0 ≡ map_done measured_of (accepted s)
     unfolding accepted
-    too_long l = rw (opens-is s (opened s e).opens, lt-leb (K (boardOf s)) 2000000000 (omega (arith, ap (λ z. z.k) q)))
+    too_long l = rw (opens_is s (opened s e).opens, lt-leb (K (board_of s)) 2000000000 (omega (arith, ap (λ z. z.k) q)))
 
-  pub unopened : (n d : ℕ) → mapDone headerOf (readBoard s) ≡ refused n d → refused n d ≡ mapDone measuredOf (accepted s)
+  pub unopened : (n d : ℕ) → map_done header_of (read_board s) ≡ refused n d → refused n d ≡ map_done measured_of (accepted s)
   unfolding accepted
-  unopened n d e = rw (mapped-refused headerOf (readBoard s) e)
+  unopened n d e = rw (mapped_refused header_of (read_board s) e)

@@ -12,13 +12,13 @@ module _ (u a b c : ℕ) where
   abbrev pub fewer : ℕ
   fewer = tri (u - a) + tri (u - b) + tri (u - c) + tri (u - (a + b + c))
 
-  pub triples-are : triples u a b c ≡ more - fewer
+  pub triples_are : triples u a b c ≡ more - fewer
   unfolding triples
-  triples-are = simp sub-add-eq
+  triples_are = simp sub-add-eq
 
-pub no-fewer : (u a b c : ℕ) → 0 < u → 0 < a → 0 < b → 0 < c → fewer u a b c ≤ more u a b c
-no-fewer zero a b c hu ha hb hc = absurd (omega arith)
-no-fewer (suc t) zero b c hu ha hb hc = absurd (omega arith)
-no-fewer (suc t) (suc a) zero c hu ha hb hc = absurd (omega arith)
-no-fewer (suc t) (suc a) (suc b) zero hu ha hb hc = absurd (omega arith)
-no-fewer (suc t) (suc a) (suc b) (suc c) hu ha hb hc = simp sub-add-eq (omega (arith, three a b c t))
+pub no_fewer : (u a b c : ℕ) → 0 < u → 0 < a → 0 < b → 0 < c → fewer u a b c ≤ more u a b c
+no_fewer zero a b c hu ha hb hc = absurd (omega arith)
+no_fewer (suc t) zero b c hu ha hb hc = absurd (omega arith)
+no_fewer (suc t) (suc a) zero c hu ha hb hc = absurd (omega arith)
+no_fewer (suc t) (suc a) (suc b) zero hu ha hb hc = absurd (omega arith)
+no_fewer (suc t) (suc a) (suc b) (suc c) hu ha hb hc = simp sub-add-eq (omega (arith, three a b c t))

@@ -1,9 +1,9 @@
 -- Three places that the counting formula takes, and those of a comparison. Assumes nothing.
 use Rattle.std.specs.Prelude.{ℕ, suc, ◌<◌, ◌^◌, get_or}
 use Rattle.definitions.specs.Tools.{size}
-use Rattle.laws.specs.Tuples.{no-term}
+use Rattle.laws.specs.Tuples.{no_term}
 use Rattle.walk.specs.declared.Comparison.{Comparison}
-use Rattle.walk.specs.Comparisons.{overLeast, paddedRanges, placed}
+use Rattle.walk.specs.Comparisons.{over_least, padded_ranges, placed}
 
 -- none is empty, and nothing overflows
 pub record Places (u a b c : ℕ) : Type 0 where
@@ -15,8 +15,8 @@ pub record Places (u a b c : ℕ) : Type 0 where
 
 -- the sum of a tuple's offsets and 1 more
 unfoldable pub over : Comparison → ℕ
-over c = suc (size (overLeast c))
+over c = suc (size (over_least c))
 
 -- the width of the j-th of three places and 1 more
 unfoldable pub wide : Comparison → ℕ → ℕ
-wide c j = suc (placed (get_or (paddedRanges c) j no-term)).w
+wide c j = suc (placed (get_or (padded_ranges c) j no_term)).w

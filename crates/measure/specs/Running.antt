@@ -9,69 +9,69 @@ use native.Mathlib.Omega.{arith}
 use Rattle.std.proofs.Math.ListN.{length}
 use Rattle.definitions.specs.Tools.{sum}
 use Rattle.definitions.specs.Board.{Board, Bounds, Comparison, Clause, bounds_of}
-use Rattle.definitions.specs.Encoding.{selector, minus, comparisons, selected, rulesFrom, rules, places}
+use Rattle.definitions.specs.Encoding.{selector, minus, comparisons, selected, rules_from, rules, places}
 use Rattle.laws.specs.Lists.{sum-append}
-use Rattle.laws.specs.Pieces.{Piece, under, line-length, lone, opening, compared, used, piecesFrom, remaining, rules-places}
-use Rattle.laws.specs.Sizes.{piecePlaces, piece-places}
+use Rattle.laws.specs.Pieces.{Piece, under, line-length, lone, opening, compared, used, pieces_from, remaining, rules-places}
+use Rattle.laws.specs.Sizes.{piece_places, piece-places}
 use Rattle.measure.specs.declared.Share.{Share}
 use Rattle.measure.specs.Shares.{Adding}
 
 module _ (of : ℕ → Bounds) where
   abbrev weight : List Piece → ℕ
-  weight ps = sum (map (piecePlaces of) ps)
+  weight ps = sum (map (piece_places of) ps)
 
   -- ---- the places of pieces are the same whatever number their first selector has
   compared_same : (led : Bool) (i j : ℕ) (qs : List Comparison) → weight (compared led i qs) ≡ weight (compared led j qs)
-  unfolding compared piecePlaces
+  unfolding compared piece_places
   compared_same true i j [] = refl
   compared_same false i j [] = refl
-  compared_same true i j (q ∷ qs) = ap (λ n. piecePlaces of (under (minus (selector i) ∷ []) q) + n) (compared_same true (suc i) (suc j) qs)
-  compared_same false i j (q ∷ qs) = ap (λ n. piecePlaces of (under [] q) + n) (compared_same false i j qs)
+  compared_same true i j (q ∷ qs) = ap (λ n. piece_places of (under (minus (selector i) ∷ []) q) + n) (compared_same true (suc i) (suc j) qs)
+  compared_same false i j (q ∷ qs) = ap (λ n. piece_places of (under [] q) + n) (compared_same false i j qs)
 
   opening-same : (alone : Bool) (i j : ℕ) (C : Clause) → weight (opening alone i C) ≡ weight (opening alone j C)
-  unfolding piecePlaces
+  unfolding piece_places
   opening-same true i j C = refl
   opening-same false i j C = omega (arith, line-length i C, line-length j C)
 
-  pieces-same : (i j : ℕ) (Cs : List Clause) → weight (piecesFrom i Cs) ≡ weight (piecesFrom j Cs)
-  unfolding piecesFrom
+  pieces-same : (i j : ℕ) (Cs : List Clause) → weight (pieces_from i Cs) ≡ weight (pieces_from j Cs)
+  unfolding pieces_from
   pieces-same i j [] = refl
   pieces-same i j (C ∷ Cs) =
       let led = not (lone C) in
       let qs = comparisons C in
       let n = used led (length qs) in
-      let ps = piecesFrom (i + n) Cs in
-      let rs = piecesFrom (j + n) Cs in
+      let ps = pieces_from (i + n) Cs in
+      let rs = pieces_from (j + n) Cs in
       omega (
         arith,
-        sum-append (piecePlaces of) (opening (lone C) i C) (compared led i qs ++ ps),
-        sum-append (piecePlaces of) (compared led i qs) ps,
-        sum-append (piecePlaces of) (opening (lone C) j C) (compared led j qs ++ rs),
-        sum-append (piecePlaces of) (compared led j qs) rs,
+        sum-append (piece_places of) (opening (lone C) i C) (compared led i qs ++ ps),
+        sum-append (piece_places of) (compared led i qs) ps,
+        sum-append (piece_places of) (opening (lone C) j C) (compared led j qs ++ rs),
+        sum-append (piece_places of) (compared led j qs) rs,
         opening-same (lone C) i j C,
         compared_same led i j qs,
         pieces-same (i + n) (j + n) Cs,
       )
 
   -- ---- those of the first k record clauses, and of the others
-  abbrev placesFrom : ℕ → List Clause → List ℕ
-  placesFrom j Cs = map places (rulesFrom of j Cs)
+  abbrev places_from : ℕ → List Clause → List ℕ
+  places_from j Cs = map places (rules_from of j Cs)
 
-  pub pieces-places : (j : ℕ) (Cs : List Clause) → sum (placesFrom j Cs) ≡ weight (piecesFrom j Cs)
+  pub pieces-places : (j : ℕ) (Cs : List Clause) → sum (places_from j Cs) ≡ weight (pieces_from j Cs)
   pieces-places j Cs = rules-places of j Cs ∙ simp (piece-places of)
 
-  parted : (k i j : ℕ) (Cs : List Clause) → sum (placesFrom i Cs) ≡ sum (take k (placesFrom i Cs)) + sum (placesFrom j (drop k Cs))
-  unfolding rulesFrom
+  parted : (k i j : ℕ) (Cs : List Clause) → sum (places_from i Cs) ≡ sum (take k (places_from i Cs)) + sum (places_from j (drop k Cs))
+  unfolding rules_from
   parted zero i j Cs = omega (arith, pieces-places i Cs, pieces-same i j Cs, pieces-places j Cs)
   parted (suc k) i j [] = refl
   parted (suc k) i j (C ∷ Cs) = omega (arith, parted k (i + length (selected C)) j Cs)
 
 -- behind the first k record clauses the total is their places
-pub running-total : (B : Board) (k : ℕ) (led : Bool) (j : ℕ) (total : Share)
-    → Adding (bounds_of B) (piecesFrom 0 B.clauses) (remaining led j [] (drop k B.clauses)) total
+pub running_total : (B : Board) (k : ℕ) (led : Bool) (j : ℕ) (total : Share)
+    → Adding (bounds_of B) (pieces_from 0 B.clauses) (remaining led j [] (drop k B.clauses)) total
     → total.places ≡ sum (take k (map places (rules B)))
 unfolding rules remaining comparisons compared
-running-total B k led j total a =
+running_total B k led j total a =
     let of = bounds_of B in
     let n = j + used led 0 in
     omega (

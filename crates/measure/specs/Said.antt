@@ -6,14 +6,14 @@ use Rattle.definitions.specs.Encoding.{width, selected, axioms, rules, places, N
 use Rattle.definitions.specs.Result.{Result, done}
 use Rattle.definitions.specs.Answers.{refusal}
 use Rattle.opening.specs.declared.Header.{Header}
-use Rattle.opening.specs.Said.{headerOf}
+use Rattle.opening.specs.Said.{header_of}
 use Rattle.measure.specs.declared.Kinds.{Kinds}
 use Rattle.measure.specs.declared.Totals.{Totals}
 use Rattle.measure.specs.declared.Measured.{Measured}
 
 -- the summands of N, M and K
-abbrev pub kindsOf : Board → Kinds
-kindsOf B = record {
+abbrev pub kinds_of : Board → Kinds
+kinds_of B = record {
   booleans = B.bools;
   orders = sum (map width B.bounds);
   selectors = sum (map (λ C. length (selected C)) B.clauses);
@@ -21,12 +21,12 @@ kindsOf B = record {
   rules = record { clauses = sum (map length (rules B)); places = sum (map places (rules B)) };
 }
 
-abbrev pub totalsOf : Board → Totals
-totalsOf B = record { n = N B; m = M B; k = K B }
+abbrev pub totals_of : Board → Totals
+totals_of B = record { n = N B; m = M B; k = K B }
 
-abbrev pub measuredOf : Board → Header × Totals
-measuredOf B = (headerOf B, totalsOf B)
+abbrev pub measured_of : Board → Header × Totals
+measured_of B = (header_of B, totals_of B)
 
-abbrev pub saidMeasured : Measured → Result (Header × Totals)
-saidMeasured (Measured.Accepted header totals) = done (header, totals)
-saidMeasured (Measured.Refused r) = refusal r
+abbrev pub said_measured : Measured → Result (Header × Totals)
+said_measured (Measured.Accepted header totals) = done (header, totals)
+said_measured (Measured.Refused r) = refusal r

@@ -4,29 +4,29 @@ use Rattle.std.proofs.Common.{sym, ap, ◌∙◌}
 use Rattle.definitions.specs.Result.{done, refused}
 use Rattle.definitions.specs.Operations.{accepted}
 use Rattle.laws.specs.Reread.{accepted-parts}
-use Rattle.laws.specs.Boards.{boardOf, board-is, opens}
+use Rattle.laws.specs.Boards.{board_of, board_is, opens}
 use Rattle.opening.specs.declared.Header.{Header}
-use Rattle.opening.specs.Said.{mapDone, headerOf}
+use Rattle.opening.specs.Said.{map_done, header_of}
 use Rattle.opening.specs.Headers.{Opened}
-use Rattle.opening.specs.Told.{mapped-done, mapped-refused}
+use Rattle.opening.specs.Told.{mapped_done, mapped_refused}
 use Rattle.measure.specs.declared.Totals.{Totals}
-use Rattle.measure.specs.Said.{totalsOf, measuredOf}
+use Rattle.measure.specs.Said.{totals_of, measured_of}
 
 pub record Measures (s : List ℕ) (h : Header) (t : Totals) : Type 0 where
-  pub board : accepted s ≡ done (boardOf s)
+  pub board : accepted s ≡ done (board_of s)
   pub opened : Opened s h
-  pub totals : t ≡ totalsOf (boardOf s)
+  pub totals : t ≡ totals_of (board_of s)
 
 module _ (s : List ℕ) where
-  pub measured : {h : Header} {t : Totals} → mapDone measuredOf (accepted s) ≡ done (h, t) → Measures s h t
+  pub measured : {h : Header} {t : Totals} → map_done measured_of (accepted s) ≡ done (h, t) → Measures s h t
   measured e =
-      let m = mapped-done measuredOf (accepted s) e in
+      let m = mapped_done measured_of (accepted s) e in
       let r = ((accepted-parts s m.0).0 m.1).0 in
-      let b = sym (board-is s m.0 r) in record {
+      let b = sym (board_is s m.0 r) in record {
         board = m.1 ∙ ap done b;
-        opened = record { opens = opens s m.0 r; header = ap (λ z. z.0) m.2 ∙ ap headerOf b };
-        totals = ap (λ z. z.1) m.2 ∙ ap totalsOf b;
+        opened = record { opens = opens s m.0 r; header = ap (λ z. z.0) m.2 ∙ ap header_of b };
+        totals = ap (λ z. z.1) m.2 ∙ ap totals_of b;
       }
 
-  pub not-measured : {n d : ℕ} → mapDone measuredOf (accepted s) ≡ refused n d → accepted s ≡ refused n d
-  not-measured e = mapped-refused measuredOf (accepted s) e
+  pub not_measured : {n d : ℕ} → map_done measured_of (accepted s) ≡ refused n d → accepted s ≡ refused n d
+  not_measured e = mapped_refused measured_of (accepted s) e

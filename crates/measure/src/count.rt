@@ -2,7 +2,7 @@
 ghost use Rattle.std.specs.Prelude.{◌≡◌, ◌-◌, ◌<◌, ◌^◌, length, pos, ◌≤ℤ◌};
 ghost use Rattle.laws.specs.Counting.{tri};
 ghost use Rattle.laws.specs.Counting as counting;
-ghost use Rattle.walk.specs.Comparisons.{FairComparison, overLeast, literalsOf};
+ghost use Rattle.walk.specs.Comparisons.{FairComparison, over_least, literals_of};
 ghost use Rattle.measure.specs.Places.{Places};
 ghost use Rattle.measure.specs.Places as places;
 
@@ -41,7 +41,7 @@ fn triples(u: u32, a: u32, b: u32, c: u32) -> u64
 
 // The sum of a tuple's offsets, which is t, and 1 more.
 fn over(c: Comparison, t: i32) -> u32
-    requires { FairComparison c × (t ≡ overLeast c) × (pos 0 ≤ℤ overLeast c) }
+    requires { FairComparison c × (t ≡ over_least c) × (pos 0 ≤ℤ over_least c) }
     ensures { (result ≡ places.over c) × (result < 2 ^ 21) }
 {
     t as u32 + 1
@@ -58,15 +58,15 @@ fn wide(c: Comparison, j: usize) -> u32
 
 // A comparison's tuples, where the sum of their offsets is known, and not below 0.
 pub fn tuples_over(c: Comparison, t: i32) -> u64
-    requires { FairComparison c × (t ≡ overLeast c) × (pos 0 ≤ℤ overLeast c) }
-    ensures { result ≡ length (literalsOf c) }
+    requires { FairComparison c × (t ≡ over_least c) × (pos 0 ≤ℤ over_least c) }
+    ensures { result ≡ length (literals_of c) }
 {
     triples(over(c, t), wide(c, 0), wide(c, 1), wide(c, 2))
 }
 
 pub fn tuples_of(c: Comparison) -> u64
-    requires { FairComparison c × (pos 0 ≤ℤ overLeast c) }
-    ensures { result ≡ length (literalsOf c) }
+    requires { FairComparison c × (pos 0 ≤ℤ over_least c) }
+    ensures { result ≡ length (literals_of c) }
 {
     tuples_over(c, over_least(c))
 }

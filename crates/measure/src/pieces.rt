@@ -1,10 +1,10 @@
 // What a piece of the rules adds to the sizes.
 ghost use Rattle.std.specs.Prelude.{◌≤◌, ◌<◌, ◌^◌, length};
 ghost use Rattle.definitions.specs.Board.{bounds_of};
-ghost use Rattle.laws.specs.Boards.{Opens, boardOf};
-ghost use Rattle.laws.specs.Reread.{comparisonAt, context_of, Stands};
-ghost use Rattle.laws.specs.Sizes.{piecePlaces};
-ghost use Rattle.rules.specs.Cursors.{Held, saidPiece};
+ghost use Rattle.laws.specs.Boards.{Opens, board_of};
+ghost use Rattle.laws.specs.Reread.{comparison_at, context_of, Stands};
+ghost use Rattle.laws.specs.Sizes.{piece_places};
+ghost use Rattle.rules.specs.Cursors.{Held, said_piece};
 ghost use Rattle.measure.specs.Shares.{ShareOf, ShareUnder};
 
 use crate::Share;
@@ -15,8 +15,8 @@ use walk::tuples::over_least;
 
 // A comparison's clauses, each led by as many literals as is said.
 fn comparison_share(bytes: &[u8], rules: &[u8], lead: u64, place: usize, constant: i32) -> Share
-    requires { Opens bytes.now × Stands (length (boardOf bytes.now).bounds) rules.now place constant × (lead ≤ 1) }
-    ensures { ShareUnder (bounds_of (boardOf bytes.now)) lead (comparisonAt rules.now place constant) result }
+    requires { Opens bytes.now × Stands (length (board_of bytes.now).bounds) rules.now place constant × (lead ≤ 1) }
+    ensures { ShareUnder (bounds_of (board_of bytes.now)) lead (comparison_at rules.now place constant) result }
 {
     // counting needs no first numbers
     let unnumbered = [0u32; 0];
@@ -39,8 +39,8 @@ fn comparison_share(bytes: &[u8], rules: &[u8], lead: u64, place: usize, constan
 
 // A line is one clause; a comparison's clauses are counted, never walked.
 pub fn share_of(bytes: &[u8], rules: &[u8], piece: Piece) -> Share
-    requires { Opens bytes.now × Held (context_of (boardOf bytes.now)) rules.now piece × (piecePlaces (bounds_of (boardOf bytes.now)) (saidPiece rules.now piece) < 2 ^ 63) }
-    ensures { ShareOf (bounds_of (boardOf bytes.now)) (saidPiece rules.now piece) result }
+    requires { Opens bytes.now × Held (context_of (board_of bytes.now)) rules.now piece × (piece_places (bounds_of (board_of bytes.now)) (said_piece rules.now piece) < 2 ^ 63) }
+    ensures { ShareOf (bounds_of (board_of bytes.now)) (said_piece rules.now piece) result }
 {
     match piece {
         Piece::Line {

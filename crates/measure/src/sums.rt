@@ -1,12 +1,12 @@
 // The pieces of the rules and the variables together: the sizes of an accepted record by kind, and N, M and K.
 ghost use Rattle.std.specs.Prelude.{◌≡◌, [], length};
 ghost use Rattle.definitions.specs.Board.{bounds_of};
-ghost use Rattle.laws.specs.Boards.{boardOf};
-ghost use Rattle.laws.specs.Pieces.{piecesFrom};
+ghost use Rattle.laws.specs.Boards.{board_of};
+ghost use Rattle.laws.specs.Pieces.{pieces_from};
 ghost use Rattle.opening.specs.Headers.{Opened};
 ghost use Rattle.rules.specs.Known.{Known};
 ghost use Rattle.measure.specs.Shares.{Fit, Adding, plus};
-ghost use Rattle.measure.specs.Said.{kindsOf, totalsOf};
+ghost use Rattle.measure.specs.Said.{kinds_of, totals_of};
 
 use crate::pieces::share_of;
 use crate::{Kinds, Part, Share, Totals};
@@ -30,8 +30,8 @@ impl Share {
 
 // All pieces of the rules.
 fn rules_share(bytes: &[u8], clauses: usize, rules: &[u8]) -> Share
-    requires { Known bytes.now rules.now × (clauses ≡ length (boardOf bytes.now).clauses) }
-    ensures { Adding (bounds_of (boardOf bytes.now)) (piecesFrom 0 (boardOf bytes.now).clauses) [] result }
+    requires { Known bytes.now rules.now × (clauses ≡ length (board_of bytes.now).clauses) }
+    ensures { Adding (bounds_of (board_of bytes.now)) (pieces_from 0 (board_of bytes.now).clauses) [] result }
 {
     let mut total = Share {
         clauses: 0,
@@ -51,7 +51,7 @@ fn rules_share(bytes: &[u8], clauses: usize, rules: &[u8]) -> Share
 // They stand in the record's tail.
 fn tail_share(bytes: &[u8], header: Header) -> Share
     requires { Opened bytes.now header }
-    ensures { Adding (bounds_of (boardOf bytes.now)) (piecesFrom 0 (boardOf bytes.now).clauses) [] result }
+    ensures { Adding (bounds_of (board_of bytes.now)) (pieces_from 0 (board_of bytes.now).clauses) [] result }
 {
     let tail = header.rules;
     rules_share(bytes, header.clauses, &bytes[tail..])
@@ -60,7 +60,7 @@ fn tail_share(bytes: &[u8], header: Header) -> Share
 // A variable has width + 1 axioms, in 3 * width + 1 places.
 pub fn kinds_of(bytes: &[u8], header: Header) -> Kinds
     requires { Opened bytes.now header }
-    ensures { result ≡ kindsOf (boardOf bytes.now) }
+    ensures { result ≡ kinds_of (board_of bytes.now) }
 {
     let share = tail_share(bytes, header);
     let widths = first_number(bytes, header.bools, header.ints) as usize - 1 - header.bools;
@@ -82,7 +82,7 @@ pub fn kinds_of(bytes: &[u8], header: Header) -> Kinds
 // N, M and K are sums of kinds.
 pub fn totals_of(bytes: &[u8], header: Header) -> Totals
     requires { Opened bytes.now header }
-    ensures { result ≡ totalsOf (boardOf bytes.now) }
+    ensures { result ≡ totals_of (board_of bytes.now) }
 {
     let kinds = kinds_of(bytes, header);
     let axioms = kinds.axioms;

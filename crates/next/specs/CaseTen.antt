@@ -5,22 +5,22 @@ use Rattle.std.proofs.Common.{ap, ◌∙◌, mod-eq_of_lt, arith}
 use Rattle.definitions.specs.Tools.{All, neg}
 use Rattle.definitions.specs.Board.{Bounds, Term, Comparison, Board, at_most, bounds_of}
 use Rattle.definitions.specs.Result.{done}
-use Rattle.definitions.specs.Encoding.{termBounds, least, comparisons, selected, width, N, places}
-use Rattle.definitions.specs.Operations.{readBoard}
+use Rattle.definitions.specs.Encoding.{term_bounds, least, comparisons, selected, width, N, places}
+use Rattle.definitions.specs.Operations.{read_board}
 use Rattle.definitions.specs.Examples.{hex}
-use Rattle.definitions.specs.Open.{all-open}
+use Rattle.definitions.specs.Open.{all_open}
 use Rattle.laws.specs.Admitted.{GoodBounds}
 use Rattle.laws.specs.Counting.{above}
-use Rattle.laws.specs.Pieces.{compared, lone, piecesFrom}
+use Rattle.laws.specs.Pieces.{compared, lone, pieces_from}
 use Rattle.demands.specs.TooLarge.{ten}
-use Rattle.next.specs.Once.{clausesOnce}
-use Rattle.next.specs.OnceBoard.{pieceOnce, boardOnce, M-once, K-once, once-places-are}
+use Rattle.next.specs.Once.{clauses_once}
+use Rattle.next.specs.OnceBoard.{piece_once, board_once, M-once, K-once, once_places_are}
 use Rattle.next.specs.Shapes.{step, step_of, filled}
 use Rattle.next.specs.Remainders.{Least}
 use Rattle.next.specs.Hops.{hops}
-use Rattle.next.specs.Windows.{Starts, leaving, lowsIn, highsIn, meeting}
-use Rattle.next.specs.CountedPairs.{inner_of, mixedOf, firstPairs, fullPairs}
-use Rattle.next.specs.Triples.{strip, firstTriples, kept-counted}
+use Rattle.next.specs.Windows.{Starts, leaving, lows_in, highs_in, meeting}
+use Rattle.next.specs.CountedPairs.{inner_of, mixed_of, first_pairs, full_pairs}
+use Rattle.next.specs.Triples.{strip, first_triples, kept_counted}
 
 -- ---- its board, with its clause n times
 abbrev wide : Bounds
@@ -35,8 +35,8 @@ sum = record { terms = times64 0 ∷ times64 1 ∷ times64 2 ∷ []; constant = 
 abbrev pub board : ℕ → Board
 board n = record { bounds = wide ∷ wide ∷ wide ∷ []; bools = 0; clauses = replicate n (at_most sum ∷ []) }
 
-pub ten-read : readBoard (hex ten) ≡ done (board 1)
-unfolding all-open
+pub ten-read : read_board (hex ten) ≡ done (board 1)
+unfolding all_open
 ten-read = refl
 
 -- ---- the multiples of 64 that leave a multiple of 64: one start, at 0
@@ -59,39 +59,39 @@ starts = record { met = met; none = none }
     none (suc r) l u k s e f = omega arith
 
 -- ---- its comparison: three places of 524,225 steps, the sum 786,433 above the least
-counted : firstTriples 64 524225 64 524225 64 524225 64 start 786433 ≡ 100675584
-unfolding firstTriples strip firstPairs fullPairs mixedOf inner_of meeting lowsIn highsIn leaving hops
+counted : first_triples 64 524225 64 524225 64 524225 64 start 786433 ≡ 100675584
+unfolding first_triples strip first_pairs full_pairs mixed_of inner_of meeting lows_in highs_in leaving hops
 counted = refl
 
 module _ (n : ℕ) where
   shapes : filled (map (step_of (bounds_of (board n))) sum.terms) ≡ step 64 524225 ∷ step 64 524225 ∷ step 64 524225 ∷ []
-  unfolding termBounds bounds_of
+  unfolding term_bounds bounds_of
   shapes = refl
 
   height : above (bounds_of (board n)) sum ≡ 786433
-  unfolding termBounds bounds_of least
+  unfolding term_bounds bounds_of least
   height = refl
 
-  some-sum : least (bounds_of (board n)) sum.terms ≤ℤ pos 0
-  unfolding termBounds bounds_of least
-  some-sum = record { le = tt }
+  some_sum : least (bounds_of (board n)) sum.terms ≤ℤ pos 0
+  unfolding term_bounds bounds_of least
+  some_sum = record { le = tt }
 
   ordered : All (λ t. (bounds_of (board n) t.var).lo ≤ℤ (bounds_of (board n) t.var).hi) sum.terms
   unfolding bounds_of
   ordered = (record { le = tt }, (record { le = tt }, (record { le = tt }, tt)))
 
-  pub kept-clauses : length (clausesOnce [] (bounds_of (board n)) sum) ≡ 100675584
-  kept-clauses =
-      kept-counted (bounds_of (board n)) sum (record { some = (some, (some, (some, tt))); ordered = ordered; reached = some-sum }) [] 64 524225 64 524225 64 524225 64 start
+  pub kept_clauses : length (clauses_once [] (bounds_of (board n)) sum) ≡ 100675584
+  kept_clauses =
+      kept_counted (bounds_of (board n)) sum (record { some = (some, (some, (some, tt))); ordered = ordered; reached = some_sum }) [] 64 524225 64 524225 64 524225 64 start
       shapes (omega arith) (omega arith) (omega arith) period starts
-      ∙ ap (firstTriples 64 524225 64 524225 64 524225 64 start) height
+      ∙ ap (first_triples 64 524225 64 524225 64 524225 64 start) height
       ∙ counted
     where
       some : pos 64 ≢ pos 0
       some e = let z : ◌≡◌ {A = ℕ} 64 0 = cc in omega arith
 
-  kept-places : places (clausesOnce [] (bounds_of (board n)) sum) ≡ 402702336
-  kept-places = omega (arith, once-places-are [] (bounds_of (board n)) sum some-sum, kept-clauses)
+  kept_places : places (clauses_once [] (bounds_of (board n)) sum) ≡ 402702336
+  kept_places = omega (arith, once_places_are [] (bounds_of (board n)) sum some_sum, kept_clauses)
 
 good : (n : ℕ) → All GoodBounds (board n).bounds
 good n = (one, (one, (one, tt)))
@@ -100,19 +100,19 @@ good n = (one, (one, (one, tt)))
     one = record { lowest = record { le = tt }; ordered = record { le = tt }; highest = record { le = tt } }
 
 -- ---- N, M and K
-pub case-10-N : N (board 1) ≡ 24579
+pub case_10_N : N (board 1) ≡ 24579
 unfolding N width selected
-case-10-N = refl
+case_10_N = refl
 
-pub case-10-M : length (boardOnce (board 1)) ≡ 100700166
-unfolding piecesFrom compared lone comparisons pieceOnce width
-case-10-M = omega (arith, M-once (board 1) (good 1), kept-clauses 1)
+pub case_10_M : length (board_once (board 1)) ≡ 100700166
+unfolding pieces_from compared lone comparisons piece_once width
+case_10_M = omega (arith, M-once (board 1) (good 1), kept_clauses 1)
 
-pub case-10-K : places (boardOnce (board 1)) ≡ 402776076
-unfolding piecesFrom compared lone comparisons pieceOnce width
-case-10-K = omega (arith, K-once (board 1) (good 1), kept-places 1)
+pub case_10_K : places (board_once (board 1)) ≡ 402776076
+unfolding pieces_from compared lone comparisons piece_once width
+case_10_K = omega (arith, K-once (board 1) (good 1), kept_places 1)
 
 -- the limit of refusal 9 is passed by its clause ten times over
-pub ten-times : 2000000000 < places (boardOnce (board 10))
-unfolding piecesFrom compared lone comparisons pieceOnce width
-ten-times = omega (arith, K-once (board 10) (good 10), kept-places 10)
+pub ten-times : 2000000000 < places (board_once (board 10))
+unfolding pieces_from compared lone comparisons piece_once width
+ten-times = omega (arith, K-once (board 10) (good 10), kept_places 10)

@@ -8,10 +8,10 @@ use Rattle.std.proofs.Math.Nat.{div-add-mod, mul-mod_right}
 use Rattle.std.proofs.Math.Decide.{dec_le}
 use Rattle.definitions.specs.Tools.{if◌then◌else◌}
 use Rattle.next.specs.Bools.{eqb_yes}
-use Rattle.next.specs.RunSums.{total, total-skip, turn_end, unless}
-use Rattle.next.specs.Classes.{isLow, isHigh}
+use Rattle.next.specs.RunSums.{total, total_skip, turn_end, unless}
+use Rattle.next.specs.Classes.{is_low, is_high}
 use Rattle.next.specs.Shapes.{step}
-use Rattle.next.specs.ClassEnds.{nextLow, next_low, next-low-above, low-gap, high-skip}
+use Rattle.next.specs.ClassEnds.{next_low, next_low_lem, next_low_above, low_gap, high_skip}
 
 -- g k + g (next k) + .. , those below the end, n at most
 unfoldable pub hops : (ℕ → ℕ) → (ℕ → ℕ) → ℕ → ℕ → ℕ → ℕ
@@ -31,7 +31,7 @@ module _ (f : ℕ → Bool) (next : ℕ → ℕ) (end : ℕ) (h : Hops f next en
   -- one hop
   pub hop : (k : ℕ) → k < end → f k ≡ true → total passing k (end - k) ≡ g k + total passing (next k) (end - next k)
   hop k l t =
-      total-skip passing k (next k) end (h.above k l) l (λ i p q. unless (f i) (g i) (h.gap k i l p q))
+      total_skip passing k (next k) end (h.above k l) l (λ i p q. unless (f i) (g i) (h.gap k i l p q))
       ∙ ap (λ x. x + total passing (next k) (end - next k)) (ap (λ b. if b then g k else 0) t)
 
   -- all of them
@@ -46,17 +46,17 @@ module _ (f : ℕ → Bool) (next : ℕ → ℕ) (end : ℕ) (h : Hops f next en
       go false y z r = sym (turn_end passing k end (z tt))
 
 -- ---- the least ones of classes of a, and the greatest
-pub low-hops : (a w end : ℕ) → 0 < a → Hops (isLow (step a w)) (nextLow a) end
-low-hops a w end h = record {
-  above = λ k l. next-low-above a (step a w) (λ i. refl) h k;
-  gap = λ k i l p q. low-gap a (step a w) (λ j. refl) h k i p q;
-  lands = λ k l u. next_low a (step a w) (λ i. refl) h k;
+pub low_hops : (a w end : ℕ) → 0 < a → Hops (is_low (step a w)) (next_low a) end
+low_hops a w end h = record {
+  above = λ k l. next_low_above a (step a w) (λ i. refl) h k;
+  gap = λ k i l p q. low_gap a (step a w) (λ j. refl) h k i p q;
+  lands = λ k l u. next_low_lem a (step a w) (λ i. refl) h k;
 }
 
 abbrev pub onward : ℕ → ℕ → ℕ → ℕ
 onward a v k = if ltb k v then min v (a * suc (k / a)) else suc k
 
-pub high-hops : (a v end : ℕ) → 0 < a → end ≤ suc v → Hops (isHigh (step a v)) (onward a v) end
+pub high-hops : (a v end : ℕ) → 0 < a → end ≤ suc v → Hops (is_high (step a v)) (onward a v) end
 high-hops a v end h e = record {
   above = λ k l. above k (ltb k v) (ltb→lt k v);
   gap = λ k i l p q. gap k i p (ltb k v) q;
@@ -70,19 +70,19 @@ high-hops a v end h e = record {
     above k true y = let l = y tt in let d = div-add-mod k a in let m = mod-lt k h in omega arith
     above k false y = omega arith
 
-    gap : (k i : ℕ) → k < i → (b : Bool) → i < to b k → isHigh (step a v) i ≡ false
-    gap k i p true q = high-skip a (step a v) (λ j. refl) h k i p q
+    gap : (k i : ℕ) → k < i → (b : Bool) → i < to b k → is_high (step a v) i ≡ false
+    gap k i p true q = high_skip a (step a v) (λ j. refl) h k i p q
     gap k i p false q = absurd (omega arith)
 
-    at_width : (j : ℕ) → j ≡ v → isHigh (step a v) j ≡ true
+    at_width : (j : ℕ) → j ≡ v → is_high (step a v) j ≡ true
     at_width j q = ap (λ b. eqb (j % a) 0 || b) (eqb_yes j v q) ∙ or-true (eqb (j % a) 0)
 
-    at-multiple : (j m : ℕ) → j ≡ a * m → isHigh (step a v) j ≡ true
-    at-multiple j m q = ap (λ b. b || eqb j v) (eqb_yes (j % a) 0 (ap (λ x. x % a) q ∙ mul-mod_right a m))
+    at_multiple : (j m : ℕ) → j ≡ a * m → is_high (step a v) j ≡ true
+    at_multiple j m q = ap (λ b. b || eqb j v) (eqb_yes (j % a) 0 (ap (λ x. x % a) q ∙ mul-mod_right a m))
 
-    lands : (k : ℕ) (b : Bool) → (T (not b) → v ≤ k) → to b k < end → isHigh (step a v) (to b k) ≡ true
+    lands : (k : ℕ) (b : Bool) → (T (not b) → v ≤ k) → to b k < end → is_high (step a v) (to b k) ≡ true
     lands k true z u = elim (dec_le v (a * suc (k / a))) [
       | yes y ↦ at_width (min v (a * suc (k / a))) (omega arith)
-      | no n ↦ at-multiple (min v (a * suc (k / a))) (suc (k / a)) (omega arith)
+      | no n ↦ at_multiple (min v (a * suc (k / a))) (suc (k / a)) (omega arith)
     ]
     lands k false z u = let l = z tt in absurd (omega arith)

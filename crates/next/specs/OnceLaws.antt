@@ -6,9 +6,9 @@ use Rattle.std.proofs.Math.Logic.{inl, inr}
 use Rattle.std.proofs.Math.Bool.{not, or-false}
 use mathlib.Core.List.{List, [], ◌∷◌, ◌++◌, map, append_assoc}
 use Rattle.std.proofs.Math.Dec.{T, T_not}
-use Rattle.definitions.specs.Tools.{All, Any, any, if◌then◌else◌, countUp}
+use Rattle.definitions.specs.Tools.{All, Any, any, if◌then◌else◌, count_up}
 use Rattle.laws.specs.Decide.{Decides}
-use Rattle.laws.specs.Lists.{all-impl}
+use Rattle.laws.specs.Lists.{all_impl}
 use Rattle.laws.specs.Some.{any_append}
 use Rattle.next.specs.Once.{keep, once}
 use Rattle.next.specs.Seen.{unseen, unseen_same, once-unseen}
@@ -32,9 +32,9 @@ module _ {A : Type 0} (f : A → Bool) where
       go true r (inr a) = inr (r a)
       go false r a = inr (r a)
 
-  keep-passes : (xs : List A) → All (λ x. T (f x)) (keep f xs)
-  keep-passes [] = tt
-  keep-passes (x ∷ xs) = go (f x) refl (keep-passes xs)
+  keep_passes : (xs : List A) → All (λ x. T (f x)) (keep f xs)
+  keep_passes [] = tt
+  keep_passes (x ∷ xs) = go (f x) refl (keep_passes xs)
     where
       go : (b : Bool) → f x ≡ b → All (λ x. T (f x)) (keep f xs) → All (λ x. T (f x)) (if b then x ∷ keep f xs else keep f xs)
       go true e r = (subst T (sym e) tt, r)
@@ -53,9 +53,9 @@ abbrev pub Different : {A : Type 0} → List A → Type 0
 Different [] = Unit {0}
 Different (x ∷ xs) = All (λ y. x ≢ y) xs × Different xs
 
-keep-different : {A : Type 0} (f : A → Bool) (xs : List A) → Different xs → Different (keep f xs)
-keep-different f [] d = tt
-keep-different f (x ∷ xs) d = go (f x) (keep-different f xs d.1)
+keep_different : {A : Type 0} (f : A → Bool) (xs : List A) → Different xs → Different (keep f xs)
+keep_different f [] d = tt
+keep_different f (x ∷ xs) d = go (f x) (keep_different f xs d.1)
   where
     go : (b : Bool) → Different (keep f xs) → Different (if b then x ∷ keep f xs else keep f xs)
     go true r = (keep_all f (λ y. x ≢ y) xs d.0, r)
@@ -69,9 +69,9 @@ once-most same (x ∷ xs) = omega (arith, keep-most (λ y. not (same x y)) (once
 
 module _ {A : Type 0} (same : A → A → Bool) (decides : (x y : A) → Decides (same x y) (x ≡ y)) where
   -- ---- the same entries
-  all-kept : (P : A → Type 0) (x : A) → P x → (ys : List A) → All P (keep (λ y. not (same x y)) ys) → All P ys
-  all-kept P x p [] a = tt
-  all-kept P x p (y ∷ ys) a = go (same x y) (decides x y).sound (all-kept P x p ys) a
+  all_kept : (P : A → Type 0) (x : A) → P x → (ys : List A) → All P (keep (λ y. not (same x y)) ys) → All P ys
+  all_kept P x p [] a = tt
+  all_kept P x p (y ∷ ys) a = go (same x y) (decides x y).sound (all_kept P x p ys) a
     where
       go : (b : Bool) → (T b → x ≡ y) → (All P (keep (λ y. not (same x y)) ys) → All P ys)
           → All P (if not b then y ∷ keep (λ y. not (same x y)) ys else keep (λ y. not (same x y)) ys) → P y × All P ys
@@ -83,13 +83,13 @@ module _ {A : Type 0} (same : A → A → Bool) (decides : (x y : A) → Decides
   once-all P [] = (λ a. a, λ a. a)
   once-all P (x ∷ xs) =
       let r = once-all P xs in (
-        λ a. (a.0, r.0 (all-kept P x a.0 (once same xs) a.1)),
+        λ a. (a.0, r.0 (all_kept P x a.0 (once same xs) a.1)),
         λ a. (a.0, keep_all (λ y. not (same x y)) P (once same xs) (r.1 a.1)),
       )
 
-  any-kept : (P : A → Type 0) (x : A) (ys : List A) → Any P ys → P x ⊎ Any P (keep (λ y. not (same x y)) ys)
-  any-kept P x [] a = absurd a
-  any-kept P x (y ∷ ys) a = go (same x y) (decides x y).sound (any-kept P x ys) a
+  any_kept : (P : A → Type 0) (x : A) (ys : List A) → Any P ys → P x ⊎ Any P (keep (λ y. not (same x y)) ys)
+  any_kept P x [] a = absurd a
+  any_kept P x (y ∷ ys) a = go (same x y) (decides x y).sound (any_kept P x ys) a
     where
       go : (b : Bool) → (T b → x ≡ y) → (Any P ys → P x ⊎ Any P (keep (λ y. not (same x y)) ys)) → P y ⊎ Any P ys
           → P x ⊎ Any P (if not b then y ∷ keep (λ y. not (same x y)) ys else keep (λ y. not (same x y)) ys)
@@ -104,26 +104,26 @@ module _ {A : Type 0} (same : A → A → Bool) (decides : (x y : A) → Decides
   once-any P (x ∷ xs) =
       let r = once-any P xs in (
         λ s. elim s [ inl p ↦ inl p | inr a ↦ inr (r.0 (keep-any (λ y. not (same x y)) P (once same xs) a)) ],
-        λ s. elim s [ inl p ↦ inl p | inr a ↦ any-kept P x (once same xs) (r.1 a) ],
+        λ s. elim s [ inl p ↦ inl p | inr a ↦ any_kept P x (once same xs) (r.1 a) ],
       )
 
   -- ---- pairwise different
-  pub once-different : (xs : List A) → Different (once same xs)
+  pub once_different : (xs : List A) → Different (once same xs)
   unfolding once
-  once-different [] = tt
-  once-different (x ∷ xs) = (
-    all-impl (λ y. T (not (same x y))) (λ y. x ≢ y) (λ y t e. T_not (same x y) t ((decides x y).full e)) (keep (λ y. not (same x y)) (once same xs))
-        (keep-passes (λ y. not (same x y)) (once same xs)),
-    keep-different (λ y. not (same x y)) (once same xs) (once-different xs),
+  once_different [] = tt
+  once_different (x ∷ xs) = (
+    all_impl (λ y. T (not (same x y))) (λ y. x ≢ y) (λ y t e. T_not (same x y) t ((decides x y).full e)) (keep (λ y. not (same x y)) (once same xs))
+        (keep_passes (λ y. not (same x y)) (once same xs)),
+    keep_different (λ y. not (same x y)) (once same xs) (once_different xs),
   )
 
 -- ---- in the order of the first: the entries at the places before which no equal entry stands
 module _ {A : Type 0} (same : A → A → Bool) (d : A) where
-  abbrev pub isFirst : List A → ℕ → Bool
-  isFirst xs i = not (any (λ y. same y (get_or xs i d)) (take i xs))
+  abbrev pub is_first : List A → ℕ → Bool
+  is_first xs i = not (any (λ y. same y (get_or xs i d)) (take i xs))
 
   abbrev chosen : List A → ℕ → ℕ → List A
-  chosen xs b n = map (λ i. get_or xs i d) (keep (isFirst xs) (countUp b n))
+  chosen xs b n = map (λ i. get_or xs i d) (keep (is_first xs) (count_up b n))
 
   at-end : (done : List A) (x : A) (xs : List A) → get_or (done ++ (x ∷ xs)) (length done) d ≡ x
   at-end [] x xs = refl
@@ -134,9 +134,9 @@ module _ {A : Type 0} (same : A → A → Bool) (d : A) where
   take_done (y ∷ done) rest = ap (λ l. y ∷ l) (take_done done rest)
 
   -- those before are `done`
-  from-here : (done xs : List A) → unseen same (λ y. any (λ x. same x y) done) xs ≡ chosen (done ++ xs) (length done) (length xs)
-  from-here done [] = refl
-  from-here done (x ∷ xs) = step (any (λ y. same y x) done) refl (from-here (done ++ (x ∷ [])) xs)
+  from_here : (done xs : List A) → unseen same (λ y. any (λ x. same x y) done) xs ≡ chosen (done ++ xs) (length done) (length xs)
+  from_here done [] = refl
+  from_here done (x ∷ xs) = step (any (λ y. same y x) done) refl (from_here (done ++ (x ∷ [])) xs)
     where
       more : List A
       more = done ++ (x ∷ [])
@@ -157,7 +157,7 @@ module _ {A : Type 0} (same : A → A → Bool) (d : A) where
           ∙ later
           ∙ ap₂ (λ l n. chosen l n (length xs)) joined longer
 
-      test : isFirst (done ++ (x ∷ xs)) (length done) ≡ not (any (λ y. same y x) done)
+      test : is_first (done ++ (x ∷ xs)) (length done) ≡ not (any (λ y. same y x) done)
       test = ap₂ (λ z l. not (any (λ y. same y z) l)) (at-end done x xs) (take_done done (x ∷ xs))
 
       step : (b : Bool) → any (λ y. same y x) done ≡ b → Later → unseen same (λ y. any (λ x. same x y) done) (x ∷ xs) ≡ chosen (done ++ (x ∷ xs)) (length done) (suc (length xs))
@@ -165,7 +165,7 @@ module _ {A : Type 0} (same : A → A → Bool) (d : A) where
       step false e later = rw (e, test, e) (ap₂ (λ y l. y ∷ l) (sym (at-end done x xs)) (on later))
 
   pub once-places : (xs : List A) → once same xs ≡ chosen xs 0 (length xs)
-  once-places xs = once-unseen same xs ∙ from-here [] xs
+  once-places xs = once-unseen same xs ∙ from_here [] xs
 
 -- ---- what is made of the entries is kept once alike, where equal things come of equal entries alone
 module _ {A B : Type 0} (f : A → B) (same : A → A → Bool) (same' : B → B → Bool) (P : A → Type 0)

@@ -2,9 +2,9 @@
 use Rattle.std.specs.Prelude.{◌≡◌, refl, List, [], ◌∷◌, ℕ, zero, suc, length, ℤ, pos, negsuc}
 use Rattle.definitions.specs.Tools.{All}
 use Rattle.definitions.specs.Board.{Bounds, Comparison}
-use Rattle.definitions.specs.Encoding.{SatClause, SatLiteral, plus, minus, order, selector, clausesUnder}
-use Rattle.definitions.specs.Open.{all-open}
-use Rattle.next.specs.Once.{once, clausesOnce}
+use Rattle.definitions.specs.Encoding.{SatClause, SatLiteral, plus, minus, order, selector, clauses_under}
+use Rattle.definitions.specs.Open.{all_open}
+use Rattle.next.specs.Once.{once, clauses_once}
 
 -- a comparison under its leading literals, how many clauses it has, and those that are kept
 pub record Row : Type 0 where
@@ -15,7 +15,7 @@ pub record Row : Type 0 where
   pub kept : List SatClause
 
 abbrev pub Holds : Row → Type 0
-Holds r = (length (clausesUnder r.lead r.bounds r.comparison) ≡ r.all) × (clausesOnce r.lead r.bounds r.comparison ≡ r.kept)
+Holds r = (length (clauses_under r.lead r.bounds r.comparison) ≡ r.all) × (clauses_once r.lead r.bounds r.comparison ≡ r.kept)
 
 -- x is from 0 to m, every other variable from 0 to n
 abbrev to : ℕ → ℕ → ℕ → Bounds
@@ -84,6 +84,6 @@ table =
     ∷ record { lead = []; bounds = to 3 3; comparison = two (pos 2) (pos 2) (pos 14); all = 0; kept = [] }
     ∷ []
 
-pub rows-hold : All Holds table
-unfolding all-open once clausesOnce
-rows-hold = ((refl, refl), ((refl, refl), ((refl, refl), ((refl, refl), ((refl, refl), ((refl, refl), tt))))))
+pub rows_hold : All Holds table
+unfolding all_open once clauses_once
+rows_hold = ((refl, refl), ((refl, refl), ((refl, refl), ((refl, refl), ((refl, refl), ((refl, refl), tt))))))

@@ -19,10 +19,10 @@ pub record Sought (f : ℕ → Bool) (k n j : ℕ) : Type 0 where
   pub hit : j < k + n → f j ≡ true
   pub gap : (i : ℕ) → k ≤ i → i < j → f i ≡ false
 
-pub sought-is : (f : ℕ → Bool) (k n : ℕ) → Sought f k n (sought f k n)
+pub sought_is : (f : ℕ → Bool) (k n : ℕ) → Sought f k n (sought f k n)
 unfolding sought
-sought-is f k zero = record { from = omega arith; to = omega arith; hit = λ l. absurd (omega arith); gap = λ i p q. absurd (omega arith) }
-sought-is f k (suc n) = go (f k) refl (sought-is f (suc k) n)
+sought_is f k zero = record { from = omega arith; to = omega arith; hit = λ l. absurd (omega arith); gap = λ i p q. absurd (omega arith) }
+sought_is f k (suc n) = go (f k) refl (sought_is f (suc k) n)
   where
     go : (b : Bool) → f k ≡ b → Sought f (suc k) n (sought f (suc k) n) → Sought f k (suc n) (if b then k else sought f (suc k) n)
     go true e r = record { from = omega arith; to = omega arith; hit = λ l. e; gap = λ i p q. absurd (omega arith) }
@@ -37,24 +37,24 @@ sought-is f k (suc n) = go (f k) refl (sought-is f (suc k) n)
 abbrev meets : ℕ → ℕ → ℕ → ℕ → Bool
 meets a b r k = eqb (k % a) 0 && eqb (k % b) r
 
-meets-decides : (a b r k : ℕ) → Decides (meets a b r k) ((k % a ≡ 0) × (k % b ≡ r))
-meets-decides a b r k = both _ _ (equals (k % a) 0) (equals (k % b) r)
+meets_decides : (a b r k : ℕ) → Decides (meets a b r k) ((k % a ≡ 0) × (k % b ≡ r))
+meets_decides a b r k = both _ _ (equals (k % a) 0) (equals (k % b) r)
 
 missed : (a b r k : ℕ) → meets a b r k ≡ false → k % a ≡ 0 → k % b ≡ r → ⊥
-missed a b r k e p q = subst T e ((meets-decides a b r k).full (p, q))
+missed a b r k e p q = subst T e ((meets_decides a b r k).full (p, q))
 
-unfoldable pub periodOf : ℕ → ℕ → ℕ
-periodOf a b = sought (meets a b 0) 1 (a * b)
+unfoldable pub period_of : ℕ → ℕ → ℕ
+period_of a b = sought (meets a b 0) 1 (a * b)
 
-pub period-is : (a b : ℕ) → 0 < a → 0 < b → Least a b (periodOf a b)
-unfolding periodOf
-period-is a b ha hb = record { some = (let x = r.from in omega arith); one = found.0; two = found.1; none = λ i p q. missed a b 0 i (r.gap i (omega arith) q) }
+pub period_is : (a b : ℕ) → 0 < a → 0 < b → Least a b (period_of a b)
+unfolding period_of
+period_is a b ha hb = record { some = (let x = r.from in omega arith); one = found.0; two = found.1; none = λ i p q. missed a b 0 i (r.gap i (omega arith) q) }
   where
     P : ℕ
     P = sought (meets a b 0) 1 (a * b)
 
     r : Sought (meets a b 0) 1 (a * b) P
-    r = sought-is (meets a b 0) 1 (a * b)
+    r = sought_is (meets a b 0) 1 (a * b)
 
     -- the product is one, so the search does not run past it
     inside : P < 1 + a * b
@@ -64,14 +64,14 @@ period-is a b ha hb = record { some = (let x = r.from in omega arith); one = fou
     ]
 
     found : (P % a ≡ 0) × (P % b ≡ 0)
-    found = (meets-decides a b 0 P).sound (subst T (sym (r.hit inside)) tt)
+    found = (meets_decides a b 0 P).sound (subst T (sym (r.hit inside)) tt)
 
 unfoldable pub start_of : ℕ → ℕ → ℕ → ℕ
-start_of a b r = sought (meets a b r) 0 (periodOf a b)
+start_of a b r = sought (meets a b r) 0 (period_of a b)
 
-pub starts-are : (a b : ℕ) → Starts a b (periodOf a b) (start_of a b)
+pub starts_are : (a b : ℕ) → Starts a b (period_of a b) (start_of a b)
 unfolding start_of
-starts-are a b = record {
-  met = λ r l u. (meets-decides a b r _).sound (subst T (sym ((sought-is (meets a b r) 0 (periodOf a b)).hit (omega arith))) tt);
-  none = λ r l u k p. missed a b r k ((sought-is (meets a b r) 0 (periodOf a b)).gap k (omega arith) (omega arith));
+starts_are a b = record {
+  met = λ r l u. (meets_decides a b r _).sound (subst T (sym ((sought_is (meets a b r) 0 (period_of a b)).hit (omega arith))) tt);
+  none = λ r l u k p. missed a b r k ((sought_is (meets a b r) 0 (period_of a b)).gap k (omega arith) (omega arith));
 }

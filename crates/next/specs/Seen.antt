@@ -18,9 +18,9 @@ module _ {A : Type 0} (same : A → A → Bool) where
   unseen seen [] = []
   unseen seen (x ∷ xs) = if seen x then unseen (λ y. seen y || same x y) xs else x ∷ unseen (λ y. seen y || same x y) xs
 
-  keep-twice : (f g h : A → Bool) → ((x : A) → h x ≡ not (f x || g x)) → (xs : List A) → keep (λ x. not (f x)) (keep (λ x. not (g x)) xs) ≡ keep h xs
-  keep-twice f g h e [] = refl
-  keep-twice f g h e (x ∷ xs) = rw (e x) (go (keep-twice f g h e xs) (f x) refl (g x) refl)
+  keep_twice : (f g h : A → Bool) → ((x : A) → h x ≡ not (f x || g x)) → (xs : List A) → keep (λ x. not (f x)) (keep (λ x. not (g x)) xs) ≡ keep h xs
+  keep_twice f g h e [] = refl
+  keep_twice f g h e (x ∷ xs) = rw (e x) (go (keep_twice f g h e xs) (f x) refl (g x) refl)
     where
       go : keep (λ x. not (f x)) (keep (λ x. not (g x)) xs) ≡ keep h xs → (a : Bool) → f x ≡ a → (b : Bool) → g x ≡ b
           → keep (λ x. not (f x)) (if not b then x ∷ keep (λ x. not (g x)) xs else keep (λ x. not (g x)) xs) ≡ (if not (a || b) then x ∷ keep h xs else keep h xs)
@@ -33,7 +33,7 @@ module _ {A : Type 0} (same : A → A → Bool) where
   unfolding once
   unseen-once seen [] = refl
   unseen-once seen (x ∷ xs) =
-      go (seen x) (unseen-once (λ y. seen y || same x y) xs ∙ sym (keep-twice seen (same x) (λ y. not (seen y || same x y)) (λ y. refl) (once same xs)))
+      go (seen x) (unseen-once (λ y. seen y || same x y) xs ∙ sym (keep_twice seen (same x) (λ y. not (seen y || same x y)) (λ y. refl) (once same xs)))
     where
       rest : List A
       rest = keep (λ y. not (seen y)) (keep (λ y. not (same x y)) (once same xs))
@@ -70,10 +70,10 @@ module _ {A : Type 0} (same : A → A → Bool) where
   or_left true b t = tt
   or_left false b t = absurd t
 
-  pub unseen-none : (seen : A → Bool) (xs : List A) → All (λ x. T (seen x)) xs → unseen seen xs ≡ []
-  unseen-none seen [] a = refl
-  unseen-none seen (x ∷ xs) a =
-      go (seen x) a.0 (unseen-none (λ y. seen y || same x y) xs (weaken xs a.1))
+  pub unseen_none : (seen : A → Bool) (xs : List A) → All (λ x. T (seen x)) xs → unseen seen xs ≡ []
+  unseen_none seen [] a = refl
+  unseen_none seen (x ∷ xs) a =
+      go (seen x) a.0 (unseen_none (λ y. seen y || same x y) xs (weaken xs a.1))
     where
       weaken : (l : List A) → All (λ y. T (seen y)) l → All (λ y. T (seen y || same x y)) l
       weaken [] a = tt

@@ -8,33 +8,33 @@ use Rattle.definitions.specs.Tools.{if◌then◌else◌}
 use Rattle.definitions.specs.Board.{Bounds, Comparison}
 use Rattle.definitions.specs.Encoding.{SatClause, least}
 use Rattle.laws.specs.Counting.{above}
-use Rattle.next.specs.Once.{clausesOnce}
+use Rattle.next.specs.Once.{clauses_once}
 use Rattle.next.specs.Bools.{eqb_yes}
-use Rattle.next.specs.RunSums.{total, total-same, total-append, total-none, total-cut, total-plus, hits}
-use Rattle.next.specs.Classes.{Place, isLow, isHigh}
-use Rattle.next.specs.FirstCounts.{below, below_none, firstCount, fullCount, highsBelow, highsOf, highs-more}
-use Rattle.next.specs.Pairs.{one-in-front}
+use Rattle.next.specs.RunSums.{total, total-same, total-append, total_none, total-cut, total-plus, hits}
+use Rattle.next.specs.Classes.{Place, is_low, is_high}
+use Rattle.next.specs.FirstCounts.{below, below_none, first_count, full_count, highs_below, highs_of, highs_more}
+use Rattle.next.specs.Pairs.{one_in_front}
 use Rattle.next.specs.Kept.{FromTuples}
-use Rattle.next.specs.Shapes.{step, step_of, kept-by-steps, filled, filled-count}
+use Rattle.next.specs.Shapes.{step, step_of, kept_by_steps, filled, filled-count}
 use Rattle.next.specs.Remainders.{Least}
-use Rattle.next.specs.ClassEnds.{nextLow}
-use Rattle.next.specs.Hops.{hops, hops-total, low-hops, onward, high-hops}
-use Rattle.next.specs.Windows.{Starts, highsIn, highsIn-is}
-use Rattle.next.specs.CountedPairs.{firstPairs, firstPairs-is, fullPairs, fullPairs-is}
+use Rattle.next.specs.ClassEnds.{next_low}
+use Rattle.next.specs.Hops.{hops, hops-total, low_hops, onward, high-hops}
+use Rattle.next.specs.Windows.{Starts, highs_in, highs_in_is}
+use Rattle.next.specs.CountedPairs.{first_pairs, first_pairs_is, full_pairs, full_pairs_is}
 
 -- ---- greatest ones of the last place
-highs-one : {L : Type 0} (c : Place L) (u : ℕ) → highsBelow (c ∷ []) u ≡ hits (isHigh c) 0 (min u (suc c.width))
+highs_one : {L : Type 0} (c : Place L) (u : ℕ) → highs_below (c ∷ []) u ≡ hits (is_high c) 0 (min u (suc c.width))
 unfolding below
-highs-one c u =
+highs_one c u =
     let w = suc c.width in
     let m = min u w in
     let e : w ≡ m + (w - m) = omega arith in
-    let f : ℕ → ℕ = λ k. if isHigh c k then below [] (u - k) else 0 in
-    highs-more c [] u
+    let f : ℕ → ℕ = λ k. if is_high c k then below [] (u - k) else 0 in
+    highs_more c [] u
     ∙ ap (total f 0) e
     ∙ (let s = total-append f 0 m (w - m) in
-    let z : total f (0 + m) (w - m) ≡ 0 = total-none f (0 + m) (w - m) (λ k p q. none (isHigh c k) k (omega arith)) in
-    let g : total f 0 m ≡ hits (isHigh c) 0 m = total-same f _ 0 m (λ k p q. one (isHigh c k) k (omega arith)) in
+    let z : total f (0 + m) (w - m) ≡ 0 = total_none f (0 + m) (w - m) (λ k p q. none (is_high c k) k (omega arith)) in
+    let g : total f 0 m ≡ hits (is_high c) 0 m = total-same f _ 0 m (λ k p q. one (is_high c k) k (omega arith)) in
     omega (arith, s, z, g))
   where
     none : (b : Bool) (k : ℕ) → u ≤ k → (if b then below [] (u - k) else 0) ≡ 0
@@ -46,30 +46,30 @@ highs-one c u =
     one false k h = refl
 
 -- what lies within w below t
-highs-strip : {L : Type 0} (c : Place L) (w t : ℕ) → (let lo = min (t - w) (suc c.width) in
-    highsBelow (c ∷ []) (suc t) ≡ highsBelow (c ∷ []) (t - w) + hits (isHigh c) lo (min (suc t) (suc c.width) - lo))
-highs-strip c w t =
+highs_strip : {L : Type 0} (c : Place L) (w t : ℕ) → (let lo = min (t - w) (suc c.width) in
+    highs_below (c ∷ []) (suc t) ≡ highs_below (c ∷ []) (t - w) + hits (is_high c) lo (min (suc t) (suc c.width) - lo))
+highs_strip c w t =
     let lo = min (t - w) (suc c.width) in
     let hi = min (suc t) (suc c.width) in
     let e : hi ≡ lo + (hi - lo) = omega arith in
     let z : 0 + lo ≡ lo = omega arith in
-    omega (arith, highs-one c (suc t), highs-one c (t - w), ap (hits (isHigh c) 0) e, total-append (λ k. if isHigh c k then 1 else 0) 0 lo (hi - lo), ap (λ b. hits (isHigh c) b (hi - lo)) z)
+    omega (arith, highs_one c (suc t), highs_one c (t - w), ap (hits (is_high c) 0) e, total-append (λ k. if is_high c k then 1 else 0) 0 lo (hi - lo), ap (λ b. hits (is_high c) b (hi - lo)) z)
 
 -- ---- three places
 first_three : {L : Type 0} (a b c : Place L) (t : ℕ) → (let n = suc (min a.width t) in
-    firstCount (a ∷ b ∷ c ∷ []) t
-    + total (λ k. if isLow a k then fullCount (b ∷ c ∷ []) (t - k) else 0) 0 n
-    + total (λ k. if isHigh b k then highsBelow (c ∷ []) ((t - a.width) - k) else 0) 0 (suc b.width)
-    ≡ total (λ k. if isLow a k then firstCount (b ∷ c ∷ []) (t - k) else 0) 0 n + total (λ k. if isHigh b k then highsBelow (c ∷ []) (suc t - k) else 0) 0 (suc b.width))
-first_three a b c t = omega (arith, one-in-front a (b ∷ c ∷ []) t, highs-more b (c ∷ []) (t - a.width), highs-more b (c ∷ []) (suc t))
+    first_count (a ∷ b ∷ c ∷ []) t
+    + total (λ k. if is_low a k then full_count (b ∷ c ∷ []) (t - k) else 0) 0 n
+    + total (λ k. if is_high b k then highs_below (c ∷ []) ((t - a.width) - k) else 0) 0 (suc b.width)
+    ≡ total (λ k. if is_low a k then first_count (b ∷ c ∷ []) (t - k) else 0) 0 n + total (λ k. if is_high b k then highs_below (c ∷ []) (suc t - k) else 0) 0 (suc b.width))
+first_three a b c t = omega (arith, one_in_front a (b ∷ c ∷ []) t, highs_more b (c ∷ []) (t - a.width), highs_more b (c ∷ []) (suc t))
 
 -- ---- the greatest ones of the last place, whose step is c and width x, within w below u
 unfoldable pub strip : ℕ → ℕ → ℕ → ℕ → ℕ
-strip c x w u = if leb (min (suc u) (suc x)) (min (u - w) (suc x)) then 0 else highsIn c x (min (u - w) (suc x)) (min (suc u) (suc x))
+strip c x w u = if leb (min (suc u) (suc x)) (min (u - w) (suc x)) then 0 else highs_in c x (min (u - w) (suc x)) (min (suc u) (suc x))
 
-strip-is : (c x w u : ℕ) → 0 < c → (let lo = min (u - w) (suc x) in strip c x w u ≡ hits (isHigh (step c x)) lo (min (suc u) (suc x) - lo))
+strip_is : (c x w u : ℕ) → 0 < c → (let lo = min (u - w) (suc x) in strip c x w u ≡ hits (is_high (step c x)) lo (min (suc u) (suc x) - lo))
 unfolding strip total
-strip-is c x w u h = go (leb hi lo) (leb→le hi lo) (nleb→lt hi lo)
+strip_is c x w u h = go (leb hi lo) (leb→le hi lo) (nleb→lt hi lo)
   where
     lo : ℕ
     lo = min (u - w) (suc x)
@@ -77,17 +77,17 @@ strip-is c x w u h = go (leb hi lo) (leb→le hi lo) (nleb→lt hi lo)
     hi : ℕ
     hi = min (suc u) (suc x)
 
-    go : (t : Bool) → (T t → hi ≤ lo) → (T (not t) → lo < hi) → (if t then 0 else highsIn c x lo hi) ≡ hits (isHigh (step c x)) lo (hi - lo)
-    go true y z = let q = y tt in let e : hi - lo ≡ 0 = omega arith in sym (ap (hits (isHigh (step c x)) lo) e)
-    go false y z = highsIn-is c x lo hi h (z tt) (omega arith)
+    go : (t : Bool) → (T t → hi ≤ lo) → (T (not t) → lo < hi) → (if t then 0 else highs_in c x lo hi) ≡ hits (is_high (step c x)) lo (hi - lo)
+    go true y z = let q = y tt in let e : hi - lo ≡ 0 = omega arith in sym (ap (hits (is_high (step c x)) lo) e)
+    go false y z = highs_in_is c x lo hi h (z tt) (omega arith)
 
 -- ---- steps a, b, c and widths w, v, x
 module _ (a w b v c x P : ℕ) (start : ℕ → ℕ) where
-  unfoldable pub firstTriples : ℕ → ℕ
-  firstTriples s =
-      hops (nextLow a) (λ k. firstPairs b v c x P start (s - k)) (suc (min w s)) (suc (min w s)) 0
+  unfoldable pub first_triples : ℕ → ℕ
+  first_triples s =
+      hops (next_low a) (λ k. first_pairs b v c x P start (s - k)) (suc (min w s)) (suc (min w s)) 0
       + hops (onward b v) (λ k. strip c x w (s - k)) (suc (min v s)) (suc (min v s)) 0
-      - hops (nextLow a) (λ k. fullPairs b v c x P start (s - k)) (suc (min w s)) (suc (min w s)) 0
+      - hops (next_low a) (λ k. full_pairs b v c x P start (s - k)) (suc (min w s)) (suc (min w s)) 0
 
   module _ (ha : 0 < a) (hb : 0 < b) (hc : 0 < c) (least : Least b c P) (starts : Starts b c P start) (s : ℕ) where
     abbrev one : Place ℕ
@@ -99,71 +99,71 @@ module _ (a w b v c x P : ℕ) (start : ℕ → ℕ) where
     abbrev last : Place ℕ
     last = step c x
 
-    abbrev overLows : (ℕ → ℕ) → ℕ
-    overLows g = total (λ k. if isLow one k then g k else 0) 0 (suc (min w s))
+    abbrev over_lows : (ℕ → ℕ) → ℕ
+    over_lows g = total (λ k. if is_low one k then g k else 0) 0 (suc (min w s))
 
-    from-none : (f : ℕ → ℕ) (end : ℕ) → total f 0 (end - 0) ≡ total f 0 end
-    from-none f end = let e : end - 0 ≡ end = omega arith in ap (total f 0) e
+    from_none : (f : ℕ → ℕ) (end : ℕ) → total f 0 (end - 0) ≡ total f 0 end
+    from_none f end = let e : end - 0 ≡ end = omega arith in ap (total f 0) e
 
-    low-loop : (g h : ℕ → ℕ) → ((k : ℕ) → g k ≡ h k) → hops (nextLow a) g (suc (min w s)) (suc (min w s)) 0 ≡ overLows h
-    low-loop g h e =
-        hops-total (isLow one) (nextLow a) (suc (min w s)) (low-hops a w (suc (min w s)) ha) g (suc (min w s)) 0 (omega arith) (λ u. refl)
-        ∙ from-none _ (suc (min w s))
-        ∙ total-same _ _ 0 (suc (min w s)) (λ k l u. ap (λ n. if isLow one k then n else 0) (e k))
+    low_loop : (g h : ℕ → ℕ) → ((k : ℕ) → g k ≡ h k) → hops (next_low a) g (suc (min w s)) (suc (min w s)) 0 ≡ over_lows h
+    low_loop g h e =
+        hops-total (is_low one) (next_low a) (suc (min w s)) (low_hops a w (suc (min w s)) ha) g (suc (min w s)) 0 (omega arith) (λ u. refl)
+        ∙ from_none _ (suc (min w s))
+        ∙ total-same _ _ 0 (suc (min w s)) (λ k l u. ap (λ n. if is_low one k then n else 0) (e k))
 
-    high-loop : (g : ℕ → ℕ) → hops (onward b v) g (suc (min v s)) (suc (min v s)) 0 ≡ total (λ k. if isHigh two k then g k else 0) 0 (suc (min v s))
-    high-loop g =
-        hops-total (isHigh two) (onward b v) (suc (min v s)) (high-hops b v (suc (min v s)) hb (omega arith)) g (suc (min v s)) 0 (omega arith)
+    high_loop : (g : ℕ → ℕ) → hops (onward b v) g (suc (min v s)) (suc (min v s)) 0 ≡ total (λ k. if is_high two k then g k else 0) 0 (suc (min v s))
+    high_loop g =
+        hops-total (is_high two) (onward b v) (suc (min v s)) (high-hops b v (suc (min v s)) hb (omega arith)) g (suc (min v s)) 0 (omega arith)
         (λ u. ap (λ t. t || eqb 0 v) (eqb_yes (0 % b) 0 (zero-mod b)))
-        ∙ from-none _ (suc (min v s))
+        ∙ from_none _ (suc (min v s))
 
     -- what the second loop adds: from the greatest ones below s - w to those up to s
     each : (t : Bool) (k : ℕ) → k ≤ s
-        → (if t then highsBelow (last ∷ []) (suc s - k) else 0) ≡ (if t then highsBelow (last ∷ []) ((s - w) - k) else 0) + (if t then strip c x w (s - k) else 0)
+        → (if t then highs_below (last ∷ []) (suc s - k) else 0) ≡ (if t then highs_below (last ∷ []) ((s - w) - k) else 0) + (if t then strip c x w (s - k) else 0)
     each true k h =
         let e : suc s - k ≡ suc (s - k) = omega arith in
         let e' : (s - k) - w ≡ (s - w) - k = omega arith in
-        omega (arith, highs-strip last w (s - k), strip-is c x w (s - k) hc, ap (highsBelow (last ∷ [])) e, ap (highsBelow (last ∷ [])) e')
+        omega (arith, highs_strip last w (s - k), strip_is c x w (s - k) hc, ap (highs_below (last ∷ [])) e, ap (highs_below (last ∷ [])) e')
     each false k h = refl
 
-    none : (t : Bool) (u : ℕ) → u ≡ 0 → (if t then highsBelow (last ∷ []) u else 0) ≡ 0
-    none true u e = ap (highsBelow (last ∷ [])) e ∙ below_none (highsOf last ∷ [])
+    none : (t : Bool) (u : ℕ) → u ≡ 0 → (if t then highs_below (last ∷ []) u else 0) ≡ 0
+    none true u e = ap (highs_below (last ∷ [])) e ∙ below_none (highs_of last ∷ [])
     none false u e = refl
 
-    strips : total (λ k. if isHigh two k then highsBelow (last ∷ []) (suc s - k) else 0) 0 (suc v)
-        ≡ total (λ k. if isHigh two k then highsBelow (last ∷ []) ((s - w) - k) else 0) 0 (suc v) + total (λ k. if isHigh two k then strip c x w (s - k) else 0) 0 (suc (min v s))
+    strips : total (λ k. if is_high two k then highs_below (last ∷ []) (suc s - k) else 0) 0 (suc v)
+        ≡ total (λ k. if is_high two k then highs_below (last ∷ []) ((s - w) - k) else 0) 0 (suc v) + total (λ k. if is_high two k then strip c x w (s - k) else 0) 0 (suc (min v s))
     strips =
         let n = suc (min v s) in
-        let f : ℕ → ℕ = λ k. if isHigh two k then highsBelow (last ∷ []) (suc s - k) else 0 in
-        let g : ℕ → ℕ = λ k. if isHigh two k then highsBelow (last ∷ []) ((s - w) - k) else 0 in
-        let h : ℕ → ℕ = λ k. if isHigh two k then strip c x w (s - k) else 0 in
+        let f : ℕ → ℕ = λ k. if is_high two k then highs_below (last ∷ []) (suc s - k) else 0 in
+        let g : ℕ → ℕ = λ k. if is_high two k then highs_below (last ∷ []) ((s - w) - k) else 0 in
+        let h : ℕ → ℕ = λ k. if is_high two k then strip c x w (s - k) else 0 in
         omega (
           arith,
-          total-cut f 0 n (suc v) (omega arith) (λ k l u. none (isHigh two k) (suc s - k) (omega arith)),
-          total-cut g 0 n (suc v) (omega arith) (λ k l u. none (isHigh two k) ((s - w) - k) (omega arith)),
-          total-same f (λ k. g k + h k) 0 n (λ k l u. each (isHigh two k) k (omega arith)),
+          total-cut f 0 n (suc v) (omega arith) (λ k l u. none (is_high two k) (suc s - k) (omega arith)),
+          total-cut g 0 n (suc v) (omega arith) (λ k l u. none (is_high two k) ((s - w) - k) (omega arith)),
+          total-same f (λ k. g k + h k) 0 n (λ k l u. each (is_high two k) k (omega arith)),
           total-plus g h 0 n,
         )
 
     -- the law that counts
-    pub firstTriples-is : firstTriples s ≡ firstCount (one ∷ two ∷ last ∷ []) s
-    unfolding firstTriples
-    firstTriples-is =
+    pub first_triples_is : first_triples s ≡ first_count (one ∷ two ∷ last ∷ []) s
+    unfolding first_triples
+    first_triples_is =
         omega (
           arith,
           first_three one two last s,
           strips,
-          low-loop (λ k. firstPairs b v c x P start (s - k)) (λ k. firstCount (two ∷ last ∷ []) (s - k)) (λ k. firstPairs-is b v c x P start hb hc least starts (s - k)),
-          low-loop (λ k. fullPairs b v c x P start (s - k)) (λ k. fullCount (two ∷ last ∷ []) (s - k)) (λ k. fullPairs-is b v c x P start hb hc least starts (s - k)),
-          high-loop (λ k. strip c x w (s - k)),
+          low_loop (λ k. first_pairs b v c x P start (s - k)) (λ k. first_count (two ∷ last ∷ []) (s - k)) (λ k. first_pairs_is b v c x P start hb hc least starts (s - k)),
+          low_loop (λ k. full_pairs b v c x P start (s - k)) (λ k. full_count (two ∷ last ∷ []) (s - k)) (λ k. full_pairs_is b v c x P start hb hc least starts (s - k)),
+          high_loop (λ k. strip c x w (s - k)),
         )
 
 -- ---- a comparison's kept clauses, of one to three terms; a missing term is a place of step 1 and width 0 in front
-pub kept-counted : (of : ℕ → Bounds) (q : Comparison) → FromTuples of q → (lead : SatClause) (a w b v c x P : ℕ) (start : ℕ → ℕ)
+pub kept_counted : (of : ℕ → Bounds) (q : Comparison) → FromTuples of q → (lead : SatClause) (a w b v c x P : ℕ) (start : ℕ → ℕ)
     → filled (map (step_of of) q.terms) ≡ step a w ∷ step b v ∷ step c x ∷ [] → 0 < a → 0 < b → 0 < c → Least b c P → Starts b c P start
-    → length (clausesOnce lead of q) ≡ firstTriples a w b v c x P start (above of q)
-kept-counted of q h lead a w b v c x P start e ha hb hc least starts =
-    kept-by-steps of q h lead
+    → length (clauses_once lead of q) ≡ first_triples a w b v c x P start (above of q)
+kept_counted of q h lead a w b v c x P start e ha hb hc least starts =
+    kept_by_steps of q h lead
     ∙ sym (filled-count (map (step_of of) q.terms) (above of q))
-    ∙ ap (λ ps. firstCount ps (above of q)) e
-    ∙ sym (firstTriples-is a w b v c x P start ha hb hc least starts (above of q))
+    ∙ ap (λ ps. first_count ps (above of q)) e
+    ∙ sym (first_triples_is a w b v c x P start ha hb hc least starts (above of q))

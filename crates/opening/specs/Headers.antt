@@ -2,47 +2,47 @@
 use Rattle.std.specs.Prelude.{◌≡◌, List, ℕ, ◌≤◌, length, drop}
 use Rattle.std.proofs.Common.{ap, ◌∙◌, arith}
 use Rattle.laws.specs.Admitted.{Admitted}
-use Rattle.laws.specs.Boards.{boardOf, Opens, opens-board, opens-admitted, opens-recorded}
-use Rattle.laws.specs.Reread.{Recorded, context_of, tableStart, table_end}
+use Rattle.laws.specs.Boards.{board_of, Opens, opens_board, opens_admitted, opens_recorded}
+use Rattle.laws.specs.Reread.{Recorded, context_of, table_start, table_end}
 use Rattle.laws.specs.Written.{rest, rest-drop}
 use Rattle.opening.specs.declared.Header.{Header}
-use Rattle.opening.specs.Said.{headerOf, contextIn}
+use Rattle.opening.specs.Said.{header_of, context_in}
 
 pub record Opened (s : List ℕ) (h : Header) : Type 0 where
   pub opens : Opens s
-  pub header : h ≡ headerOf (boardOf s)
+  pub header : h ≡ header_of (board_of s)
 
 module _ {s : List ℕ} {h : Header} (o : Opened s h) where
-  pub ints-is : h.ints ≡ length (boardOf s).bounds
-  ints-is = ap (λ z. z.ints) o.header
+  pub ints_is : h.ints ≡ length (board_of s).bounds
+  ints_is = ap (λ z. z.ints) o.header
 
-  pub bools-is : h.bools ≡ (boardOf s).bools
-  bools-is = ap (λ z. z.bools) o.header
+  pub bools_is : h.bools ≡ (board_of s).bools
+  bools_is = ap (λ z. z.bools) o.header
 
-  pub clauses-is : h.clauses ≡ length (boardOf s).clauses
-  clauses-is = ap (λ z. z.clauses) o.header
+  pub clauses_is : h.clauses ≡ length (board_of s).clauses
+  clauses_is = ap (λ z. z.clauses) o.header
 
-  pub table_is : h.table ≡ tableStart
+  pub table_is : h.table ≡ table_start
   table_is = ap (λ z. z.table) o.header
 
-  pub rules-is : h.rules ≡ table_end (boardOf s)
-  rules-is = ap (λ z. z.rules) o.header
+  pub rules_is : h.rules ≡ table_end (board_of s)
+  rules_is = ap (λ z. z.rules) o.header
 
-  pub context-is : contextIn h ≡ context_of (boardOf s)
-  context-is = ap contextIn o.header
+  pub context_is : context_in h ≡ context_of (board_of s)
+  context_is = ap context_in o.header
 
-  pub recorded : Recorded (boardOf s)
-  recorded = opens-recorded s o.opens
+  pub recorded : Recorded (board_of s)
+  recorded = opens_recorded s o.opens
 
-  pub admitted : Admitted (boardOf s)
-  admitted = opens-admitted s o.opens
+  pub admitted : Admitted (board_of s)
+  admitted = opens_admitted s o.opens
 
-  pub counts-small : (h.ints ≤ 1024) × (h.bools ≤ 4096)
-  counts-small = omega (arith, ints-is, bools-is, admitted.ints, admitted.bools)
+  pub counts_small : (h.ints ≤ 1024) × (h.bools ≤ 4096)
+  counts_small = omega (arith, ints_is, bools_is, admitted.ints, admitted.bools)
 
   -- the rules are the record's tail
-  pub rules-inside : h.rules ≤ length s
-  rules-inside = omega (arith, rules-is, (opens-board s o.opens).room)
+  pub rules_inside : h.rules ≤ length s
+  rules_inside = omega (arith, rules_is, (opens_board s o.opens).room)
 
-  pub tail-is : rest s h.rules ≡ drop (table_end (boardOf s)) s
-  tail-is = rest-drop s h.rules ∙ ap (λ n. drop n s) rules-is
+  pub tail_is : rest s h.rules ≡ drop (table_end (board_of s)) s
+  tail_is = rest-drop s h.rules ∙ ap (λ n. drop n s) rules_is

@@ -1,8 +1,8 @@
 // What follows the stated length: the counts, the variable table, the clauses, and nothing after them.
 ghost use Rattle.std.specs.Prelude.{◌≡◌, ◌≤◌, length};
-ghost use Rattle.reader.specs.Said.{saidStep};
-ghost use Rattle.opening.specs.Said.{saidHeader};
-ghost use Rattle.opening.specs.Parts.{rulesFrom, headerFrom};
+ghost use Rattle.reader.specs.Said.{said_step};
+ghost use Rattle.opening.specs.Said.{said_header};
+ghost use Rattle.opening.specs.Parts.{rules_from, header_from};
 
 use super::faults::of_counts;
 use super::head::counts_at;
@@ -15,7 +15,7 @@ use reader::{Fault, Step, Why};
 // The clauses are read in the record's tail, where places are counted from its start; nothing follows them.
 fn past_rules(bytes: &[u8], header: Header) -> Step
     requires { (header.rules ≤ length bytes.now) × ((header.ints ≤ 1024) × (header.bools ≤ 4096)) }
-    ensures { saidStep result ≡ rulesFrom header bytes.now }
+    ensures { said_step result ≡ rules_from header bytes.now }
 {
     let base = header.rules;
     let passed = past_clauses(&bytes[base..], context_of(header), header.clauses, 0);
@@ -38,7 +38,7 @@ fn past_rules(bytes: &[u8], header: Header) -> Step
 }
 
 pub fn header_at(bytes: &[u8], version: u32, at: usize) -> HeaderRead
-    ensures { saidHeader result ≡ headerFrom version bytes.now at }
+    ensures { said_header result ≡ header_from version bytes.now at }
 {
     let counted = counts_at(bytes, at);
     let CountsRead::Got(counts, table) = counted else {

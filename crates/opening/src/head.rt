@@ -1,9 +1,9 @@
 // The three counts with which the body begins.
 ghost use Rattle.std.specs.Prelude.{◌≡◌};
 ghost use Rattle.definitions.specs.Reading.{count};
-ghost use Rattle.reader.specs.Said.{saidNumber};
-ghost use Rattle.opening.specs.Said.{saidCounts};
-ghost use Rattle.opening.specs.Parts.{readCounts};
+ghost use Rattle.reader.specs.Said.{said_number};
+ghost use Rattle.opening.specs.Said.{said_counts};
+ghost use Rattle.opening.specs.Parts.{read_counts};
 
 use super::{Counts, CountsRead};
 use reader::checks::number_at;
@@ -11,13 +11,13 @@ use reader::faults::of_number;
 use reader::{Number, Why};
 
 fn count_at(bytes: &[u8], at: usize, most: u32) -> Number
-    ensures { saidNumber result ≡ count 0 most 2 bytes.now at }
+    ensures { said_number result ≡ count 0 most 2 bytes.now at }
 {
     number_at(bytes, at, 2, 0, most, Why::Count)
 }
 
 pub fn counts_at(bytes: &[u8], at: usize) -> CountsRead
-    ensures { saidCounts result ≡ readCounts bytes.now at }
+    ensures { said_counts result ≡ read_counts bytes.now at }
 {
     let first = count_at(bytes, at, 1024);
     let Number::Value { value: ints, next } = first else {

@@ -1,7 +1,7 @@
 // The whole record: its refusals up to 8 and 15 to 17 for every input, or its header: version, counts and places.
 ghost use Rattle.std.specs.Prelude.{◌≡◌, ◌≤◌};
 ghost use Rattle.reader.specs.Said.{context_of};
-ghost use Rattle.opening.specs.Said.{contextIn};
+ghost use Rattle.opening.specs.Said.{context_in};
 ghost use Rattle.opening.specs.Outcome.{Allowed};
 
 use crate::faults::{of_header, refusal_of};
@@ -85,7 +85,7 @@ pub fn open(bytes: &[u8]) -> Opening
 // What the readers of clauses have to know of the record.
 pub fn context_of(header: Header) -> Context
     requires { (header.ints ≤ 1024) × (header.bools ≤ 4096) }
-    ensures { context_of result ≡ contextIn header }
+    ensures { context_of result ≡ context_in header }
 {
     Context {
         version: header.version,

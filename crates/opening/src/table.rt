@@ -1,7 +1,7 @@
 // The variable table: a lower and an upper bound for each integer variable.
 ghost use Rattle.std.specs.Prelude.{◌≡◌};
-ghost use Rattle.definitions.specs.Reading.{times, bound, readBounds};
-ghost use Rattle.reader.specs.Said.{saidWhole, saidStep};
+ghost use Rattle.definitions.specs.Reading.{times, bound, read_bounds};
+ghost use Rattle.reader.specs.Said.{said_whole, said_step};
 ghost use Rattle.reader.specs.Parts.{past};
 
 use reader::checks::whole_at;
@@ -9,13 +9,13 @@ use reader::faults::of_whole;
 use reader::{Fault, Step, Whole, Why};
 
 fn bound_at(bytes: &[u8], at: usize) -> Whole
-    ensures { saidWhole result ≡ bound bytes.now at }
+    ensures { said_whole result ≡ bound bytes.now at }
 {
     whole_at(bytes, at, 2, -4096, 4095, Why::Bound)
 }
 
 fn past_bounds(bytes: &[u8], at: usize) -> Step
-    ensures { saidStep result ≡ past (readBounds bytes.now at) }
+    ensures { said_step result ≡ past (read_bounds bytes.now at) }
 {
     let first = bound_at(bytes, at);
     let Whole::Value { value: lower, next } = first else {
@@ -36,7 +36,7 @@ fn past_bounds(bytes: &[u8], at: usize) -> Step
 }
 
 pub fn past_table(bytes: &[u8], n: u32, at: usize) -> Step
-    ensures { saidStep result ≡ past (times n readBounds bytes.now at) }
+    ensures { said_step result ≡ past (times n read_bounds bytes.now at) }
 {
     let mut place = at;
     let mut left = n;

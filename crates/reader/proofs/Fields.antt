@@ -6,22 +6,22 @@ use Prim.Native.Nat.{ℕ, zero, suc, ◌+◌, ◌≤◌}
 use lib.ListN.{length}
 use lib.Dec.{leb, leb-suc-zero}
 use lib.IntN.{ℤ, pos, negsuc}
-use Rattle.definitions.specs.Tools.{if◌then◌else◌, neg, eqZ, within}
+use Rattle.definitions.specs.Tools.{if◌then◌else◌, neg, eq_z, within}
 use Rattle.definitions.specs.Result.{Result, done, refused}
 use Rattle.definitions.specs.Result as result
 use Rattle.definitions.specs.Reading.{Got, big, unsigned, signed}
 use Rattle.reader.specs.declared.Why.{Why}
-use Rattle.fields.proofs.Laws.{unsigned-got}
+use Rattle.fields.proofs.Laws.{unsigned_got}
 use Rattle.reader.specs.Said.{number}
-use Rattle.reader.specs.Parts.{numberFrom, wholeFrom, coefficient}
-use Rattle.reader.proofs.Steps.{asked-got}
+use Rattle.reader.specs.Parts.{number_from, whole_from, coefficient}
+use Rattle.reader.proofs.Steps.{asked_got}
 
 module _ {A : Type 0} where
   -- two tests at once are one after the other
-  asked-and : (why at : ℕ) (p q : A → Bool) (m : Result (Got A)) → result.◌>>=◌ m (λ g. if p g.value && q g.value then done g else refused why at)
+  asked_and : (why at : ℕ) (p q : A → Bool) (m : Result (Got A)) → result.◌>>=◌ m (λ g. if p g.value && q g.value then done g else refused why at)
       ≡ result.◌>>=◌ (result.◌>>=◌ m λ g. if p g.value then done g else refused why at) (λ g. if q g.value then done g else refused why at)
-  asked-and why at p q (refused n d) = refl
-  asked-and why at p q (done g) = go (p g.value)
+  asked_and why at p q (refused n d) = refl
+  asked_and why at p q (done g) = go (p g.value)
     where
       go : (t : Bool) → (if t && q g.value then done g else refused why at)
           ≡ result.◌>>=◌ (if t then done g else refused why at) (λ g. if q g.value then done g else refused why at)
@@ -30,17 +30,17 @@ module _ {A : Type 0} where
 
 -- ---- the definitions' fields
 module _ (s : List ℕ) (at : ℕ) where
-  pub coefficient-is : coefficient s at ≡ result.◌>>=◌ (wholeFrom Why.Coefficient (neg 64) (pos 64) 1 s at) (λ g. if not (eqZ g.value (pos 0)) then done g else refused 7 at)
-  unfolding coefficient wholeFrom
-  coefficient-is = asked-and 7 at (within (neg 64) (pos 64)) (λ a. not (eqZ a (pos 0))) (signed 1 s at)
+  pub coefficient_is : coefficient s at ≡ result.◌>>=◌ (whole_from Why.Coefficient (neg 64) (pos 64) 1 s at) (λ g. if not (eq_z g.value (pos 0)) then done g else refused 7 at)
+  unfolding coefficient whole_from
+  coefficient_is = asked_and 7 at (within (neg 64) (pos 64)) (λ a. not (eq_z a (pos 0))) (signed 1 s at)
 
 -- ---- what was read where a field is in its range
-pub number-got : (why : Why) (least most n : ℕ) (s : List ℕ) (at : ℕ) {g : Got ℕ} → numberFrom why least most n s at ≡ done g
+pub number_got : (why : Why) (least most n : ℕ) (s : List ℕ) (at : ℕ) {g : Got ℕ} → number_from why least most n s at ≡ done g
     → (g ≡ record { value = big s at n; next = at + n }) × (at + n ≤ length s)
-unfolding numberFrom
-number-got why least most n s at e = unsigned-got n s at (asked-got (number why) at (λ v. leb least v && leb v most) (unsigned n s at) e)
+unfolding number_from
+number_got why least most n s at e = unsigned_got n s at (asked_got (number why) at (λ v. leb least v && leb v most) (unsigned n s at) e)
 
-pub not-zero : (z : ℤ) → (z ≡ pos 0 → ⊥) → eqZ z (pos 0) ≡ false
-not-zero (pos zero) h = absurd (h refl)
-not-zero (pos (suc n)) h = rw leb-suc-zero
-not-zero (negsuc n) h = refl
+pub not_zero : (z : ℤ) → (z ≡ pos 0 → ⊥) → eq_z z (pos 0) ≡ false
+not_zero (pos zero) h = absurd (h refl)
+not_zero (pos (suc n)) h = rw leb-suc-zero
+not_zero (negsuc n) h = refl

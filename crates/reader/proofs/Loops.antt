@@ -8,19 +8,19 @@ use Rattle.definitions.specs.Result.{done, refused}
 use Rattle.definitions.specs.Result as result
 use Rattle.definitions.specs.Reading.{Reader, times}
 use Rattle.reader.specs.Parts.{past}
-use Rattle.reader.proofs.Steps.{past-both}
+use Rattle.reader.proofs.Steps.{past_both}
 
 module _ {A : Type 0} (r : Reader A) (s : List ℕ) (place : ℕ) where
   times-past : (n : ℕ) → past (times (suc n) r s place) ≡ result.◌>>=◌ (past (r s place)) (λ p. past (times n r s p))
-  times-past n = past-both ◌∷◌ (times n r s) (r s place)
+  times-past n = past_both ◌∷◌ (times n r s) (r s place)
 
-  pub next-part : (left : ℕ) {p : ℕ} → 0 < left → past (r s place) ≡ done p → past (times left r s place) ≡ past (times (left - 1) r s p)
-  next-part zero h e = absurd (omega arith)
-  next-part (suc left) h e = times-past left ∙ rw (e, sub-one)
+  pub next_part : (left : ℕ) {p : ℕ} → 0 < left → past (r s place) ≡ done p → past (times left r s place) ≡ past (times (left - 1) r s p)
+  next_part zero h e = absurd (omega arith)
+  next_part (suc left) h e = times-past left ∙ rw (e, sub-one)
 
-  pub part-refused : (left : ℕ) {why d : ℕ} → 0 < left → past (r s place) ≡ refused why d → past (times left r s place) ≡ refused why d
-  part-refused zero h e = absurd (omega arith)
-  part-refused (suc left) h e = times-past left ∙ rw e
+  pub part_refused : (left : ℕ) {why d : ℕ} → 0 < left → past (r s place) ≡ refused why d → past (times left r s place) ≡ refused why d
+  part_refused zero h e = absurd (omega arith)
+  part_refused (suc left) h e = times-past left ∙ rw e
 
   pub no_part : (left : ℕ) → left ≤ 0 → past (times left r s place) ≡ done place
   no_part zero h = refl

@@ -27,27 +27,27 @@ module _ {A B C D : Type 0} (r : A → Result B) (made : A → B → C) (k : C �
   inner a (done b) = refl
   inner a (refused n d) = refl
 
-  pub bind-bind : (m : Result A) → result.◌>>=◌ m (λ a. result.◌>>=◌ (r a) (λ b. k (made a b))) ≡ result.◌>>=◌ (result.◌>>=◌ m λ a. result.◌>>=◌ (r a) λ b. done (made a b)) k
-  bind-bind (done a) = inner a (r a)
-  bind-bind (refused n d) = refl
+  pub bind_bind : (m : Result A) → result.◌>>=◌ m (λ a. result.◌>>=◌ (r a) (λ b. k (made a b))) ≡ result.◌>>=◌ (result.◌>>=◌ m λ a. result.◌>>=◌ (r a) λ b. done (made a b)) k
+  bind_bind (done a) = inner a (r a)
+  bind_bind (refused n d) = refl
 
 module _ {A : Type 0} where
   -- a part that was passed was read
-  pub past-done : (m : Result (Got A)) {p : ℕ} → past m ≡ done p → Passed m (λ g. done g.next) p
-  past-done (done g) e = record { got = g; read = refl; rest = e }
-  past-done (refused n d) e = never e
+  pub past_done : (m : Result (Got A)) {p : ℕ} → past m ≡ done p → Passed m (λ g. done g.next) p
+  past_done (done g) e = record { got = g; read = refl; rest = e }
+  past_done (refused n d) e = never e
 
-  pub past-refused : (m : Result (Got A)) {n d : ℕ} → past m ≡ refused n d → m ≡ refused n d
-  past-refused (done g) e = never (sym e)
-  past-refused (refused n d) e = cc
+  pub past_refused : (m : Result (Got A)) {n d : ℕ} → past m ≡ refused n d → m ≡ refused n d
+  past_refused (done g) e = never (sym e)
+  past_refused (refused n d) e = cc
 
   module _ (why at : ℕ) (good : A → Bool) (m : Result (Got A)) {g : Got A} (e : result.◌>>=◌ m (λ g. if good g.value then done g else refused why at) ≡ done g) where
     tested : Passed m (λ g. if good g.value then done g else refused why at) g
     tested = passed m _ e
 
     -- a test that holds changes nothing
-    pub asked-got : m ≡ done g
-    asked-got = go (good tested.got.value) tested.rest
+    pub asked_got : m ≡ done g
+    asked_got = go (good tested.got.value) tested.rest
       where
         go : (t : Bool) → (if t then done tested.got else refused why at) ≡ done g → m ≡ done g
         go true d = tested.read ∙ d
@@ -63,12 +63,12 @@ module _ {A : Type 0} where
 
 -- ---- of what is read, only the place after it
 -- what is made of a value does not matter
-pub past-made : {A B : Type 0} (made : A → B) (m : Result (Got A)) → past {A = B} (result.◌>>=◌ m λ g. done (record { value = made g.value; next = g.next })) ≡ past m
-past-made made (done g) = refl
-past-made made (refused n d) = refl
+pub past_made : {A B : Type 0} (made : A → B) (m : Result (Got A)) → past {A = B} (result.◌>>=◌ m λ g. done (record { value = made g.value; next = g.next })) ≡ past m
+past_made made (done g) = refl
+past_made made (refused n d) = refl
 
 -- nor a first value, where the second part does not look at it
-pub past-both : {A B C : Type 0} (made : A → B → C) (r : ℕ → Result (Got B)) (m : Result (Got A))
+pub past_both : {A B C : Type 0} (made : A → B → C) (r : ℕ → Result (Got B)) (m : Result (Got A))
     → past {A = C} (result.◌>>=◌ m λ g. result.◌>>=◌ (r g.next) λ h. done (record { value = made g.value h.value; next = h.next })) ≡ result.◌>>=◌ (past m) (λ p. past (r p))
-past-both made r (done g) = past-made (made g.value) (r g.next)
-past-both made r (refused n d) = refl
+past_both made r (done g) = past_made (made g.value) (r g.next)
+past_both made r (refused n d) = refl

@@ -10,8 +10,8 @@ use mir.Facts.{to_z-of_z}
 use Rattle.laws.specs.Whole.{whole}
 
 -- the range of a number that a pattern binds
-pub bound-fits : (z : ℤ) → mag z < 2 ^ 31 → SFits w32 z
-bound-fits z h = record { sfits = h }
+pub bound_fits : (z : ℤ) → mag z < 2 ^ 31 → SFits w32 z
+bound_fits z h = record { sfits = h }
 
 below : (a b : ℤ) (t : Bool) → lt_z a b ≡ t → le_z b a ≡ not t
 below a b t e = go (le_z b a) refl t e

@@ -1,6 +1,6 @@
 -- The reader's answers as the definitions have them.
 use Rattle.definitions.specs.Tools.{◌≡◌, ℕ, ℤ, List}
-use Rattle.definitions.specs.Board.{Literal, isTrue, isFalse, at_most}
+use Rattle.definitions.specs.Board.{Literal, is_true, is_false, at_most}
 use Rattle.definitions.specs.Result.{Result, done, refused}
 use Rattle.definitions.specs.Reading.{Got, Context}
 use Rattle.reader.specs.declared.Why.{Why}
@@ -11,7 +11,7 @@ use Rattle.reader.specs.declared.Step.{Step}
 use Rattle.reader.specs.declared.LiteralRead.{LiteralRead}
 use Rattle.reader.specs.declared.Context as known
 use Rattle.reader.specs.declared.Literal as code
-use Rattle.laws.specs.Reread.{comparisonAt}
+use Rattle.laws.specs.Reread.{comparison_at}
 
 abbrev pub context_of : known.Context → Context
 context_of k = record { version = k.version; ints = k.ints; bools = k.bools }
@@ -30,23 +30,23 @@ number Why.Constant = 17
 abbrev pub fault : {A : Type 0} → Fault → Result A
 fault f = refused (number f.why) f.place
 
-abbrev pub saidNumber : Number → Result (Got ℕ)
-saidNumber (Number.Value value next) = done (record { value = value; next = next })
-saidNumber (Number.Refused f) = fault f
+abbrev pub said_number : Number → Result (Got ℕ)
+said_number (Number.Value value next) = done (record { value = value; next = next })
+said_number (Number.Refused f) = fault f
 
-abbrev pub saidWhole : Whole → Result (Got ℤ)
-saidWhole (Whole.Value value next) = done (record { value = value; next = next })
-saidWhole (Whole.Refused f) = fault f
+abbrev pub said_whole : Whole → Result (Got ℤ)
+said_whole (Whole.Value value next) = done (record { value = value; next = next })
+said_whole (Whole.Refused f) = fault f
 
-abbrev pub saidStep : Step → Result ℕ
-saidStep (Step.Next place) = done place
-saidStep (Step.Refused f) = fault f
+abbrev pub said_step : Step → Result ℕ
+said_step (Step.Next place) = done place
+said_step (Step.Refused f) = fault f
 
 -- rules: the bytes in which a comparison's place stands
-abbrev pub literalOf : List ℕ → code.Literal → Literal
-literalOf rules (code.Literal.Boolean b) = isTrue b
-literalOf rules (code.Literal.Negated b) = isFalse b
-literalOf rules (code.Literal.Comparison place constant) = at_most (comparisonAt rules place constant)
+abbrev pub literal_of : List ℕ → code.Literal → Literal
+literal_of rules (code.Literal.Boolean b) = is_true b
+literal_of rules (code.Literal.Negated b) = is_false b
+literal_of rules (code.Literal.Comparison place constant) = at_most (comparison_at rules place constant)
 
 -- a comparison's place is that of its term count
 abbrev pub Placed : ℕ → LiteralRead → Type 0
@@ -55,6 +55,6 @@ Placed at (LiteralRead.Got (code.Literal.Boolean b) next) = Unit {0}
 Placed at (LiteralRead.Got (code.Literal.Negated b) next) = Unit {0}
 Placed at (LiteralRead.Refused f) = Unit {0}
 
-abbrev pub saidLiteral : List ℕ → LiteralRead → Result (Got Literal)
-saidLiteral rules (LiteralRead.Got l next) = done (record { value = literalOf rules l; next = next })
-saidLiteral rules (LiteralRead.Refused f) = fault f
+abbrev pub said_literal : List ℕ → LiteralRead → Result (Got Literal)
+said_literal rules (LiteralRead.Got l next) = done (record { value = literal_of rules l; next = next })
+said_literal rules (LiteralRead.Refused f) = fault f

@@ -1,7 +1,7 @@
 // Fields whose value has a range. `why` is what a value outside it is refused for.
 ghost use Rattle.std.specs.Prelude.{◌≡◌, ◌≤◌};
-ghost use Rattle.reader.specs.Said.{saidNumber, saidWhole};
-ghost use Rattle.reader.specs.Parts.{numberFrom, wholeFrom};
+ghost use Rattle.reader.specs.Said.{said_number, said_whole};
+ghost use Rattle.reader.specs.Parts.{number_from, whole_from};
 
 use super::{Fault, Number, Whole, Why};
 use fields::{Signed, Unsigned};
@@ -9,7 +9,7 @@ use fields::{Signed, Unsigned};
 // An unsigned field: its missing bytes (8) before its value.
 pub fn number_at(bytes: &[u8], at: usize, width: usize, least: u32, most: u32, why: Why) -> Number
     requires { width ≤ 4 }
-    ensures { saidNumber result ≡ numberFrom why least most width bytes.now at }
+    ensures { said_number result ≡ number_from why least most width bytes.now at }
 {
     let Unsigned::Value { value, next } = fields::unsigned_at(bytes, at, width) else {
         return Number::Refused(Fault {
@@ -29,7 +29,7 @@ pub fn number_at(bytes: &[u8], at: usize, width: usize, least: u32, most: u32, w
 // A signed field, likewise.
 pub fn whole_at(bytes: &[u8], at: usize, width: usize, least: i32, most: i32, why: Why) -> Whole
     requires { width ≤ 4 }
-    ensures { saidWhole result ≡ wholeFrom why least most width bytes.now at }
+    ensures { said_whole result ≡ whole_from why least most width bytes.now at }
 {
     let Signed::Value { value, next } = fields::signed_at(bytes, at, width) else {
         return Whole::Refused(Fault {

@@ -1,7 +1,7 @@
 // Literals, and clauses: a count and so many literals.
 ghost use Rattle.std.specs.Prelude.{◌≡◌, ◌+◌, ◌≤◌};
-ghost use Rattle.definitions.specs.Reading.{times, count, ofKind, readLiteral, readClause};
-ghost use Rattle.reader.specs.Said.{context_of, saidNumber, saidStep, saidLiteral, Placed};
+ghost use Rattle.definitions.specs.Reading.{times, count, of_kind, read_literal, read_clause};
+ghost use Rattle.reader.specs.Said.{context_of, said_number, said_step, said_literal, Placed};
 ghost use Rattle.reader.specs.Parts.{past};
 
 use super::checks::number_at;
@@ -12,7 +12,7 @@ use super::{Context, Literal, LiteralRead, Number, Step, Why};
 // Kind 0 is the Boolean, kind 1 its negation.
 fn boolean_at(rules: &[u8], known: Context, kind: u32, at: usize) -> LiteralRead
     requires { kind ≤ 1 }
-    ensures { (saidLiteral rules.now result ≡ ofKind (context_of known) kind rules.now at) × Placed at result }
+    ensures { (said_literal rules.now result ≡ of_kind (context_of known) kind rules.now at) × Placed at result }
 {
     let read = number_at(rules, at, 2, 1, known.bools, Why::Literal);
     let Number::Value { value, next } = read else {
@@ -25,7 +25,7 @@ fn boolean_at(rules: &[u8], known: Context, kind: u32, at: usize) -> LiteralRead
 }
 
 pub fn literal_at(rules: &[u8], known: Context, at: usize) -> LiteralRead
-    ensures { (saidLiteral rules.now result ≡ readLiteral (context_of known) rules.now at) × Placed (at + 1) result }
+    ensures { (said_literal rules.now result ≡ read_literal (context_of known) rules.now at) × Placed (at + 1) result }
 {
     let read = number_at(rules, at, 1, 0, 2, Why::Literal);
     let Number::Value { value: kind, next } = read else {
@@ -38,7 +38,7 @@ pub fn literal_at(rules: &[u8], known: Context, at: usize) -> LiteralRead
 }
 
 fn past_literals(rules: &[u8], known: Context, n: u32, at: usize) -> Step
-    ensures { saidStep result ≡ past (times n (readLiteral (context_of known)) rules.now at) }
+    ensures { said_step result ≡ past (times n (read_literal (context_of known)) rules.now at) }
 {
     let mut place = at;
     let mut left = n;
@@ -55,13 +55,13 @@ fn past_literals(rules: &[u8], known: Context, n: u32, at: usize) -> Step
 
 // How many literals the clause has.
 pub fn literal_count_at(rules: &[u8], at: usize) -> Number
-    ensures { saidNumber result ≡ count 0 64 1 rules.now at }
+    ensures { said_number result ≡ count 0 64 1 rules.now at }
 {
     number_at(rules, at, 1, 0, 64, Why::Count)
 }
 
 pub fn past_clause(rules: &[u8], known: Context, at: usize) -> Step
-    ensures { saidStep result ≡ past (readClause (context_of known) rules.now at) }
+    ensures { said_step result ≡ past (read_clause (context_of known) rules.now at) }
 {
     let read = literal_count_at(rules, at);
     let Number::Value { value: n, next } = read else {
@@ -71,7 +71,7 @@ pub fn past_clause(rules: &[u8], known: Context, at: usize) -> Step
 }
 
 pub fn past_clauses(rules: &[u8], known: Context, n: usize, at: usize) -> Step
-    ensures { saidStep result ≡ past (times n (readClause (context_of known)) rules.now at) }
+    ensures { said_step result ≡ past (times n (read_clause (context_of known)) rules.now at) }
 {
     let mut place = at;
     let mut left = n;

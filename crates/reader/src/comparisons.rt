@@ -2,9 +2,9 @@
 ghost use Rattle.std.specs.Prelude.{◌≡◌, ◌+◌, ◌*◌, ◌≤◌, length};
 ghost use Rattle.definitions.specs.Tools.{[], any, eqb};
 ghost use Rattle.definitions.specs.Board.{at_most};
-ghost use Rattle.definitions.specs.Reading.{mapped, readTerms, readComparison};
-ghost use Rattle.reader.specs.Said.{context_of, saidWhole, saidStep, saidLiteral, Placed};
-ghost use Rattle.reader.specs.Parts.{past, coefficient, variable, readTerm, constant};
+ghost use Rattle.definitions.specs.Reading.{mapped, read_terms, read_comparison};
+ghost use Rattle.reader.specs.Said.{context_of, said_whole, said_step, said_literal, Placed};
+ghost use Rattle.reader.specs.Parts.{past, coefficient, variable, read_term, constant};
 ghost use Rattle.reader.specs.Seen.{seen_at};
 
 use super::checks::{number_at, whole_at};
@@ -13,7 +13,7 @@ use super::{Context, Fault, Literal, LiteralRead, Number, Step, Whole, Why};
 use fields::Unsigned;
 
 fn past_coefficient(rules: &[u8], at: usize) -> Step
-    ensures { saidStep result ≡ past (coefficient rules.now at) }
+    ensures { said_step result ≡ past (coefficient rules.now at) }
 {
     let read = whole_at(rules, at, 1, -64, 64, Why::Coefficient);
     let Whole::Value { value, next } = read else {
@@ -45,7 +45,7 @@ fn is_repeated(rules: &[u8], first: usize, n: usize, variable: u32) -> bool
 
 fn past_variable(rules: &[u8], known: Context, first: usize, n: usize, at: usize) -> Step
     requires { first + 3 * n ≤ length rules.now }
-    ensures { saidStep result ≡ past (variable (context_of known) (seen_at rules.now first n) rules.now at) }
+    ensures { said_step result ≡ past (variable (context_of known) (seen_at rules.now first n) rules.now at) }
 {
     let Unsigned::Value { value, next } = fields::unsigned_at(rules, at, 2) else {
         return Step::Refused(Fault {
@@ -71,7 +71,7 @@ fn past_variable(rules: &[u8], known: Context, first: usize, n: usize, at: usize
 // Term n of those that begin at first.
 fn past_term(rules: &[u8], known: Context, first: usize, n: usize) -> Step
     requires { first + 3 * n ≤ length rules.now }
-    ensures { saidStep result ≡ past (readTerm (context_of known) (seen_at rules.now first n) rules.now (first + 3 * n)) }
+    ensures { said_step result ≡ past (read_term (context_of known) (seen_at rules.now first n) rules.now (first + 3 * n)) }
 {
     let step = past_coefficient(rules, first + 3 * n);
     let Step::Next(at) = step else {
@@ -82,7 +82,7 @@ fn past_term(rules: &[u8], known: Context, first: usize, n: usize) -> Step
 
 fn past_terms(rules: &[u8], known: Context, first: usize, n: usize) -> Step
     requires { first ≤ length rules.now }
-    ensures { saidStep result ≡ past (readTerms (context_of known) [] n rules.now first) }
+    ensures { said_step result ≡ past (read_terms (context_of known) [] n rules.now first) }
 {
     let mut place = first;
     let mut i: usize = 0;
@@ -98,14 +98,14 @@ fn past_terms(rules: &[u8], known: Context, first: usize, n: usize) -> Step
 }
 
 fn constant_at(rules: &[u8], at: usize) -> Whole
-    ensures { saidWhole result ≡ constant rules.now at }
+    ensures { said_whole result ≡ constant rules.now at }
 {
     whole_at(rules, at, 4, -1000000, 1000000, Why::Constant)
 }
 
 // The terms one after another, then the constant.
 pub fn comparison_at(rules: &[u8], known: Context, place: usize) -> LiteralRead
-    ensures { (saidLiteral rules.now result ≡ mapped at_most (readComparison (context_of known)) rules.now place) × Placed place result }
+    ensures { (said_literal rules.now result ≡ mapped at_most (read_comparison (context_of known)) rules.now place) × Placed place result }
 {
     let count = number_at(rules, place, 1, 1, 3, Why::Count);
     let Number::Value { value: n, next } = count else {

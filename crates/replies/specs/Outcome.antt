@@ -2,22 +2,22 @@
 -- equal. Assumes nothing.
 use Rattle.std.specs.Prelude.{◌≡◌, List, ℕ, ℤ}
 use Rattle.std.proofs.Common.{sym, ap, ◌∙◌}
-use Rattle.definitions.specs.Answers.{saidSizing, saidReplied}
+use Rattle.definitions.specs.Answers.{said_sizing, said_replied}
 use Rattle.definitions.specs.Result.{Result}
 use Rattle.definitions.specs.Operations.{Outcome, ◌leaves◌}
-use Rattle.definitions.specs.TextOperations.{ReadText, ReadReply}
+use Rattle.definitions.specs.TextOperations.{read_text_outcome, read_reply_outcome}
 use Rattle.definitions.specs.declared.Sizing.{Sizing}
 use Rattle.definitions.specs.declared.Replied.{Replied}
-use Rattle.laws.specs.Outcomes.{one-sizing, one-reply}
+use Rattle.laws.specs.Outcomes.{one_sizing, one-reply}
 
 abbrev pub TextAllowed : List ℕ → List ℤ → Sizing → List ℤ → Type 0
-TextAllowed t list r left = (saidSizing r ≡ (ReadText t list).answer) × (left ≡ (ReadText t list).left)
+TextAllowed t list r left = (said_sizing r ≡ (read_text_outcome t list).answer) × (left ≡ (read_text_outcome t list).left)
 
 abbrev pub ReplyAllowed : ℕ → List ℕ → List ℕ → Replied → List ℕ → Type 0
-ReplyAllowed N t model r left = (saidReplied r ≡ (ReadReply N t model).answer) × (left ≡ (ReadReply N t model).left)
+ReplyAllowed N t model r left = (said_replied r ≡ (read_reply_outcome N t model).answer) × (left ≡ (read_reply_outcome N t model).left)
 
 pub one-text-read : (t : List ℕ) (list : List ℤ) (r r' : Sizing) (left left' : List ℤ) → TextAllowed t list r left → TextAllowed t list r' left' → (r ≡ r') × (left ≡ left')
-one-text-read t list r r' left left' a a' = (one-sizing r r' (a.0 ∙ sym a'.0), a.1 ∙ sym a'.1)
+one-text-read t list r r' left left' a a' = (one_sizing r r' (a.0 ∙ sym a'.0), a.1 ∙ sym a'.1)
 
 pub one-reply-read : (N : ℕ) (t model : List ℕ) (r r' : Replied) (left left' : List ℕ) → ReplyAllowed N t model r left → ReplyAllowed N t model r' left' → (r ≡ r') × (left ≡ left')
 one-reply-read N t model r r' left left' a a' = (one-reply r r' (a.0 ∙ sym a'.0), a.1 ∙ sym a'.1)

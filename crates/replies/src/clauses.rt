@@ -2,7 +2,7 @@
 ghost use Rattle.std.specs.Prelude.{◌≡◌, suc, ◌≤◌, ◌<◌, length, drop};
 ghost use Rattle.definitions.specs.Tools.{if◌then◌else◌, eqb};
 ghost use Rattle.replies.specs.Parts.{found_from, started, list_from, sized};
-ghost use Rattle.replies.specs.Said.{saidNext, nextIn, saidCounted};
+ghost use Rattle.replies.specs.Said.{said_next, NextIn, said_counted};
 
 use super::bytes::is_blank;
 use super::faults::of_numeral;
@@ -12,7 +12,7 @@ use super::{Counted, Next, Numeral};
 // The next number, or the end. Where there is no room for a number, its first byte is refused.
 pub fn next_number(text: &[u8], n: u32, room: bool, from: usize) -> Next
     requires { from ≤ length text.now }
-    ensures { (saidNext text.now result ≡ found_from n room from (drop from text.now)) × nextIn from text.now result }
+    ensures { (said_next text.now result ≡ found_from n room from (drop from text.now)) × NextIn from text.now result }
 {
     let mut at = from;
     while at < text.len() {
@@ -49,7 +49,7 @@ pub fn clauses_after(clauses: usize, size: u32) -> usize
 // How many numbers there are, if there are m clauses and all is well.
 pub fn count_numbers(text: &[u8], n: u32, m: u32, from: usize) -> Counted
     requires { from ≤ length text.now }
-    ensures { saidCounted n m result ≡ sized (list_from (started n m) from (drop from text.now)) }
+    ensures { said_counted n m result ≡ sized (list_from (started n m) from (drop from text.now)) }
 {
     let mut at = from;
     let mut numbers: usize = 0;

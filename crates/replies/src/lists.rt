@@ -1,9 +1,9 @@
 // Text read into a lent list.
 ghost use Rattle.std.specs.Prelude.{◌≡◌, ◌≤◌, ◌<◌, length};
 ghost use Rattle.laws.specs.Written.{written};
-ghost use Rattle.definitions.specs.TextReading.{numberRead};
+ghost use Rattle.definitions.specs.TextReading.{number_read_lem};
 ghost use Rattle.laws.specs.Stepping.{num};
-ghost use Rattle.replies.specs.Lists.{numbersFrom, Fits};
+ghost use Rattle.replies.specs.Lists.{numbers_from, Fits};
 ghost use Rattle.replies.specs.Outcome.{TextAllowed};
 
 use super::clauses::{clauses_after, count_numbers, next_number};
@@ -14,7 +14,7 @@ use definitions::{Refusal, Sizing};
 
 fn signed_of(minus: bool, size: u32) -> i32
     requires { size < 2147483648 }
-    ensures { result ≡ numberRead (num 0 minus size) }
+    ensures { result ≡ number_read_lem (num 0 minus size) }
 {
     if minus {
         return -(size as i32);
@@ -25,7 +25,7 @@ fn signed_of(minus: bool, size: u32) -> i32
 // The numbers of text that has been checked, to the start of the list; how many.
 fn put_numbers(text: &[u8], n: u32, m: u32, from: usize, list: &mut [i32]) -> usize
     requires { (n < 2147483648) × (from ≤ length text.now) × Fits n m from text.now list.old }
-    ensures { list.new ≡ written (numbersFrom n m from text.now) list.old }
+    ensures { list.new ≡ written (numbers_from n m from text.now) list.old }
 {
     let mut at = from;
     let mut numbers: usize = 0;
@@ -53,7 +53,7 @@ fn put_numbers(text: &[u8], n: u32, m: u32, from: usize, list: &mut [i32]) -> us
     }
 }
 
-// ReadText: N, M and K, and the list.
+// read_text_outcome: N, M and K, and the list.
 pub fn read_text(text: &[u8], list: &mut [i32]) -> Sizing
     ensures { TextAllowed text.now list.old result list.new }
 {

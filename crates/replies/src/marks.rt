@@ -1,8 +1,8 @@
 // The least variable that does not stand in a reply exactly once, sought by windows of marks.
 ghost use Rattle.std.specs.Prelude.{◌≡◌, ◌+◌, ◌-◌, ◌≤◌, min, length};
-ghost use Rattle.lent.specs.Said.{saidFound};
-ghost use Rattle.replies.specs.Parts.{literalsFrom, HasModel};
-ghost use Rattle.replies.specs.Marks.{Cleared, changed, raised, marksOf, onesFrom, onceFrom, soughtFrom};
+ghost use Rattle.lent.specs.Said.{said_found};
+ghost use Rattle.replies.specs.Parts.{literals_from, HasModel};
+ghost use Rattle.replies.specs.Marks.{Cleared, changed, raised, marks_of, ones_from, once_from, sought_from};
 
 use super::Value;
 use super::values::value_at;
@@ -29,7 +29,7 @@ fn mark(marks: &mut [u8], first: usize, variable: usize)
 // How often each variable of a window stands in the reply, up to twice.
 fn mark_values(text: &[u8], n: u32, from: usize, first: usize, marks: &mut [u8])
     requires { HasModel n from text.now × Cleared marks.old }
-    ensures { marks.new ≡ marksOf first (length marks.old) (literalsFrom n from text.now) }
+    ensures { marks.new ≡ marks_of first (length marks.old) (literals_from n from text.now) }
 {
     let mut at = from;
     let mut line = true;
@@ -57,7 +57,7 @@ fn mark_values(text: &[u8], n: u32, from: usize, first: usize, marks: &mut [u8])
 
 fn first_not_one(marks: &[u8], first: usize) -> Found
     requires { first + length marks.now ≤ 18446744073709551615 }
-    ensures { saidFound 19 result ≡ onesFrom first marks.now }
+    ensures { said_found 19 result ≡ ones_from first marks.now }
 {
     let mut i: usize = 0;
     while i < marks.len() {
@@ -72,7 +72,7 @@ fn first_not_one(marks: &[u8], first: usize) -> Found
 // Of so many variables from `first` on, the least that does not stand in the reply exactly once.
 fn not_once_in(text: &[u8], n: u32, from: usize, first: usize, many: usize) -> Found
     requires { HasModel n from text.now × (many ≤ 32768) × (first + many ≤ 18446744073709551615) }
-    ensures { saidFound 19 result ≡ onceFrom first many (literalsFrom n from text.now) }
+    ensures { said_found 19 result ≡ once_from first many (literals_from n from text.now) }
 {
     let mut marks = [0u8; 32768];
     mark_values(text, n, from, first, &mut marks);
@@ -92,7 +92,7 @@ fn window(left: usize) -> usize
 // few passes are made however great n is.
 pub fn least_not_once(text: &[u8], n: u32, from: usize, first: usize) -> Found
     requires { HasModel n from text.now × (first ≤ n + 1) }
-    ensures { saidFound 19 result ≡ onceFrom first ((n + 1) - first) (literalsFrom n from text.now) }
+    ensures { said_found 19 result ≡ once_from first ((n + 1) - first) (literals_from n from text.now) }
 {
     let end = n as usize + 1;
     let mut at = first;
@@ -112,7 +112,7 @@ pub fn least_not_once(text: &[u8], n: u32, from: usize, first: usize) -> Found
 
 // Literals of 1, 2, .. in this order leave only those past the last to be sought.
 pub fn sought_from(n: u32, count: usize, rising: bool) -> usize
-    ensures { result ≡ soughtFrom n count rising }
+    ensures { result ≡ sought_from n count rising }
 {
     if !rising {
         return 1;

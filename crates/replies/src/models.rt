@@ -1,11 +1,11 @@
 // A reply read into a lent model.
 ghost use Rattle.std.specs.Prelude.{◌≡◌, length, replicate};
 ghost use Rattle.definitions.specs.Operations.{◌leaves◌};
-ghost use Rattle.definitions.specs.Answers.{saidReplied};
-ghost use Rattle.definitions.specs.TextOperations.{modelOf};
-ghost use Rattle.replies.specs.Parts.{literalsFrom, HasModel};
+ghost use Rattle.definitions.specs.Answers.{said_replied};
+ghost use Rattle.definitions.specs.TextOperations.{model_of};
+ghost use Rattle.replies.specs.Parts.{literals_from, HasModel};
 ghost use Rattle.replies.specs.Marks.{Cleared};
-ghost use Rattle.replies.specs.Models.{withLiteral, Told, takenFrom};
+ghost use Rattle.replies.specs.Models.{with_literal, Told, taken_from};
 ghost use Rattle.replies.specs.Outcome.{ReplyAllowed};
 
 use super::marks::{least_not_once, sought_from};
@@ -27,7 +27,7 @@ fn clear(bytes: &mut [u8])
 
 // Byte v - 1 is of variable v.
 fn put_literal(model: &mut [u8], minus: bool, variable: usize)
-    ensures { model.new ≡ withLiteral minus variable model.old }
+    ensures { model.new ≡ with_literal minus variable model.old }
 {
     if minus {
         return;
@@ -44,7 +44,7 @@ fn put_literal(model: &mut [u8], minus: bool, variable: usize)
 
 fn put_literals(text: &[u8], n: u32, from: usize, model: &mut [u8])
     requires { HasModel n from text.now × Cleared model.old }
-    ensures { model.new ≡ modelOf (length model.old) (literalsFrom n from text.now) }
+    ensures { model.new ≡ model_of (length model.old) (literals_from n from text.now) }
 {
     let mut at = from;
     let mut line = true;
@@ -80,7 +80,7 @@ fn take_model(
     model: &mut [u8],
 ) -> Replied
     requires { Told n from count rising text.now }
-    ensures { (saidReplied result leaves (λ x. x.now) model.exit) ≡ takenFrom n from text.now model.old }
+    ensures { (said_replied result leaves (λ x. x.now) model.exit) ≡ taken_from n from text.now model.old }
 {
     match least_not_once(text, n, from, sought_from(n, count, rising)) {
         Found::At(variable) => Replied::Refused(Refusal::VariableNotOnce { number: variable }),
@@ -95,7 +95,7 @@ fn take_model(
     }
 }
 
-// ReadReply: a model, or that there is none; a refusal leaves the lent bytes as they were.
+// read_reply_outcome: a model, or that there is none; a refusal leaves the lent bytes as they were.
 pub fn read_reply(n: u32, text: &[u8], model: &mut [u8]) -> Replied
     ensures { ReplyAllowed n text.now model.old result model.new }
 {

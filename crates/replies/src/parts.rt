@@ -2,8 +2,8 @@
 ghost use Rattle.std.specs.Prelude.{◌≡◌, ◌+◌, ◌≤◌, ◌<◌, length, drop};
 ghost use Rattle.definitions.specs.TextReading.{grown};
 ghost use Rattle.laws.specs.Stepping.{num};
-ghost use Rattle.replies.specs.Parts.{word_at, countFrom, countAt, numberFrom, number_at};
-ghost use Rattle.replies.specs.Said.{saidWord, word_in, saidCount, countIn, saidGrown, saidNumeral, numeralIn};
+ghost use Rattle.replies.specs.Parts.{word_at, count_from, count_at, number_from, number_at};
+ghost use Rattle.replies.specs.Said.{said_word, WordIn, said_count, CountIn, said_grown, said_numeral, NumeralIn};
 
 use super::bytes::{is_blank, is_digit, is_further, is_more, is_whole, worth};
 use super::faults::of_grown;
@@ -11,7 +11,7 @@ use super::{Count, Grown, Numeral, Word};
 
 pub fn word_at(text: &[u8], word: &[u8], from: usize) -> Word
     requires { from ≤ length text.now }
-    ensures { (saidWord text.now result ≡ word_at word.now from (drop from text.now)) × word_in from text.now result }
+    ensures { (said_word text.now result ≡ word_at word.now from (drop from text.now)) × WordIn from text.now result }
 {
     let mut i: usize = 0;
     let mut at = from;
@@ -30,7 +30,7 @@ pub fn word_at(text: &[u8], word: &[u8], from: usize) -> Word
 
 fn count_from(text: &[u8], first: u32, from: usize) -> Count
     requires { (first ≤ 2147483647) × (from ≤ length text.now) }
-    ensures { (saidCount text.now result ≡ countFrom first from (drop from text.now)) × countIn from text.now result }
+    ensures { (said_count text.now result ≡ count_from first from (drop from text.now)) × CountIn from text.now result }
 {
     let mut value = first;
     let mut at = from;
@@ -52,7 +52,7 @@ fn count_from(text: &[u8], first: u32, from: usize) -> Count
 // N or M of the first line.
 pub fn count_at(text: &[u8], from: usize) -> Count
     requires { from ≤ length text.now }
-    ensures { (saidCount text.now result ≡ countAt from (drop from text.now)) × countIn from text.now result }
+    ensures { (said_count text.now result ≡ count_at from (drop from text.now)) × CountIn from text.now result }
 {
     if text.len() <= from {
         return Count::Bad(from);
@@ -65,7 +65,7 @@ pub fn count_at(text: &[u8], from: usize) -> Count
 }
 
 fn grow(n: u32, start: usize, minus: bool, size: u32, at: usize, b: u8) -> Grown
-    ensures { saidGrown start minus result ≡ grown n (num start minus size) at b }
+    ensures { said_grown start minus result ≡ grown n (num start minus size) at b }
 {
     if !is_further(minus, size, b) {
         return Grown::Bad(at);
@@ -79,7 +79,7 @@ fn grow(n: u32, start: usize, minus: bool, size: u32, at: usize, b: u8) -> Grown
 
 fn number_from(text: &[u8], n: u32, start: usize, minus: bool, first: u32, from: usize) -> Numeral
     requires { from ≤ length text.now }
-    ensures { (saidNumeral start text.now result ≡ numberFrom n (num start minus first) from (drop from text.now)) × numeralIn from text.now result }
+    ensures { (said_numeral start text.now result ≡ number_from n (num start minus first) from (drop from text.now)) × NumeralIn from text.now result }
 {
     let mut size = first;
     let mut at = from;
@@ -115,7 +115,7 @@ fn number_from(text: &[u8], n: u32, start: usize, minus: bool, first: u32, from:
 // A number: the place of its first byte is known to have a byte.
 pub fn number_at(text: &[u8], n: u32, start: usize) -> Numeral
     requires { start < length text.now }
-    ensures { (saidNumeral start text.now result ≡ number_at n start (drop start text.now)) × numeralIn (start + 1) text.now result }
+    ensures { (said_numeral start text.now result ≡ number_at n start (drop start text.now)) × NumeralIn (start + 1) text.now result }
 {
     let b = text[start];
     if b == 45 {

@@ -1,8 +1,8 @@
 // A whole reply.
 ghost use Rattle.std.specs.Prelude.{◌≡◌, ◌≤◌, length, drop};
-ghost use Rattle.definitions.specs.TextReading.{readReply};
-ghost use Rattle.replies.specs.Parts.{summed, noneAt, model_at};
-ghost use Rattle.replies.specs.Said.{saidHeard, heardIn};
+ghost use Rattle.definitions.specs.TextReading.{read_reply};
+ghost use Rattle.replies.specs.Parts.{summed, none_at, model_at};
+ghost use Rattle.replies.specs.Said.{said_heard, HeardIn};
 
 use super::faults::{of_listed, of_word};
 use super::parts::word_at;
@@ -11,7 +11,7 @@ use super::{Heard, Listed, Word};
 
 fn no_model(text: &[u8], from: usize) -> Heard
     requires { from ≤ length text.now }
-    ensures { saidHeard result ≡ summed (noneAt from (drop from text.now)) }
+    ensures { said_heard result ≡ summed (none_at from (drop from text.now)) }
 {
     let read = word_at(text, b"UNSATISFIABLE\n", from);
     let Word::Past(next) = read else {
@@ -25,7 +25,7 @@ fn no_model(text: &[u8], from: usize) -> Heard
 
 fn a_model(text: &[u8], n: u32, from: usize) -> Heard
     requires { from ≤ length text.now }
-    ensures { (saidHeard result ≡ summed (model_at n from (drop from text.now))) × heardIn n text.now (model_at n from (drop from text.now)) result }
+    ensures { (said_heard result ≡ summed (model_at n from (drop from text.now))) × HeardIn n text.now (model_at n from (drop from text.now)) result }
 {
     let word = word_at(text, b"SATISFIABLE\n", from);
     let Word::Past(next) = word else {
@@ -44,7 +44,7 @@ fn a_model(text: &[u8], n: u32, from: usize) -> Heard
 
 // 'None', or the count of literals and whether they are in order, or the detail of 18.
 pub fn check_reply(text: &[u8], n: u32) -> Heard
-    ensures { (saidHeard result ≡ summed (readReply n text.now)) × heardIn n text.now (readReply n text.now) result }
+    ensures { (said_heard result ≡ summed (read_reply n text.now)) × HeardIn n text.now (read_reply n text.now) result }
 {
     let read = word_at(text, b"s ", 0);
     let Word::Past(next) = read else {

@@ -2,8 +2,8 @@
 ghost use Rattle.std.specs.Prelude.{◌≡◌, ◌+◌, ◌≤◌, ◌<◌, length, drop};
 ghost use Rattle.definitions.specs.Tools.{◌&&◌, eqb};
 ghost use Rattle.laws.specs.Stepping.{num};
-ghost use Rattle.replies.specs.Parts.{afterNumber, numberOn, value_at, replyFrom, lines, summed};
-ghost use Rattle.replies.specs.Said.{saidValue, valueIn, saidListed};
+ghost use Rattle.replies.specs.Parts.{after_number, number_on, value_at, reply_from, lines, summed};
+ghost use Rattle.replies.specs.Said.{said_value, ValueIn, said_listed};
 
 use super::faults::{of_numeral, of_word};
 use super::parts::{number_at, word_at};
@@ -12,7 +12,7 @@ use super::{Listed, Numeral, Value, Word};
 // What follows a number: after the 0 a newline and the end, after a literal a blank.
 fn after_number(text: &[u8], minus: bool, size: u32, from: usize) -> Value
     requires { from ≤ length text.now }
-    ensures { (saidValue text.now result ≡ afterNumber (num 0 minus size) from (drop from text.now)) × valueIn from text.now result }
+    ensures { (said_value text.now result ≡ after_number (num 0 minus size) from (drop from text.now)) × ValueIn from text.now result }
 {
     if text.len() <= from {
         return Value::Bad(from);
@@ -37,7 +37,7 @@ fn after_number(text: &[u8], minus: bool, size: u32, from: usize) -> Value
 
 fn number_on(text: &[u8], n: u32, from: usize) -> Value
     requires { from ≤ length text.now }
-    ensures { (saidValue text.now result ≡ numberOn n from (drop from text.now)) × valueIn from text.now result }
+    ensures { (said_value text.now result ≡ number_on n from (drop from text.now)) × ValueIn from text.now result }
 {
     if text.len() <= from {
         return Value::Bad(from);
@@ -52,7 +52,7 @@ fn number_on(text: &[u8], n: u32, from: usize) -> Value
 // The next number, at a line's beginning or in it.
 pub fn value_at(text: &[u8], n: u32, line: bool, from: usize) -> Value
     requires { from ≤ length text.now }
-    ensures { (saidValue text.now result ≡ value_at n line from (drop from text.now)) × valueIn from text.now result }
+    ensures { (said_value text.now result ≡ value_at n line from (drop from text.now)) × ValueIn from text.now result }
 {
     if line {
         let read = word_at(text, b"v ", from);
@@ -77,7 +77,7 @@ fn is_next(rising: bool, size: u32, literals: usize) -> bool
 // How many literals there are, and whether they are of 1, 2, .. in this order, if all is well.
 pub fn count_values(text: &[u8], n: u32, from: usize) -> Listed
     requires { from ≤ length text.now }
-    ensures { saidListed result ≡ summed (replyFrom (lines n) from (drop from text.now)) }
+    ensures { said_listed result ≡ summed (reply_from (lines n) from (drop from text.now)) }
 {
     let mut at = from;
     let mut line = true;

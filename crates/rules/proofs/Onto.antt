@@ -8,31 +8,31 @@ use Rattle.rules.specs.declared.Ahead.{Ahead}
 use Rattle.rules.specs.declared.Cursor.{Cursor}
 use Rattle.rules.specs.declared.Piece.{Piece}
 use Rattle.rules.specs.declared.Stepped.{Stepped}
-use Rattle.rules.specs.Cursors.{comingAt, Sound, Meets, Passes, Went, Came, todo}
+use Rattle.rules.specs.Cursors.{coming_at, Sound, Meets, Passes, Went, Came, todo}
 
 -- between the cursors c and c' there is no piece
 pub record Onto (ctx : Context) (t : List ℕ) (c c' : Cursor) : Type 0 where
   pub sound : Sound ctx t c'
-  pub same : comingAt t c ≡ comingAt t c'
+  pub same : coming_at t c ≡ coming_at t c'
   pub most : todo c' ≤ todo c
 
-pub onto-start : {ctx : Context} {t : List ℕ} {c : Cursor} → Sound ctx t c → Onto ctx t c c
-onto-start s = record { sound = s; same = refl; most = omega arith }
+pub onto_start : {ctx : Context} {t : List ℕ} {c : Cursor} → Sound ctx t c → Onto ctx t c c
+onto_start s = record { sound = s; same = refl; most = omega arith }
 
 -- what a step from c' tells
 module _ {ctx : Context} {t : List ℕ} {c c' : Cursor} (h : Onto ctx t c c') {r : Stepped} (w : Went ctx t c' r) where
-  pub onto-met : {p : Piece} {d : Cursor} → r ≡ Stepped.Met p d → Came ctx t c (Ahead.Met p d)
+  pub onto_met : {p : Piece} {d : Cursor} → r ≡ Stepped.Met p d → Came ctx t c (Ahead.Met p d)
   unfolding Went Came
-  onto-met {p} {d} e =
+  onto_met {p} {d} e =
       let k : Meets ctx t c' p d = rw e at w in
       record { comes = h.same ∙ k.comes; held = k.held; onward = record { sound = k.onward.sound; less = omega (arith, k.onward.less, h.most) }; few = k.few }
 
-  pub onto-passed : {d : Cursor} → r ≡ Stepped.Passed d → Onto ctx t c d × (todo d < todo c')
+  pub onto_passed : {d : Cursor} → r ≡ Stepped.Passed d → Onto ctx t c d × (todo d < todo c')
   unfolding Went
-  onto-passed {d} e =
+  onto_passed {d} e =
       let k : Passes ctx t c' d = rw e at w in
       (record { sound = k.onward.sound; same = h.same ∙ k.same; most = omega (arith, k.onward.less, h.most) }, k.onward.less)
 
-  pub onto-end : r ≡ Stepped.End → Came ctx t c Ahead.Nothing
+  pub onto_end : r ≡ Stepped.End → Came ctx t c Ahead.Nothing
   unfolding Went Came
-  onto-end e = h.same ∙ (rw e at w)
+  onto_end e = h.same ∙ (rw e at w)

@@ -1,12 +1,12 @@
 -- What is coming at a cursor, and what a step says of it. Assumes nothing.
 use Rattle.std.specs.Prelude.{◌≡◌, Bool, true, List, [], ◌∷◌, ℕ, ◌+◌, ◌*◌, ◌-◌, ◌≤◌, ◌<◌}
 use Rattle.definitions.specs.Result.{done}
-use Rattle.definitions.specs.Reading.{Context, times, readLiteral}
+use Rattle.definitions.specs.Reading.{Context, times, read_literal}
 use Rattle.definitions.specs.Encoding.{selector, minus}
-use Rattle.laws.specs.Limits.{selectorsLimit}
-use Rattle.laws.specs.Reread.{comparisonAt, Stands}
+use Rattle.laws.specs.Limits.{selectors_limit}
+use Rattle.laws.specs.Reread.{comparison_at, Stands}
 use Rattle.laws.specs.Pieces.{Piece, line, under}
-use Rattle.laws.specs.Again.{literalsAt}
+use Rattle.laws.specs.Again.{literals_at}
 use Rattle.laws.specs.Ahead.{Readable, coming}
 use Rattle.rules.specs.declared.Cursor.{Cursor}
 use Rattle.rules.specs.declared.Piece as code
@@ -29,32 +29,32 @@ abbrev pub todo : Cursor → ℕ
 todo c = c.literals + 65 * c.clauses
 
 -- the selectors up to the end of a piece; a lone comparison has none
-abbrev pub selectorsTo : code.Piece → ℕ
-selectorsTo (code.Piece.Line place n j) = j + n
-selectorsTo (code.Piece.Lone place constant) = 0
-selectorsTo (code.Piece.Led j place constant) = j + 1
+abbrev pub selectors_to : code.Piece → ℕ
+selectors_to (code.Piece.Line place n j) = j + n
+selectors_to (code.Piece.Lone place constant) = 0
+selectors_to (code.Piece.Led j place constant) = j + 1
 
 module _ (t : List ℕ) where
-  abbrev pub saidPiece : code.Piece → Piece
-  saidPiece (code.Piece.Line place n j) = line j (literalsAt t n place).value
-  saidPiece (code.Piece.Lone place constant) = under [] (comparisonAt t place constant)
-  saidPiece (code.Piece.Led j place constant) = under (minus (selector j) ∷ []) (comparisonAt t place constant)
+  abbrev pub said_piece : code.Piece → Piece
+  said_piece (code.Piece.Line place n j) = line j (literals_at t n place).value
+  said_piece (code.Piece.Lone place constant) = under [] (comparison_at t place constant)
+  said_piece (code.Piece.Led j place constant) = under (minus (selector j) ∷ []) (comparison_at t place constant)
 
-  unfoldable pub comingAt : Cursor → List Piece
-  comingAt c = coming t c.led c.selector c.literals c.clauses c.place
+  unfoldable pub coming_at : Cursor → List Piece
+  coming_at c = coming t c.led c.selector c.literals c.clauses c.place
 
 -- in the context in which the record was read
 module _ (ctx : Context) (t : List ℕ) where
   -- what a piece's bytes are known to hold
   abbrev pub Held : code.Piece → Type 0
-  Held (code.Piece.Line place n j) = times n (readLiteral ctx) t place ≡ done (literalsAt t n place)
+  Held (code.Piece.Line place n j) = times n (read_literal ctx) t place ≡ done (literals_at t n place)
   Held (code.Piece.Lone place constant) = Stands ctx.ints t place constant
   Held (code.Piece.Led j place constant) = Stands ctx.ints t place constant
 
   -- all that is coming was read, and selectors stay few
   pub record Sound (c : Cursor) : Type 0 where
     pub readable : Readable ctx t c.literals c.clauses c.place
-    pub few : c.selector + c.literals + 64 * c.clauses ≤ selectorsLimit
+    pub few : c.selector + c.literals + 64 * c.clauses ≤ selectors_limit
     pub short : c.literals ≤ 64
 
   pub record Onward (c c' : Cursor) : Type 0 where
@@ -62,31 +62,31 @@ module _ (ctx : Context) (t : List ℕ) where
     pub less : todo c' < todo c
 
   pub record Meets (c : Cursor) (p : code.Piece) (c' : Cursor) : Type 0 where
-    pub comes : comingAt t c ≡ saidPiece t p ∷ comingAt t c'
+    pub comes : coming_at t c ≡ said_piece t p ∷ coming_at t c'
     pub held : Held p
     pub onward : Onward c c'
-    pub few : selectorsTo p ≤ selectorsLimit
+    pub few : selectors_to p ≤ selectors_limit
 
   pub record Passes (c c' : Cursor) : Type 0 where
-    pub same : comingAt t c ≡ comingAt t c'
+    pub same : coming_at t c ≡ coming_at t c'
     pub onward : Onward c c'
 
   unfoldable pub Went : Cursor → Stepped → Type 0
   Went c (Stepped.Met p c') = Meets c p c'
   Went c (Stepped.Passed c') = Passes c c'
-  Went c Stepped.End = comingAt t c ≡ []
+  Went c Stepped.End = coming_at t c ≡ []
 
   -- the next piece
   unfoldable pub Came : Cursor → Ahead → Type 0
   Came c (Ahead.Met p c') = Meets c p c'
-  Came c Ahead.Nothing = comingAt t c ≡ []
+  Came c Ahead.Nothing = coming_at t c ≡ []
 
   module _ (c : Cursor) {r : Ahead} (w : Came c r) where
     pub meets : {p : code.Piece} {c' : Cursor} → r ≡ Ahead.Met p c' → Meets c p c'
     unfolding Came
     meets e = rw e at w
 
-    pub ends : r ≡ Ahead.Nothing → comingAt t c ≡ []
+    pub ends : r ≡ Ahead.Nothing → coming_at t c ≡ []
     unfolding Came
     ends e = rw e at w
 

@@ -1,6 +1,6 @@
 // A pass through the rules by value: a cursor that steps from piece to piece of the rules' clauses.
 ghost use Rattle.std.specs.Prelude.{◌≡◌, ◌<◌};
-ghost use Rattle.laws.specs.Again.{There, literalsAt};
+ghost use Rattle.laws.specs.Again.{There, literals_at};
 ghost use Rattle.laws.specs.Pieces.{lone};
 ghost use Rattle.rules.specs.Cursors.{Steady, Steps, Comes, at_start, behind, within};
 
@@ -122,7 +122,7 @@ fn past_literal(rules: &[u8], c: Cursor) -> Stepped
 // Whether a clause of n literals, which begin at a place, is a comparison alone: the first literal's kind tells.
 fn is_lone(rules: &[u8], n: usize, at: usize) -> bool
     requires { n ≡ 1 → There rules.now at }
-    ensures { result ≡ lone (literalsAt rules.now n at).value }
+    ensures { result ≡ lone (literals_at rules.now n at).value }
 {
     if n != 1 {
         return false;

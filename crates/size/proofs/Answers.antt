@@ -3,18 +3,18 @@ use mathlib.Core.Path.{◌≡◌}
 use mathlib.Core.List.{List}
 use Prim.Native.Nat.{ℕ}
 use Rattle.definitions.specs.Result.{done, refused}
-use Rattle.definitions.specs.Operations.{accepted, sizesOf, Size}
+use Rattle.definitions.specs.Operations.{accepted, sizes_of, size_outcome}
 use Rattle.opening.specs.declared.Header.{Header}
-use Rattle.opening.specs.Said.{mapDone}
+use Rattle.opening.specs.Said.{map_done}
 use Rattle.measure.specs.declared.Totals.{Totals}
-use Rattle.measure.specs.Said.{measuredOf}
-use Rattle.measure.specs.Told.{measured, not-measured}
+use Rattle.measure.specs.Said.{measured_of}
+use Rattle.measure.specs.Told.{measured, not_measured}
 
 module _ (s : List ℕ) where
-  pub sized : (h : Header) (t : Totals) → mapDone measuredOf (accepted s) ≡ done (h, t) → done (record { n = t.n; m = t.m; k = t.k }) ≡ Size s
-  unfolding Size sizesOf
+  pub sized : (h : Header) (t : Totals) → map_done measured_of (accepted s) ≡ done (h, t) → done (record { n = t.n; m = t.m; k = t.k }) ≡ size_outcome s
+  unfolding size_outcome sizes_of
   sized h t e = let m = measured s e in rw (m.board, m.totals)
 
-  pub unsized : (n d : ℕ) → mapDone measuredOf (accepted s) ≡ refused n d → refused n d ≡ Size s
-  unfolding Size
-  unsized n d e = rw (not-measured s e)
+  pub unsized : (n d : ℕ) → map_done measured_of (accepted s) ≡ refused n d → refused n d ≡ size_outcome s
+  unfolding size_outcome
+  unsized n d e = rw (not_measured s e)

@@ -2,12 +2,12 @@
 use Rattle.std.specs.Prelude.{◌≡◌, List, ℕ}
 use Rattle.std.proofs.Common.{sym, ◌∙◌}
 use Rattle.definitions.specs.declared.Sizing.{Sizing}
-use Rattle.definitions.specs.Answers.{saidSizing}
-use Rattle.definitions.specs.Operations.{Size}
-use Rattle.laws.specs.Outcomes.{one-sizing}
+use Rattle.definitions.specs.Answers.{said_sizing}
+use Rattle.definitions.specs.Operations.{size_outcome}
+use Rattle.laws.specs.Outcomes.{one_sizing}
 
 abbrev pub Allowed : List ℕ → Sizing → Type 0
-Allowed s r = saidSizing r ≡ Size s
+Allowed s r = said_sizing r ≡ size_outcome s
 
-pub one-outcome : (s : List ℕ) (r r' : Sizing) → Allowed s r → Allowed s r' → r ≡ r'
-one-outcome s r r' a a' = one-sizing r r' (a ∙ sym a')
+pub one_outcome : (s : List ℕ) (r r' : Sizing) → Allowed s r → Allowed s r' → r ≡ r'
+one_outcome s r r' a a' = one_sizing r r' (a ∙ sym a')

@@ -2,12 +2,12 @@
 ghost use Rattle.std.specs.Prelude.{◌≡◌, ◌+◌, ◌*◌, ◌≤◌, ◌<◌, length};
 ghost use Rattle.definitions.specs.Tools.{All};
 ghost use Rattle.laws.specs.Admitted.{GoodTerm};
-ghost use Rattle.laws.specs.Boards.{Opens, boardOf};
-ghost use Rattle.laws.specs.Reread.{termAt, termsAt, comparisonAt, TermsStand, Stands};
-ghost use Rattle.walk.specs.Slots.{slotOf};
+ghost use Rattle.laws.specs.Boards.{Opens, board_of};
+ghost use Rattle.laws.specs.Reread.{term_at, terms_at, comparison_at, TermsStand, Stands};
+ghost use Rattle.walk.specs.Slots.{slot_of};
 ghost use Rattle.slots.specs.Variables.{numbered};
 ghost use Rattle.slots.specs.Ready.{Small, ReadyBy};
-ghost use Rattle.slots.specs.Terms.{termRead, TermsOf};
+ghost use Rattle.slots.specs.Terms.{term_read, TermsOf};
 
 use crate::variables::{bounds_of, first_in};
 use crate::{Term, Terms};
@@ -16,7 +16,7 @@ use walk::{Comparison, Slot};
 
 fn term_at(rules: &[u8], at: usize) -> Term
     requires { at + 3 ≤ length rules.now }
-    ensures { termRead result ≡ termAt rules.now at }
+    ensures { term_read result ≡ term_at rules.now at }
 {
     Term {
         coefficient: unchecked_signed(rules, at, 1),
@@ -27,7 +27,7 @@ fn term_at(rules: &[u8], at: usize) -> Term
 // The terms of the comparison whose term count stands at a place.
 pub fn terms_at(rules: &[u8], place: usize) -> Terms
     requires { TermsStand rules.now place }
-    ensures { TermsOf (termsAt rules.now place) result }
+    ensures { TermsOf (terms_at rules.now place) result }
 {
     let n = unchecked(rules, place, 1) as usize;
     let mut terms = [Term {
@@ -44,8 +44,8 @@ pub fn terms_at(rules: &[u8], place: usize) -> Terms
 
 // The term with its variable's bounds and first number.
 fn slot_of(bytes: &[u8], firsts: &[u32], term: Term) -> Slot
-    requires { Opens bytes.now × GoodTerm (length (boardOf bytes.now).bounds) (termRead term) }
-    ensures { result ≡ slotOf (boardOf bytes.now) (numbered firsts.now) (termRead term) }
+    requires { Opens bytes.now × GoodTerm (length (board_of bytes.now).bounds) (term_read term) }
+    ensures { result ≡ slot_of (board_of bytes.now) (numbered firsts.now) (term_read term) }
 {
     let x = term.variable;
     let bounds = bounds_of(bytes, x);
@@ -59,8 +59,8 @@ fn slot_of(bytes: &[u8], firsts: &[u32], term: Term) -> Slot
 
 // The slot of term i, counted from 0, of the comparison whose term count, n, stands at a place; where there is none, of no use.
 fn slot_at(bytes: &[u8], firsts: &[u32], rules: &[u8], place: usize, n: usize, i: usize) -> Slot
-    requires { Opens bytes.now × TermsStand rules.now place × All (GoodTerm (length (boardOf bytes.now).bounds)) (termsAt rules.now place) × (n ≡ length (termsAt rules.now place)) }
-    ensures { i < n → result ≡ slotOf (boardOf bytes.now) (numbered firsts.now) (termAt rules.now (place + 1 + 3 * i)) }
+    requires { Opens bytes.now × TermsStand rules.now place × All (GoodTerm (length (board_of bytes.now).bounds)) (terms_at rules.now place) × (n ≡ length (terms_at rules.now place)) }
+    ensures { i < n → result ≡ slot_of (board_of bytes.now) (numbered firsts.now) (term_at rules.now (place + 1 + 3 * i)) }
 {
     if n <= i {
         return Slot {
@@ -76,8 +76,8 @@ fn slot_at(bytes: &[u8], firsts: &[u32], rules: &[u8], place: usize, n: usize, i
 // The comparison whose term count stands at a place of the rules; a table gives the first numbers, and those that it lacks are 0.
 // Its slots are no array until all are there: one that is filled by index and then copied is slow.
 pub fn ready(bytes: &[u8], firsts: &[u32], rules: &[u8], place: usize, constant: i32) -> Comparison
-    requires { Opens bytes.now × Small (boardOf bytes.now) firsts.now × Stands (length (boardOf bytes.now).bounds) rules.now place constant }
-    ensures { ReadyBy (boardOf bytes.now) (numbered firsts.now) (comparisonAt rules.now place constant) result }
+    requires { Opens bytes.now × Small (board_of bytes.now) firsts.now × Stands (length (board_of bytes.now).bounds) rules.now place constant }
+    ensures { ReadyBy (board_of bytes.now) (numbered firsts.now) (comparison_at rules.now place constant) result }
 {
     let n = unchecked(rules, place, 1) as usize;
     let a = slot_at(bytes, firsts, rules, place, n, 0);

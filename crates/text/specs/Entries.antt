@@ -4,29 +4,29 @@ use Rattle.std.proofs.Common.{sym, ap, ◌∙◌, add-one, arith, length-append,
 use mathlib.Core.List.{List, [], ◌∷◌, ◌++◌, map, flatten}
 use Rattle.definitions.specs.Dimacs.{decimal, digits, entry}
 use Rattle.laws.specs.Whole.{whole}
-use Rattle.text.specs.Lines.{withEnd}
+use Rattle.text.specs.Lines.{with_end}
 use Rattle.laws.specs.Decimals.{digits-length}
 
-above : (z : ℤ) → pos 0 <ℤ z → entry z ≡ withEnd (nat_abs z) 32
+above : (z : ℤ) → pos 0 <ℤ z → entry z ≡ with_end (nat_abs z) 32
 unfolding entry
 above (pos zero) h = absurd (omega whole)
 above (pos (suc v)) h = refl
 above (negsuc v) h = absurd (omega whole)
 
-below : (z : ℤ) → z <ℤ pos 0 → entry z ≡ 45 ∷ withEnd (nat_abs z) 32
+below : (z : ℤ) → z <ℤ pos 0 → entry z ≡ 45 ∷ with_end (nat_abs z) 32
 unfolding entry
 below (pos n) h = absurd (omega whole)
 below (negsuc v) h = refl
 
 -- by sign, m the number without it
 module _ (z : ℤ) (m : ℕ) (e : m ≡ nat_abs z) where
-  pub entry-above : pos 0 <ℤ z → entry z ≡ withEnd m 32
-  entry-above h = above z h ∙ ap (λ n. withEnd n 32) (sym e)
+  pub entry-above : pos 0 <ℤ z → entry z ≡ with_end m 32
+  entry-above h = above z h ∙ ap (λ n. with_end n 32) (sym e)
 
-  pub entry-below : z <ℤ pos 0 → entry z ≡ 45 ∷ withEnd m 32
-  entry-below h = below z h ∙ ap (λ n. 45 ∷ withEnd n 32) (sym e)
+  pub entry-below : z <ℤ pos 0 → entry z ≡ 45 ∷ with_end m 32
+  entry-below h = below z h ∙ ap (λ n. 45 ∷ with_end n 32) (sym e)
 
-pub entry_zero : (z : ℤ) → z ≤ℤ pos 0 → pos 0 ≤ℤ z → entry z ≡ withEnd 0 10
+pub entry_zero : (z : ℤ) → z ≤ℤ pos 0 → pos 0 ≤ℤ z → entry z ≡ with_end 0 10
 unfolding entry digits
 entry_zero (pos zero) h g = refl
 entry_zero (pos (suc n)) h g = absurd (omega whole)

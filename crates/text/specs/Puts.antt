@@ -11,10 +11,10 @@ pub retold : (t u before : List ℕ) (n : ℕ) (after : List ℕ) → t ≡ u �
 retold t u before n after e p = subst (λ (x : List ℕ). Put x before n after) e p
 
 -- the text is what stands in the first n bytes
-pub put-text : (t before : List ℕ) (n : ℕ) (after : List ℕ) → Put t before n after → take n after ≡ t
+pub put_text : (t before : List ℕ) (n : ℕ) (after : List ℕ) → Put t before n after → take n after ≡ t
 unfolding written
-put-text t before n after p = ap (take n) p.1 ∙ take_at t (drop (length t) before) n (sym p.0)
+put_text t before n after p = ap (take n) p.1 ∙ take_at t (drop (length t) before) n (sym p.0)
 
 -- one outcome
-pub put-once : (t before : List ℕ) (n n' : ℕ) (after after' : List ℕ) → Put t before n after → Put t before n' after' → (n ≡ n') × (after ≡ after')
-put-once t before n n' after after' p p' = (p.0 ∙ sym p'.0, p.1 ∙ sym p'.1)
+pub put_once : (t before : List ℕ) (n n' : ℕ) (after after' : List ℕ) → Put t before n after → Put t before n' after' → (n ≡ n') × (after ≡ after')
+put_once t before n n' after after' p p' = (p.0 ∙ sym p'.0, p.1 ∙ sym p'.1)

@@ -2,7 +2,7 @@
 ghost use Rattle.std.specs.Prelude.{◌≡◌, ◌≤◌, length, nat_abs};
 ghost use Rattle.definitions.specs.Dimacs.{decimal, entry};
 ghost use Rattle.text.specs.Puts.{Put};
-ghost use Rattle.text.specs.Lines.{withEnd};
+ghost use Rattle.text.specs.Lines.{with_end};
 ghost use Rattle.text.specs.Entries.{entries};
 
 use crate::lengths::digits;
@@ -26,8 +26,8 @@ pub fn put_decimal(n: u64, out: &mut [u8]) -> usize
 
 // A number and the byte that ends it.
 pub fn put_ended(n: u64, end: u8, out: &mut [u8]) -> usize
-    requires { length (withEnd n end) ≤ length out.old }
-    ensures { Put (withEnd n end) out.old result out.new }
+    requires { length (with_end n end) ≤ length out.old }
+    ensures { Put (with_end n end) out.old result out.new }
 {
     let at = put_decimal(n, out);
     out[at] = end;

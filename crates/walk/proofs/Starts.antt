@@ -7,88 +7,88 @@ use lib.ListN.{length, get_or, replicate, length-map, length-replicate}
 use lib.Seq.{drop_at}
 use lib.IntN.{ℤ, pos, ◌+ℤ◌, ◌-ℤ◌}
 use lib.Signed.{◌<ℤ◌}
-use Rattle.definitions.specs.Tools.{All, sumZ}
+use Rattle.definitions.specs.Tools.{All, sum_z}
 use Rattle.definitions.specs.Board.{Bounds}
 use Rattle.definitions.specs.Encoding.{tuples}
-use Rattle.laws.specs.Whole.{whole, add-law, sub-law, part-law, abs-law}
-use Rattle.laws.specs.Lists.{all-every, all_map, all-impl, all_append, map_same}
+use Rattle.laws.specs.Whole.{whole, add_law, sub_law, part_law, abs_law}
+use Rattle.laws.specs.Lists.{all_every, all_map, all_impl, all_append, map_same}
 use Rattle.laws.specs.Offsets.{offsets}
-use Rattle.laws.specs.Tuples.{Ordered, lows, shift, no-term, tuples-none, tuples-offsets, tuples-padded, lows-padded, ordered-padded}
+use Rattle.laws.specs.Tuples.{Ordered, lows, shift, no_term, tuples_none, tuples-offsets, tuples_padded, lows_padded, ordered_padded}
 use Rattle.walk.specs.declared.Slot.{Slot}
 use Rattle.walk.specs.declared.Comparison.{Comparison}
 use Rattle.walk.specs.declared.Place.{Place}
 use Rattle.walk.specs.declared.At.{At}
 use Rattle.walk.specs.declared.At.TheVariants.{End}
-use Rattle.walk.specs.Slots.{FairSlot, valueBounds, slotBounds, slotLiteral}
-use Rattle.walk.specs.Walks.{boundsAt, above, tuplesLeft, Fine, Over}
-use Rattle.walk.specs.Comparisons.{slots_of, rangesOf, leastOf, overLeast, literalsOf, FairComparison, paddedRanges, placed, Walking, literalsAt, toCome}
-use Rattle.walk.proofs.Slots.{slot-near, slot-ordered}
-use Rattle.walk.proofs.Padding.{padded-length}
+use Rattle.walk.specs.Slots.{FairSlot, value_bounds, slot_bounds, slot_literal}
+use Rattle.walk.specs.Walks.{bounds_at, above, tuples_left, Fine, Over}
+use Rattle.walk.specs.Comparisons.{slots_of, ranges_of, least_of, over_least, literals_of, FairComparison, padded_ranges, placed, Walking, literals_at, to_come}
+use Rattle.walk.proofs.Slots.{slot_near, slot_ordered}
+use Rattle.walk.proofs.Padding.{padded_length}
 
-slots-lows : (ss : List Slot) → sumZ (lows (map slotBounds ss)) +ℤ pos (length ss) ≡ sumZ (map (λ s. (valueBounds s).lo) ss)
-unfolding slotBounds
-slots-lows [] = refl
-slots-lows (s ∷ ss) =
-    let l = (valueBounds s).lo in
-    let m = sumZ (lows (map slotBounds ss)) in
-    let r = slots-lows ss in
-    omega (whole, add-law (l -ℤ pos 1) m, sub-law l (pos 1), add-law ((l -ℤ pos 1) +ℤ m) (pos (suc (length ss))), add-law m (pos (length ss)), add-law l (sumZ (map (λ s. (valueBounds s).lo) ss)))
+slots_lows : (ss : List Slot) → sum_z (lows (map slot_bounds ss)) +ℤ pos (length ss) ≡ sum_z (map (λ s. (value_bounds s).lo) ss)
+unfolding slot_bounds
+slots_lows [] = refl
+slots_lows (s ∷ ss) =
+    let l = (value_bounds s).lo in
+    let m = sum_z (lows (map slot_bounds ss)) in
+    let r = slots_lows ss in
+    omega (whole, add_law (l -ℤ pos 1) m, sub_law l (pos 1), add_law ((l -ℤ pos 1) +ℤ m) (pos (suc (length ss))), add_law m (pos (length ss)), add_law l (sum_z (map (λ s. (value_bounds s).lo) ss)))
 
 module _ (c : Comparison) (f : FairComparison c) where
   abbrev s : ℤ
   s = c.constant -ℤ pos c.n +ℤ pos 1
 
   abbrev R : List Bounds
-  R = paddedRanges c
+  R = padded_ranges c
 
-  terms-lows : sumZ (lows (rangesOf c)) +ℤ pos c.n ≡ leastOf c
-  unfolding leastOf
-  terms-lows = ap (λ n. sumZ (lows (rangesOf c)) +ℤ pos n) (sym f.counted) ∙ slots-lows (slots_of c)
+  terms_lows : sum_z (lows (ranges_of c)) +ℤ pos c.n ≡ least_of c
+  unfolding least_of
+  terms_lows = ap (λ n. sum_z (lows (ranges_of c)) +ℤ pos n) (sym f.counted) ∙ slots_lows (slots_of c)
 
-  over-law : (t : ℤ) → t ≡ overLeast c → s ≡ sumZ (lows (rangesOf c)) +ℤ t
-  unfolding overLeast
-  over-law t e =
+  over_law : (t : ℤ) → t ≡ over_least c → s ≡ sum_z (lows (ranges_of c)) +ℤ t
+  unfolding over_least
+  over_law t e =
       let k = c.constant in
-      let m = sumZ (lows (rangesOf c)) in
+      let m = sum_z (lows (ranges_of c)) in
       let n = c.n in
-      omega (whole, terms-lows, add-law m (pos n), add-law m t, sub-law k (leastOf c), add-law (k -ℤ leastOf c) (pos 1), sub-law k (pos n), add-law (k -ℤ pos n) (pos 1))
+      omega (whole, terms_lows, add_law m (pos n), add_law m t, sub_law k (least_of c), add_law (k -ℤ least_of c) (pos 1), sub_law k (pos n), add_law (k -ℤ pos n) (pos 1))
 
   -- ---- below the least there is nothing
-  pub start-end : overLeast c <ℤ pos 0 → Walking c End × (toCome c End ≡ literalsOf c)
-  unfolding Walking Over toCome tuplesLeft literalsOf
+  pub start-end : over_least c <ℤ pos 0 → Walking c End × (to_come c End ≡ literals_of c)
+  unfolding Walking Over to_come tuples_left literals_of
   start-end h =
-      let e = over-law (overLeast c) refl in
-      let b : s <ℤ sumZ (lows (rangesOf c)) = omega (whole, e, add-law (sumZ (lows (rangesOf c))) (overLeast c)) in
-      (tt, sym (ap (map (zip_with slotLiteral (slots_of c))) (tuples-none (rangesOf c) s b)))
+      let e = over_law (over_least c) refl in
+      let b : s <ℤ sum_z (lows (ranges_of c)) = omega (whole, e, add_law (sum_z (lows (ranges_of c))) (over_least c)) in
+      (tt, sym (ap (map (zip_with slot_literal (slots_of c))) (tuples_none (ranges_of c) s b)))
 
   -- ---- three places
-  pub ranges-fine : All (λ r. Fine (placed r)) R
-  unfolding paddedRanges
-  ranges-fine =
-      all_append (λ r. Fine (placed r)) (replicate (3 - c.n) no-term) (rangesOf c) (none (3 - c.n))
-      (all_map (λ r. Fine (placed r)) slotBounds (slots_of c) (all-impl FairSlot (λ t. Fine (placed (slotBounds t))) term (slots_of c) f.slots))
+  pub ranges_fine : All (λ r. Fine (placed r)) R
+  unfolding padded_ranges
+  ranges_fine =
+      all_append (λ r. Fine (placed r)) (replicate (3 - c.n) no_term) (ranges_of c) (none (3 - c.n))
+      (all_map (λ r. Fine (placed r)) slot_bounds (slots_of c) (all_impl FairSlot (λ t. Fine (placed (slot_bounds t))) term (slots_of c) f.slots))
     where
-      none : (m : ℕ) → All (λ r. Fine (placed r)) (replicate m no-term)
+      none : (m : ℕ) → All (λ r. Fine (placed r)) (replicate m no_term)
       none zero = tt
       none (suc m) = (record { near = omega arith; inside = omega arith; narrow = omega arith }, none m)
 
-      term : (t : Slot) → FairSlot t → Fine (placed (slotBounds t))
+      term : (t : Slot) → FairSlot t → Fine (placed (slot_bounds t))
       term t g =
-          let l = (slotBounds t).lo in
-          let u = (slotBounds t).hi in
-          let near = slot-near t g in record {
+          let l = (slot_bounds t).lo in
+          let u = (slot_bounds t).hi in
+          let near = slot_near t g in record {
             near = near.0;
             inside = omega arith;
-            narrow = omega (whole, near, abs-law l, abs-law u, sub-law u l, part-law (u -ℤ l));
+            narrow = omega (whole, near, abs_law l, abs_law u, sub_law u l, part_law (u -ℤ l));
           }
 
-  pub places-fine : All Fine (map placed R)
-  places-fine = all_map Fine placed R ranges-fine
+  pub places_fine : All Fine (map placed R)
+  places_fine = all_map Fine placed R ranges_fine
 
-  pub three-places : (x y z : Place) → x ≡ placed (get_or R 0 no-term) → y ≡ placed (get_or R 1 no-term) → z ≡ placed (get_or R 2 no-term) → map placed R ≡ x ∷ y ∷ z ∷ []
-  three-places x y z ex ey ez = let e = go R (padded-length c f) in cc
+  pub three-places : (x y z : Place) → x ≡ placed (get_or R 0 no_term) → y ≡ placed (get_or R 1 no_term) → z ≡ placed (get_or R 2 no_term) → map placed R ≡ x ∷ y ∷ z ∷ []
+  three-places x y z ex ey ez = let e = go R (padded_length c f) in cc
     where
-      go : (rs : List Bounds) → length rs ≡ 3 → map placed rs ≡ placed (get_or rs 0 no-term) ∷ placed (get_or rs 1 no-term) ∷ placed (get_or rs 2 no-term) ∷ []
+      go : (rs : List Bounds) → length rs ≡ 3 → map placed rs ≡ placed (get_or rs 0 no_term) ∷ placed (get_or rs 1 no_term) ∷ placed (get_or rs 2 no_term) ∷ []
       go [] h = absurd (omega arith)
       go (x ∷ []) h = absurd (omega arith)
       go (x ∷ y ∷ []) h = absurd (omega arith)
@@ -96,37 +96,37 @@ module _ (c : Comparison) (f : FairComparison c) where
       go (x ∷ y ∷ z ∷ r ∷ rs) h = absurd (omega arith)
 
   -- ---- all tuples
-  ranges-ordered : All Ordered R
-  unfolding paddedRanges
-  ranges-ordered = ordered-padded (3 - c.n) (rangesOf c) (all_map Ordered slotBounds (slots_of c) (all-impl FairSlot (λ t. Ordered (slotBounds t)) slot-ordered (slots_of c) f.slots))
+  ranges_ordered : All Ordered R
+  unfolding padded_ranges
+  ranges_ordered = ordered_padded (3 - c.n) (ranges_of c) (all_map Ordered slot_bounds (slots_of c) (all_impl FairSlot (λ t. Ordered (slot_bounds t)) slot_ordered (slots_of c) f.slots))
 
-  above-is : (t : ℕ) → pos t ≡ overLeast c → above (map placed R) t ≡ map (λ bs. replicate (3 - c.n) (pos 0) ++ bs) (tuples (rangesOf c) s)
-  unfolding above paddedRanges
-  above-is t e =
+  above_is : (t : ℕ) → pos t ≡ over_least c → above (map placed R) t ≡ map (λ bs. replicate (3 - c.n) (pos 0) ++ bs) (tuples (ranges_of c) s)
+  unfolding above padded_ranges
+  above_is t e =
       let m = 3 - c.n in
       ap₂ (λ ls ws. map (shift ls) (offsets ws t)) (map-map (λ p. p.lo) placed R) (map-map (λ p. p.w) placed R)
-      ∙ sym (tuples-offsets R ranges-ordered s t (over-law (pos t) e ∙ ap (λ z. z +ℤ pos t) (sym (lows-padded m (rangesOf c)))))
-      ∙ tuples-padded m (rangesOf c) s
+      ∙ sym (tuples-offsets R ranges_ordered s t (over_law (pos t) e ∙ ap (λ z. z +ℤ pos t) (sym (lows_padded m (ranges_of c)))))
+      ∙ tuples_padded m (ranges_of c) s
 
-  unpadded : (bs : List ℤ) → literalsAt c (replicate (3 - c.n) (pos 0) ++ bs) ≡ zip_with slotLiteral (slots_of c) bs
-  unfolding literalsAt
-  unpadded bs = let m = 3 - c.n in ap (zip_with slotLiteral (slots_of c)) (drop_at (replicate m (pos 0)) bs m (length-replicate m (pos 0)))
+  unpadded : (bs : List ℤ) → literals_at c (replicate (3 - c.n) (pos 0) ++ bs) ≡ zip_with slot_literal (slots_of c) bs
+  unfolding literals_at
+  unpadded bs = let m = 3 - c.n in ap (zip_with slot_literal (slots_of c)) (drop_at (replicate m (pos 0)) bs m (length-replicate m (pos 0)))
 
-  pub start-at : (t : ℕ) (r : At) → pos t ≡ overLeast c → tuplesLeft r ≡ above (map placed R) t → toCome c r ≡ literalsOf c
-  unfolding toCome literalsOf
+  pub start-at : (t : ℕ) (r : At) → pos t ≡ over_least c → tuples_left r ≡ above (map placed R) t → to_come c r ≡ literals_of c
+  unfolding to_come literals_of
   start-at t r e l =
       let pad : List ℤ → List ℤ = λ bs. replicate (3 - c.n) (pos 0) ++ bs in
-      ap (map (literalsAt c)) (l ∙ above-is t e)
-      ∙ map-map (literalsAt c) pad (tuples (rangesOf c) s)
-      ∙ map_same (λ bs. literalsAt c (pad bs)) (zip_with slotLiteral (slots_of c)) (tuples (rangesOf c) s)
-      (all-every (λ bs. literalsAt c (pad bs) ≡ zip_with slotLiteral (slots_of c) bs) unpadded (tuples (rangesOf c) s))
+      ap (map (literals_at c)) (l ∙ above_is t e)
+      ∙ map-map (literals_at c) pad (tuples (ranges_of c) s)
+      ∙ map_same (λ bs. literals_at c (pad bs)) (zip_with slot_literal (slots_of c)) (tuples (ranges_of c) s)
+      (all_every (λ bs. literals_at c (pad bs) ≡ zip_with slot_literal (slots_of c) bs) unpadded (tuples (ranges_of c) s))
 
   -- there are as many as offsets with their sum
-  pub start-count : (t : ℕ) → pos t ≡ overLeast c → length (literalsOf c) ≡ length (offsets (map (λ p. p.w) (map placed R)) t)
-  unfolding above literalsOf
+  pub start-count : (t : ℕ) → pos t ≡ over_least c → length (literals_of c) ≡ length (offsets (map (λ p. p.w) (map placed R)) t)
+  unfolding above literals_of
   start-count t e =
-      let bss = tuples (rangesOf c) s in
-      length-map bss (zip_with slotLiteral (slots_of c))
+      let bss = tuples (ranges_of c) s in
+      length-map bss (zip_with slot_literal (slots_of c))
       ∙ sym (length-map bss (λ bs. replicate (3 - c.n) (pos 0) ++ bs))
-      ∙ ap length (sym (above-is t e))
-      ∙ length-map (offsets (map (λ p. p.w) (map placed R)) t) (boundsAt (map placed R))
+      ∙ ap length (sym (above_is t e))
+      ∙ length-map (offsets (map (λ p. p.w) (map placed R)) t) (bounds_at (map placed R))

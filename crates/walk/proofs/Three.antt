@@ -3,7 +3,7 @@ use mathlib.Core.Path.{◌≡◌, refl, ap, ◌∙◌, subst}
 use mathlib.Core.List.{List, [], ◌∷◌}
 use Prim.Native.Nat.{ℕ, suc, min, ◌+◌, ◌-◌, ◌≤◌, ◌<◌}
 use native.Mathlib.Omega.{arith}
-use Rattle.laws.specs.Offsets.{offsets, later, lowest, offsets-none, start, deeper, up, stop}
+use Rattle.laws.specs.Offsets.{offsets, later, lowest, offsets_none, start, deeper, up, stop}
 
 -- the last two places hold r
 abbrev pair : ℕ → ℕ → List ℕ
@@ -18,7 +18,7 @@ lowest-pair v w r =
 
 module _ (u v w t : ℕ) where
   pub start_none : u + (v + w) < t → offsets (u ∷ v ∷ w ∷ []) t ≡ []
-  start_none h = offsets-none (u ∷ v ∷ w ∷ []) t (omega arith)
+  start_none h = offsets_none (u ∷ v ∷ w ∷ []) t (omega arith)
 
   pub start-three : t ≤ u + (v + w)
       → offsets (u ∷ v ∷ w ∷ []) t ≡ ((t - (v + w)) ∷ pair w (t - (t - (v + w)))) ∷ later (u ∷ v ∷ w ∷ []) ((t - (v + w)) ∷ pair w (t - (t - (v + w))))
@@ -41,9 +41,9 @@ module _ (u v w i j k : ℕ) where
   pair-stops : min (v - j) k ≡ 0 → later (v ∷ w ∷ []) (j ∷ k ∷ []) ≡ []
   pair-stops h = stop v j (w ∷ []) (k ∷ []) last-stops (omega arith)
 
-  pub step-second : 0 < min (v - j) k → k ≤ w → Steps (i ∷ (j + 1) ∷ (k - 1) ∷ [])
+  pub step_second : 0 < min (v - j) k → k ≤ w → Steps (i ∷ (j + 1) ∷ (k - 1) ∷ [])
   unfolding lowest
-  step-second h l =
+  step_second h l =
       let e : suc j ≡ j + 1 = omega arith in
       let f : (k + 0 - 1) - 0 ≡ k - 1 = omega arith in
       let q : suc j ∷ ((k + 0 - 1) - 0) ∷ [] ≡ (j + 1) ∷ (k - 1) ∷ [] = cc in
@@ -59,5 +59,5 @@ module _ (u v w i j k : ℕ) where
       let f : j + (k + 0) - 1 ≡ j + k - 1 = omega arith in
       subst Steps (ap (λ z. z ∷ lowest (v ∷ w ∷ []) (j + (k + 0) - 1)) e ∙ ap (λ z. (i + 1) ∷ z) (ap (lowest (v ∷ w ∷ [])) f ∙ lowest-pair v w (j + k - 1))) (raised n h l m)
 
-  pub step-none : min (v - j) k ≡ 0 → min (u - i) (j + k) ≡ 0 → later (u ∷ v ∷ w ∷ []) (i ∷ j ∷ k ∷ []) ≡ []
-  step-none n h = stop u i (v ∷ w ∷ []) (j ∷ k ∷ []) (pair-stops n) (omega arith)
+  pub step_none : min (v - j) k ≡ 0 → min (u - i) (j + k) ≡ 0 → later (u ∷ v ∷ w ∷ []) (i ∷ j ∷ k ∷ []) ≡ []
+  step_none n h = stop u i (v ∷ w ∷ []) (j ∷ k ∷ []) (pair-stops n) (omega arith)

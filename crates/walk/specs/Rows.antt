@@ -17,9 +17,9 @@ use Rattle.walk.specs.declared.Comparison.{Comparison}
 use Rattle.walk.specs.declared.Walk.{Walk}
 use Rattle.walk.specs.declared.At.{At}
 use Rattle.walk.specs.declared.At.TheVariants.{Tuple}
-use Rattle.walk.specs.Slots.{FairSlot, slotBounds, slotLiteral}
+use Rattle.walk.specs.Slots.{FairSlot, slot_bounds, slot_literal}
 use Rattle.walk.specs.Walks.{moved, Fine}
-use Rattle.walk.specs.Comparisons.{Walking, present, toCome}
+use Rattle.walk.specs.Comparisons.{Walking, present, to_come}
 
 -- ---- the tuples of a row
 -- i tuples on: the last place holds i less, the one before it i more
@@ -31,20 +31,20 @@ run w i zero = []
 run w i (suc n) = along w i ∷ run w (suc i) n
 
 -- how many the row has from the present tuple on
-abbrev pub rowLength : Walk → ℕ
-rowLength w = suc (min (w.b.w - w.b.k) w.c.k)
+abbrev pub row_length : Walk → ℕ
+row_length w = suc (min (w.b.w - w.b.k) w.c.k)
 
 -- these tuples
 abbrev pub row_of : Walk → List Walk
-row_of w = run w 0 (rowLength w)
+row_of w = run w 0 (row_length w)
 
 -- their clauses, each as its literals
-unfoldable pub rowClauses : Comparison → Walk → List (List ℤ)
-rowClauses c w = map (present c) (row_of w)
+unfoldable pub row_clauses : Comparison → Walk → List (List ℤ)
+row_clauses c w = map (present c) (row_of w)
 
 -- r stands behind the row of w
 abbrev pub After : Comparison → Walk → At → Type 0
-After c w r = Walking c r × (toCome c (Tuple w) ≡ rowClauses c w ++ toCome c r)
+After c w r = Walking c r × (to_come c (Tuple w) ≡ row_clauses c w ++ to_come c r)
 
 -- ---- a literal along a row
 -- r more than k is a multiple of d, and none lies between
@@ -57,14 +57,14 @@ pub record Rest (d k r : ℕ) : Type 0 where
 pub record Placed (s : Slot) (p : Place) : Type 0 where
   pub fair : FairSlot s
   pub fine : Fine p
-  pub low : p.lo ≡ (slotBounds s).lo
-  pub high : ((slotBounds s).lo +ℤ pos p.k) ≤ℤ (slotBounds s).hi
+  pub low : p.lo ≡ (slot_bounds s).lo
+  pub high : ((slot_bounds s).lo +ℤ pos p.k) ≤ℤ (slot_bounds s).hi
 
 -- what a spot says of a slot at the offset k
 pub record Holds (s : Slot) (k : ℕ) (p : Spot) : Type 0 where
   pub size : p.d ≡ nat_abs s.coefficient
   pub rest : Rest p.d k p.r
-  pub literal : p.literal ≡ slotLiteral s ((slotBounds s).lo +ℤ pos k)
+  pub literal : p.literal ≡ slot_literal s ((slot_bounds s).lo +ℤ pos k)
 
 -- what the code computes with: it can be stepped n times
 pub record Steady (p : Spot) (n : ℕ) : Type 0 where
@@ -73,36 +73,36 @@ pub record Steady (p : Spot) (n : ℕ) : Type 0 where
   pub near : nat_abs p.literal + n ≤ 40000000
 
 -- at the next offset, and at the one before
-abbrev pub raisedBy : Spot → ℕ → Spot
-raisedBy p zero = record { d = p.d; r = p.d - 1; literal = p.literal +ℤ pos 1 }
-raisedBy p (suc r) = record { d = p.d; r = r; literal = p.literal }
+abbrev pub raised_by : Spot → ℕ → Spot
+raised_by p zero = record { d = p.d; r = p.d - 1; literal = p.literal +ℤ pos 1 }
+raised_by p (suc r) = record { d = p.d; r = r; literal = p.literal }
 
-abbrev pub loweredBy : Spot → ℕ → Spot
-loweredBy p zero = record { d = p.d; r = 0; literal = p.literal -ℤ pos 1 }
-loweredBy p (suc n) = record { d = p.d; r = p.r + 1; literal = p.literal }
+abbrev pub lowered_by : Spot → ℕ → Spot
+lowered_by p zero = record { d = p.d; r = 0; literal = p.literal -ℤ pos 1 }
+lowered_by p (suc n) = record { d = p.d; r = p.r + 1; literal = p.literal }
 
 unfoldable pub raised : Spot → Spot
-raised p = raisedBy p p.r
+raised p = raised_by p p.r
 
 unfoldable pub lowered : Spot → Spot
-lowered p = loweredBy p (p.d - (p.r + 1))
+lowered p = lowered_by p (p.d - (p.r + 1))
 
 -- the literals of so many tuples of a row, behind those that stay
-unfoldable pub rowFrom : List ℤ → Spot → Spot → ℕ → List (List ℤ)
-rowFrom fixed y z zero = []
-rowFrom fixed y z (suc n) = (fixed ++ (y.literal ∷ z.literal ∷ [])) ∷ rowFrom fixed (raised y) (lowered z) n
+unfoldable pub row_from : List ℤ → Spot → Spot → ℕ → List (List ℤ)
+row_from fixed y z zero = []
+row_from fixed y z (suc n) = (fixed ++ (y.literal ∷ z.literal ∷ [])) ∷ row_from fixed (raised y) (lowered z) n
 
 -- a literal in front of others, or none
-abbrev pub frontOf : Front → List ℤ
-frontOf Nothing = []
-frontOf (Literal l) = l ∷ []
+abbrev pub front_of : Front → List ℤ
+front_of Nothing = []
+front_of (Literal l) = l ∷ []
 
 -- the clauses of a run, and the first of them
-abbrev pub firstIn : Run → List ℤ
-firstIn run = frontOf run.front ++ (run.y.literal ∷ run.z.literal ∷ [])
+abbrev pub first_in : Run → List ℤ
+first_in run = front_of run.front ++ (run.y.literal ∷ run.z.literal ∷ [])
 
-unfoldable pub inRun : Run → List (List ℤ)
-inRun run = rowFrom (frontOf run.front) run.y run.z run.count
+unfoldable pub in_run : Run → List (List ℤ)
+in_run run = row_from (front_of run.front) run.y run.z run.count
 
 pub record ReadyRun (run : Run) : Type 0 where
   pub rising : Steady run.y run.count
@@ -110,36 +110,36 @@ pub record ReadyRun (run : Run) : Type 0 where
 
 -- the clauses of a row
 abbrev pub in_row : Row → List (List ℤ)
-in_row (One front) = frontOf front ∷ []
-in_row (Many run) = inRun run
+in_row (One front) = front_of front ∷ []
+in_row (Many run) = in_run run
 
 abbrev pub Ready : Row → Type 0
 Ready (One front) = Unit {0}
 Ready (Many run) = ReadyRun run
 
-pub row_count : (fixed : List ℤ) (y z : Spot) (n : ℕ) → length (rowFrom fixed y z n) ≡ n
-unfolding rowFrom
+pub row_count : (fixed : List ℤ) (y z : Spot) (n : ℕ) → length (row_from fixed y z n) ≡ n
+unfolding row_from
 row_count fixed y z zero = refl
 row_count fixed y z (suc n) = ap suc (row_count fixed (raised y) (lowered z) n)
 
 module _ (fixed : List ℤ) (y z : Spot) where
-  pub row-none : (n : ℕ) → n ≡ 0 → rowFrom fixed y z n ≡ []
-  unfolding rowFrom
-  row-none zero h = refl
-  row-none (suc n) h = absurd (omega arith)
+  pub row_none : (n : ℕ) → n ≡ 0 → row_from fixed y z n ≡ []
+  unfolding row_from
+  row_none zero h = refl
+  row_none (suc n) h = absurd (omega arith)
 
-  pub row_next : (n : ℕ) → 0 < n → rowFrom fixed y z n ≡ (fixed ++ (y.literal ∷ z.literal ∷ [])) ∷ rowFrom fixed (raised y) (lowered z) (n - 1)
-  unfolding rowFrom
+  pub row_next : (n : ℕ) → 0 < n → row_from fixed y z n ≡ (fixed ++ (y.literal ∷ z.literal ∷ [])) ∷ row_from fixed (raised y) (lowered z) (n - 1)
+  unfolding row_from
   row_next zero h = absurd (omega arith)
-  row_next (suc n) h = let e : n ≡ suc n - 1 = omega arith in ap (λ m. (fixed ++ (y.literal ∷ z.literal ∷ [])) ∷ rowFrom fixed (raised y) (lowered z) m) e
+  row_next (suc n) h = let e : n ≡ suc n - 1 = omega arith in ap (λ m. (fixed ++ (y.literal ∷ z.literal ∷ [])) ∷ row_from fixed (raised y) (lowered z) m) e
 
-pub run-first : (run : Run) → 0 < run.count → inRun run ≡ firstIn run ∷ drop 1 (inRun run)
-unfolding inRun
-run-first run h = let e = row_next (frontOf run.front) run.y run.z run.count h in e ∙ ap (λ l. firstIn run ∷ l) (sym (ap (drop 1) e))
+pub run-first : (run : Run) → 0 < run.count → in_run run ≡ first_in run ∷ drop 1 (in_run run)
+unfolding in_run
+run-first run h = let e = row_next (front_of run.front) run.y run.z run.count h in e ∙ ap (λ l. first_in run ∷ l) (sym (ap (drop 1) e))
 
-pub run_none : (run : Run) → run.count ≡ 0 → inRun run ≡ []
-unfolding inRun
-run_none run h = row-none (frontOf run.front) run.y run.z run.count h
+pub run_none : (run : Run) → run.count ≡ 0 → in_run run ≡ []
+unfolding in_run
+run_none run h = row_none (front_of run.front) run.y run.z run.count h
 
 -- ---- what a row shows
 run_length : (w : Walk) (i n : ℕ) → length (run w i n) ≡ n
@@ -149,9 +149,9 @@ run_length w i (suc n) = ap suc (run_length w (suc i) n)
 
 module _ (c : Comparison) (w : Walk) where
   -- a clause for each tuple
-  pub row-size : length (rowClauses c w) ≡ rowLength w
-  unfolding rowClauses
-  row-size = length-map (row_of w) (present c) ∙ run_length w 0 (rowLength w)
+  pub row-size : length (row_clauses c w) ≡ row_length w
+  unfolding row_clauses
+  row-size = length-map (row_of w) (present c) ∙ run_length w 0 (row_length w)
 
-  pub row-some : 0 < length (rowClauses c w)
-  row-some = omega (arith, row-size)
+  pub row_some : 0 < length (row_clauses c w)
+  row_some = omega (arith, row-size)

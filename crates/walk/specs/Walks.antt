@@ -23,20 +23,20 @@ abbrev pub refill : Place → Place → Place → ℕ → At
 refill a b c t = Tuple (record { a = a; b = moved b (t - c.w); c = moved c (t - (t - c.w)) })
 
 -- the bounds of places at these offsets
-abbrev pub boundsAt : List Place → List ℕ → List ℤ
-boundsAt ps ks = shift (map (λ p. p.lo) ps) ks
+abbrev pub bounds_at : List Place → List ℕ → List ℤ
+bounds_at ps ks = shift (map (λ p. p.lo) ps) ks
 
 -- every tuple whose offsets have the sum t
 unfoldable pub above : List Place → ℕ → List (List ℤ)
-above ps t = map (boundsAt ps) (offsets (map (λ p. p.w) ps) t)
+above ps t = map (bounds_at ps) (offsets (map (λ p. p.w) ps) t)
 
 -- the present tuple, and it with those after it
 unfoldable pub seen : Walk → List ℤ
-seen w = boundsAt (places_of w) (map (λ p. p.k) (places_of w))
+seen w = bounds_at (places_of w) (map (λ p. p.k) (places_of w))
 
-unfoldable pub tuplesLeft : At → List (List ℤ)
-tuplesLeft (Tuple w) = seen w ∷ map (boundsAt (places_of w)) (later (map (λ p. p.w) (places_of w)) (map (λ p. p.k) (places_of w)))
-tuplesLeft End = []
+unfoldable pub tuples_left : At → List (List ℤ)
+tuples_left (Tuple w) = seen w ∷ map (bounds_at (places_of w)) (later (map (λ p. p.w) (places_of w)) (map (λ p. p.k) (places_of w)))
+tuples_left End = []
 
 pub record Fine (p : Place) : Type 0 where
   pub near : nat_abs p.lo ≤ 262145

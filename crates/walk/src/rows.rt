@@ -2,9 +2,9 @@
 // place but one rises, that of the last falls, each by 1 after as many tuples as its coefficient says.
 ghost use Rattle.std.specs.Prelude.{◌≡◌, ◌++◌, ◌+◌, ◌-◌, ◌≤◌, ◌<◌, nat_abs, take, drop};
 ghost use Rattle.definitions.specs.Tools.{All};
-ghost use Rattle.walk.specs.Comparisons.{FairComparison, Walking, present, toCome};
+ghost use Rattle.walk.specs.Comparisons.{FairComparison, Walking, present, to_come};
 ghost use Rattle.walk.specs.Walks.{places_of, Fine};
-ghost use Rattle.walk.specs.Rows.{rowLength, rowClauses, Rest, Placed, Holds, Steady, raised, lowered, frontOf, inRun, ReadyRun, in_row, Ready};
+ghost use Rattle.walk.specs.Rows.{row_length, row_clauses, Rest, Placed, Holds, Steady, raised, lowered, front_of, in_run, ReadyRun, in_row, Ready};
 
 use crate::terms::literal;
 use crate::tuples::{bound, next, room, tuple_literal};
@@ -13,7 +13,7 @@ use crate::{At, Comparison, Front, Place, Row, Run, Slot, Spot, Walk};
 // How many tuples the row has from the present one on.
 fn row_length(w: Walk) -> u32
     requires { All Fine (places_of w) }
-    ensures { result ≡ rowLength w }
+    ensures { result ≡ row_length w }
 {
     let b = w.b;
     let c = w.c;
@@ -23,7 +23,7 @@ fn row_length(w: Walk) -> u32
 // Behind the present tuple's row: what was to come is the row's clauses, and what is to come then.
 pub fn after_row(c: Comparison, w: Walk) -> At
     requires { Walking c (At.Tuple w) }
-    ensures { Walking c result × (toCome c (At.Tuple w) ≡ rowClauses c w ++ toCome c result) }
+    ensures { Walking c result × (to_come c (At.Tuple w) ≡ row_clauses c w ++ to_come c result) }
 {
     let a = w.a;
     let mut b = w.b;
@@ -111,7 +111,7 @@ fn down(p: Spot) -> Spot
 // The first so many literals of the present tuple: one or none.
 fn front_at(c: Comparison, w: Walk, some: usize) -> Front
     requires { FairComparison c × Walking c (At.Tuple w) × (some ≤ c.n) × (some ≤ 1) }
-    ensures { frontOf result ≡ take some (present c w) }
+    ensures { front_of result ≡ take some (present c w) }
 {
     if some == 0 {
         return Front::Nothing;
@@ -122,7 +122,7 @@ fn front_at(c: Comparison, w: Walk, some: usize) -> Front
 // The clauses of the present tuple's row.
 pub fn row_at(c: Comparison, w: Walk) -> Row
     requires { FairComparison c × Walking c (At.Tuple w) }
-    ensures { Ready result × (in_row result ≡ rowClauses c w) }
+    ensures { Ready result × (in_row result ≡ row_clauses c w) }
 {
     let n = c.n;
     if n < 2 {
@@ -142,7 +142,7 @@ pub fn row_at(c: Comparison, w: Walk) -> Row
 // Behind the first clause of the run.
 pub fn onward(run: Run) -> Run
     requires { ReadyRun run × (0 < run.count) }
-    ensures { ReadyRun result × (result.front ≡ run.front) × (inRun result ≡ drop 1 (inRun run)) }
+    ensures { ReadyRun result × (result.front ≡ run.front) × (in_run result ≡ drop 1 (in_run run)) }
 {
     let front = run.front;
     let y = run.y;

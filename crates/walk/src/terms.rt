@@ -1,6 +1,6 @@
 // Where the bounds of a term lie, and its literal at each.
 ghost use Rattle.std.specs.Prelude.{◌≡◌, pos, ◌-ℤ◌, ◌≤ℤ◌};
-ghost use Rattle.walk.specs.Slots.{FairSlot, slotBounds, orderNumber, slotLiteral};
+ghost use Rattle.walk.specs.Slots.{FairSlot, slot_bounds, order_number, slot_literal};
 
 use crate::division::{ceil_div, floor_div};
 use crate::{Range, Slot};
@@ -8,7 +8,7 @@ use crate::{Range, Slot};
 // From (least of the term) - 1 to (greatest of the term).
 pub fn slot_range(s: Slot) -> Range
     requires { FairSlot s }
-    ensures { (result.lo ≡ (slotBounds s).lo) × (result.hi ≡ (slotBounds s).hi) }
+    ensures { (result.lo ≡ (slot_bounds s).lo) × (result.hi ≡ (slot_bounds s).hi) }
 {
     let at_lower = s.coefficient * s.lower;
     let at_upper = s.coefficient * s.upper;
@@ -27,15 +27,15 @@ pub fn slot_range(s: Slot) -> Range
 // The number of p(x, c).
 fn order_number(s: Slot, c: i32) -> i32
     requires { FairSlot s × ((s.lower -ℤ pos 1) ≤ℤ c) × (c ≤ℤ s.upper) }
-    ensures { result ≡ pos (orderNumber s c) }
+    ensures { result ≡ pos (order_number s c) }
 {
     s.first as i32 + (c - s.lower) + 1
 }
 
 // The number of the term's literal at a bound of its range.
 pub fn literal(s: Slot, b: i32) -> i32
-    requires { FairSlot s × ((slotBounds s).lo ≤ℤ b) × (b ≤ℤ (slotBounds s).hi) }
-    ensures { result ≡ slotLiteral s b }
+    requires { FairSlot s × ((slot_bounds s).lo ≤ℤ b) × (b ≤ℤ (slot_bounds s).hi) }
+    ensures { result ≡ slot_literal s b }
 {
     if 0 < s.coefficient {
         return order_number(s, floor_div(b, s.coefficient));

@@ -1,9 +1,9 @@
 // A comparison's tuples in rising order: the first, from each the next, and the literals at the present one. Every step yields a tuple.
 ghost use Rattle.std.specs.Prelude.{◌≡◌, ◌∷◌, [], min, ◌-◌, ◌≤◌, ◌<◌, pos, ◌+ℤ◌, get_or};
 ghost use Rattle.definitions.specs.Tools.{All};
-ghost use Rattle.laws.specs.Tuples.{no-term};
-ghost use Rattle.walk.specs.Comparisons.{FairComparison, leastOf, overLeast, literalsOf, paddedRanges, placed, Walking, present, toCome};
-ghost use Rattle.walk.specs.Walks.{places_of, refill, above, seen, tuplesLeft, Fine, Over};
+ghost use Rattle.laws.specs.Tuples.{no_term};
+ghost use Rattle.walk.specs.Comparisons.{FairComparison, least_of, over_least, literals_of, padded_ranges, placed, Walking, present, to_come};
+ghost use Rattle.walk.specs.Walks.{places_of, refill, above, seen, tuples_left, Fine, Over};
 
 use crate::terms::{literal, slot_range};
 use crate::{At, Comparison, Place, Walk};
@@ -39,7 +39,7 @@ fn refilled(a: Place, b: Place, c: Place, t: u32) -> At
 // The first tuple whose offsets have the sum t.
 fn lowest(a: Place, b: Place, c: Place, t: u32) -> At
     requires { All Fine (a ∷ b ∷ c ∷ []) }
-    ensures { Over (a ∷ b ∷ c ∷ []) result × (tuplesLeft result ≡ above (a ∷ b ∷ c ∷ []) t) }
+    ensures { Over (a ∷ b ∷ c ∷ []) result × (tuples_left result ≡ above (a ∷ b ∷ c ∷ []) t) }
 {
     let after = b.w + c.w;
     if a.w + after < t {
@@ -54,7 +54,7 @@ fn lowest(a: Place, b: Place, c: Place, t: u32) -> At
 // The tuple after the present one.
 pub fn next(w: Walk) -> At
     requires { All Fine (places_of w) }
-    ensures { Over (places_of w) result × (tuplesLeft (At.Tuple w) ≡ seen w ∷ tuplesLeft result) }
+    ensures { Over (places_of w) result × (tuples_left (At.Tuple w) ≡ seen w ∷ tuples_left result) }
 {
     let mut a = w.a;
     let mut b = w.b;
@@ -75,7 +75,7 @@ pub fn next(w: Walk) -> At
 // The least value of the sum within bounds.
 pub fn least(c: Comparison) -> i32
     requires { FairComparison c }
-    ensures { result ≡ leastOf c }
+    ensures { result ≡ least_of c }
 {
     let slots = c.slots;
     let mut sum: i32 = 0;
@@ -91,7 +91,7 @@ pub fn least(c: Comparison) -> i32
 // The j-th of three places. Those of terms that the comparison lacks stand in front and hold nothing.
 pub fn place(c: Comparison, j: usize) -> Place
     requires { FairComparison c × (j < 3) }
-    ensures { result ≡ placed (get_or (paddedRanges c) j no-term) }
+    ensures { result ≡ placed (get_or (padded_ranges c) j no_term) }
 {
     if j + c.n < 3 {
         return Place { lo: 0, k: 0, w: 0 };
@@ -108,15 +108,15 @@ pub fn place(c: Comparison, j: usize) -> Place
 // The sum of a tuple's offsets; below 0 where there is no tuple.
 pub fn over_least(c: Comparison) -> i32
     requires { FairComparison c }
-    ensures { result ≡ overLeast c }
+    ensures { result ≡ over_least c }
 {
     c.constant - least(c) + 1
 }
 
 // The first tuple, where the sum of its offsets is known.
 pub fn first_over(c: Comparison, t: i32) -> At
-    requires { FairComparison c × (t ≡ overLeast c) }
-    ensures { Walking c result × (toCome c result ≡ literalsOf c) }
+    requires { FairComparison c × (t ≡ over_least c) }
+    ensures { Walking c result × (to_come c result ≡ literals_of c) }
 {
     if t < 0 {
         return At::End;
@@ -127,7 +127,7 @@ pub fn first_over(c: Comparison, t: i32) -> At
 // The first tuple.
 pub fn first_tuple(c: Comparison) -> At
     requires { FairComparison c }
-    ensures { Walking c result × (toCome c result ≡ literalsOf c) }
+    ensures { Walking c result × (to_come c result ≡ literals_of c) }
 {
     first_over(c, over_least(c))
 }

@@ -8,18 +8,18 @@ use lib.Seq.{take_at}
 use lib.IntN.{ℤ, pos, ◌-ℤ◌}
 use mir.Syntax.{w32}
 use mir.Val.{to_z, of_z}
-use Rattle.laws.specs.Limits.{numbersLimit}
+use Rattle.laws.specs.Limits.{numbers_limit}
 use Rattle.definitions.specs.Tools.{All}
 use Rattle.definitions.specs.Board.{Board, Clause}
 use Rattle.definitions.specs.Reading.{Context}
-use Rattle.definitions.specs.Encoding.{literalNumber}
+use Rattle.definitions.specs.Encoding.{literal_number}
 use Rattle.definitions.specs.Dimacs.{entry}
 use Rattle.laws.specs.Mentions as mentions
-use Rattle.laws.specs.Pieces.{line, lineFrom, line-length, pieceClauses}
+use Rattle.laws.specs.Pieces.{line, line_from, line-length, piece_clauses}
 use Rattle.rules.specs.declared.Cursor.{Cursor}
 use Rattle.rules.specs.declared.Piece as code
-use Rattle.rules.specs.Cursors.{saidPiece, Meets, comingAt}
-use Rattle.compile.specs.Lists.{pieceNumbers}
+use Rattle.rules.specs.Cursors.{said_piece, Meets, coming_at}
+use Rattle.compile.specs.Lists.{piece_numbers}
 use Rattle.laws.specs.Lists.{flatten-append}
 use Rattle.laws.specs.Written.{written}
 use Rattle.text.specs.Entries.{entries}
@@ -29,19 +29,19 @@ use Rattle.walk.specs.declared.Walk.{Walk}
 use Rattle.walk.specs.declared.At.{At}
 use Rattle.walk.specs.declared.At.TheVariants.{Tuple, End}
 use Rattle.walk.specs.declared.Run.{Run}
-use Rattle.walk.specs.Comparisons.{toCome}
-use Rattle.walk.specs.Rows.{inRun}
-use Rattle.laws.specs.Signs.{plus-is, minus_is}
-use Rattle.writing.specs.Axioms.{stepsFrom, axiomNumbers, steps-more}
-use Rattle.writing.specs.Numbers.{numbersOf, clause, stays, led}
+use Rattle.walk.specs.Comparisons.{to_come}
+use Rattle.walk.specs.Rows.{in_run}
+use Rattle.laws.specs.Signs.{plus_is, minus_is}
+use Rattle.writing.specs.Axioms.{steps_from, axiom_numbers, steps_more}
+use Rattle.writing.specs.Numbers.{numbers_of, clause, stays, led}
 use Rattle.writing.proofs.Parts.{run_end, run_more, led-end, led_on}
 
 pub entries-append : (ns ms : List ℤ) → entries (ns ++ ms) ≡ entries ns ++ entries ms
 entries-append ns ms = ap flatten (map-append entry ns ms) ∙ flatten-append (map entry ns) (map entry ms)
 
-pub entries-cons : (n : ℤ) (ns : List ℤ) → entries (n ∷ ns) ≡ entry n ++ entries ns
+pub entries_cons : (n : ℤ) (ns : List ℤ) → entries (n ∷ ns) ≡ entry n ++ entries ns
 unfolding flatten
-entries-cons n ns = refl
+entries_cons n ns = refl
 
 pub entries-one : (n : ℤ) → entry n ≡ entries (n ∷ [])
 unfolding flatten
@@ -71,49 +71,49 @@ unfolding written
 taken w o out n e h = ap (take n) h ∙ take_at w (drop (length w) o) n (sym e)
 
 -- ---- axioms: two unit clauses, and the clause of each step
-abbrev pub unitsHere : ℕ → ℕ → List ℤ
-unitsHere i w = to_z w32 (of_z w32 (pos 0 -ℤ to_z w32 i)) ∷ pos 0 ∷ to_z w32 (i + (w - 1)) ∷ pos 0 ∷ []
+abbrev pub units_here : ℕ → ℕ → List ℤ
+units_here i w = to_z w32 (of_z w32 (pos 0 -ℤ to_z w32 i)) ∷ pos 0 ∷ to_z w32 (i + (w - 1)) ∷ pos 0 ∷ []
 
-abbrev pub stepHere : ℕ → List ℤ
-stepHere i = to_z w32 (of_z w32 (pos 0 -ℤ to_z w32 i)) ∷ to_z w32 (i + 1) ∷ pos 0 ∷ []
+abbrev pub step_here : ℕ → List ℤ
+step_here i = to_z w32 (of_z w32 (pos 0 -ℤ to_z w32 i)) ∷ to_z w32 (i + 1) ∷ pos 0 ∷ []
 
-pub units-text : (i w : ℕ) → i + w < numbersLimit → entries (axiomNumbers i w) ≡ entries (unitsHere i w) ++ entries (stepsFrom i (w - 1))
-unfolding axiomNumbers
-units-text i w h =
-    ap₂ (λ a b. entries (a ∷ pos 0 ∷ b ∷ pos 0 ∷ stepsFrom i (w - 1))) (sym (minus_is i (omega arith))) (sym (plus-is (i + (w - 1)) (omega arith)))
-    ∙ entries-append (unitsHere i w) (stepsFrom i (w - 1))
+pub units_text : (i w : ℕ) → i + w < numbers_limit → entries (axiom_numbers i w) ≡ entries (units_here i w) ++ entries (steps_from i (w - 1))
+unfolding axiom_numbers
+units_text i w h =
+    ap₂ (λ a b. entries (a ∷ pos 0 ∷ b ∷ pos 0 ∷ steps_from i (w - 1))) (sym (minus_is i (omega arith))) (sym (plus_is (i + (w - 1)) (omega arith)))
+    ∙ entries-append (units_here i w) (steps_from i (w - 1))
 
-pub steps-text : (i n : ℕ) → 0 < n → i + n < numbersLimit → entries (stepsFrom i n) ≡ entries (stepHere i) ++ entries (stepsFrom (i + 1) (n - 1))
-steps-text i n l h =
-    ap entries (steps-more i n l)
-    ∙ ap₂ (λ a b. entries (a ∷ b ∷ pos 0 ∷ stepsFrom (i + 1) (n - 1))) (sym (minus_is i (omega arith))) (sym (plus-is (i + 1) (omega arith)))
-    ∙ entries-append (stepHere i) (stepsFrom (i + 1) (n - 1))
+pub steps_text : (i n : ℕ) → 0 < n → i + n < numbers_limit → entries (steps_from i n) ≡ entries (step_here i) ++ entries (steps_from (i + 1) (n - 1))
+steps_text i n l h =
+    ap entries (steps_more i n l)
+    ∙ ap₂ (λ a b. entries (a ∷ b ∷ pos 0 ∷ steps_from (i + 1) (n - 1))) (sym (minus_is i (omega arith))) (sym (plus_is (i + 1) (omega arith)))
+    ∙ entries-append (step_here i) (steps_from (i + 1) (n - 1))
 
 -- ---- rows
 module _ (lead : Front) (run : Run) where
-  pub run-text-end : run.count ≡ 0 → entries (led lead (inRun run)) ≡ []
+  pub run-text-end : run.count ≡ 0 → entries (led lead (in_run run)) ≡ []
   run-text-end h = ap entries (run_end lead run h) ∙ entries-empty
 
   -- the first clause, and then the rest
-  pub run-text-more : 0 < run.count → entries (led lead (inRun run)) ≡ entries (clause (stays lead run.front ++ (run.y.literal ∷ run.z.literal ∷ []))) ++ entries (led lead (drop 1 (inRun run)))
-  run-text-more h = ap entries (run_more lead run h) ∙ entries-append (clause (stays lead run.front ++ (run.y.literal ∷ run.z.literal ∷ []))) (led lead (drop 1 (inRun run)))
+  pub run-text-more : 0 < run.count → entries (led lead (in_run run)) ≡ entries (clause (stays lead run.front ++ (run.y.literal ∷ run.z.literal ∷ []))) ++ entries (led lead (drop 1 (in_run run)))
+  run-text-more h = ap entries (run_more lead run h) ∙ entries-append (clause (stays lead run.front ++ (run.y.literal ∷ run.z.literal ∷ []))) (led lead (drop 1 (in_run run)))
 
 module _ (c : Comparison) (lead : Front) (cur : At) where
-  pub text-end : cur ≡ End → entries (led lead (toCome c cur)) ≡ []
+  pub text-end : cur ≡ End → entries (led lead (to_come c cur)) ≡ []
   text-end q = ap entries (led-end c lead cur q) ∙ entries-empty
 
   -- a row, and then the rest
-  pub text-on : (w : Walk) → cur ≡ Tuple w → (row rest : List (List ℤ)) → toCome c (Tuple w) ≡ row ++ rest → entries (led lead (toCome c cur)) ≡ entries (led lead row) ++ entries (led lead rest)
+  pub text-on : (w : Walk) → cur ≡ Tuple w → (row rest : List (List ℤ)) → to_come c (Tuple w) ≡ row ++ rest → entries (led lead (to_come c cur)) ≡ entries (led lead row) ++ entries (led lead rest)
   text-on w q row rest e = ap entries (led_on c lead cur w q row rest e) ∙ entries-append (led lead row) (led lead rest)
 
 -- ---- pieces of the rules
-pub line-few : (B : Board) (j : ℕ) (C : Clause) → length C ≤ 64 → length (pieceNumbers B (line j C)) ≤ 65
-unfolding pieceNumbers pieceClauses numbersOf flatten
-line-few B j C h =
-    let ns = map (literalNumber B) (lineFrom j C) in
-    omega (arith, length-append (ns ++ (pos 0 ∷ [])) [], length-append ns (pos 0 ∷ []), length-map (lineFrom j C) (literalNumber B), line-length j C)
+pub line_few : (B : Board) (j : ℕ) (C : Clause) → length C ≤ 64 → length (piece_numbers B (line j C)) ≤ 65
+unfolding piece_numbers piece_clauses numbers_of flatten
+line_few B j C h =
+    let ns = map (literal_number B) (line_from j C) in
+    omega (arith, length-append (ns ++ (pos 0 ∷ [])) [], length-append ns (pos 0 ∷ []), length-map (line_from j C) (literal_number B), line-length j C)
 
 -- the pieces that are coming stay sound
-pub sound-met : (B : Board) {ctx : Context} {t : List ℕ} {c : Cursor} {p : code.Piece} {c' : Cursor} → Meets ctx t c p c' → All (mentions.Sound B) (comingAt t c)
-    → mentions.Sound B (saidPiece t p) × All (mentions.Sound B) (comingAt t c')
-sound-met B m all = subst (All (mentions.Sound B)) m.comes all
+pub sound_met : (B : Board) {ctx : Context} {t : List ℕ} {c : Cursor} {p : code.Piece} {c' : Cursor} → Meets ctx t c p c' → All (mentions.Sound B) (coming_at t c)
+    → mentions.Sound B (said_piece t p) × All (mentions.Sound B) (coming_at t c')
+sound_met B m all = subst (All (mentions.Sound B)) m.comes all

@@ -7,77 +7,77 @@ use lib.ListN.{length, take, length-append}
 use lib.Seq.{take_all}
 use borrow.Author.Tests.{lt-leb, le-leb}
 use Rattle.definitions.specs.Board.{Board}
-use Rattle.definitions.specs.Encoding.{N, M, K, clauseList}
+use Rattle.definitions.specs.Encoding.{N, M, K, clause_list}
 use Rattle.definitions.specs.Result.{done, refused}
-use Rattle.definitions.specs.Operations.{accepted, sizesOf}
+use Rattle.definitions.specs.Operations.{accepted, sizes_of}
 use Rattle.definitions.specs.Dimacs.{ascii, shown}
-use Rattle.laws.specs.Boards.{boardOf}
-use Rattle.laws.specs.Pieces.{piecesFrom}
+use Rattle.laws.specs.Boards.{board_of}
+use Rattle.laws.specs.Pieces.{pieces_from}
 use Rattle.laws.specs.Reread.{accepted-parts}
-use Rattle.laws.specs.Sizes.{K-is}
+use Rattle.laws.specs.Sizes.{K_is}
 use Rattle.laws.specs.Written.{written}
 use Rattle.opening.specs.declared.Header.{Header}
-use Rattle.opening.specs.Said.{mapDone}
+use Rattle.opening.specs.Said.{map_done}
 use Rattle.measure.specs.declared.Totals.{Totals}
-use Rattle.measure.specs.Said.{measuredOf}
-use Rattle.measure.specs.Told.{Measures, measured, not-measured}
+use Rattle.measure.specs.Said.{measured_of}
+use Rattle.measure.specs.Told.{Measures, measured, not_measured}
 use Rattle.text.specs.Lines.{line, lined, line-length}
 use Rattle.text.specs.Entries.{entries, entries-length}
-use Rattle.compile.specs.Lists.{axiomsFrom, piecesNumbers, whole-list}
-use Rattle.definitions.specs.TextOperations.{text_of, WriteText}
+use Rattle.compile.specs.Lists.{axioms_from, pieces_numbers, whole_list}
+use Rattle.definitions.specs.TextOperations.{text_of, write_text_outcome}
 use Rattle.write_text.specs.Adds.{Counts}
 use Rattle.write_text.proofs.Parts.{entries-append}
 
 -- ---- the parts
 module _ (B : Board) where
-  abbrev pub firstLine : List ℕ
-  firstLine = line (ascii "p cnf ") (N B) (M B)
+  abbrev pub first_line : List ℕ
+  first_line = line (ascii "p cnf ") (N B) (M B)
 
-  abbrev pub axiomsText : List ℕ
-  axiomsText = entries (axiomsFrom B 0)
+  abbrev pub axioms_text : List ℕ
+  axioms_text = entries (axioms_from B 0)
 
-  abbrev pub rulesText : List ℕ
-  rulesText = entries (piecesNumbers B (piecesFrom 0 B.clauses))
+  abbrev pub rules_text : List ℕ
+  rules_text = entries (pieces_numbers B (pieces_from 0 B.clauses))
 
-  text-list : text_of B ≡ firstLine ++ entries (clauseList B)
-  unfolding text_of shown sizesOf
-  text-list =
-      ap (λ l. l ++ entries (take (K B) (clauseList B))) (lined (ascii "p cnf ") (N B) (M B))
-      ∙ ap (λ l. firstLine ++ entries l) (take_all (K B) (clauseList B) (omega (arith, K-is B)))
+  text_list : text_of B ≡ first_line ++ entries (clause_list B)
+  unfolding text_of shown sizes_of
+  text_list =
+      ap (λ l. l ++ entries (take (K B) (clause_list B))) (lined (ascii "p cnf ") (N B) (M B))
+      ∙ ap (λ l. first_line ++ entries l) (take_all (K B) (clause_list B) (omega (arith, K_is B)))
 
-  pub text-is : text_of B ≡ firstLine ++ (axiomsText ++ rulesText)
-  text-is =
-      text-list
-      ∙ ap (λ l. firstLine ++ entries l) (whole-list B)
-      ∙ ap (λ t. firstLine ++ t) (entries-append (axiomsFrom B 0) (piecesNumbers B (piecesFrom 0 B.clauses)))
+  pub text_is : text_of B ≡ first_line ++ (axioms_text ++ rules_text)
+  text_is =
+      text_list
+      ∙ ap (λ l. first_line ++ entries l) (whole_list B)
+      ∙ ap (λ t. first_line ++ t) (entries-append (axioms_from B 0) (pieces_numbers B (pieces_from 0 B.clauses)))
 
-  pub text-counts : K B ≤ 2000000000 → Counts 0 (text_of B)
-  text-counts h =
-      omega (arith, ap length text-list, length-append firstLine (entries (clauseList B)), line-length (ascii "p cnf ") (N B) (M B), entries-length (clauseList B), K-is B)
+  pub text_counts : K B ≤ 2000000000 → Counts 0 (text_of B)
+  text_counts h =
+      omega (arith, ap length text_list, length-append first_line (entries (clause_list B)), line-length (ascii "p cnf ") (N B) (M B), entries-length (clause_list B), K_is B)
 
 -- ---- the answer
 module _ (s lent : List ℕ) where
   abbrev text : List ℕ
-  text = text_of (boardOf s)
+  text = text_of (board_of s)
 
-  module _ (h : Header) (t : Totals) (e : mapDone measuredOf (accepted s) ≡ done (h, t)) where
+  module _ (h : Header) (t : Totals) (e : map_done measured_of (accepted s) ≡ done (h, t)) where
     measures : Measures s h t
     measures = measured s e
 
     pub counted : Counts 0 text
-    counted = text-counts (boardOf s) ((accepted-parts s (boardOf s)).0 measures.board).1
+    counted = text_counts (board_of s) ((accepted-parts s (board_of s)).0 measures.board).1
 
-    pub too_short : (n : ℕ) → n ≡ length text → length lent < n → (refused 10 n ≡ (WriteText s lent).answer) × (lent ≡ (WriteText s lent).left)
-    unfolding WriteText
+    pub too_short : (n : ℕ) → n ≡ length text → length lent < n → (refused 10 n ≡ (write_text_outcome s lent).answer) × (lent ≡ (write_text_outcome s lent).left)
+    unfolding write_text_outcome
     too_short n en l =
         let k : length lent < length text = omega arith in
         rw (measures.board, lt-leb (length text) (length lent) k, en) (refl, refl)
 
     pub texted : length text ≤ length lent → (n : ℕ) (out : List ℕ) → n ≡ length text → out ≡ written text lent
-        → (done n ≡ (WriteText s lent).answer) × (out ≡ (WriteText s lent).left)
-    unfolding WriteText written
+        → (done n ≡ (write_text_outcome s lent).answer) × (out ≡ (write_text_outcome s lent).left)
+    unfolding write_text_outcome written
     texted l n out en ey = rw (measures.board, le-leb (length text) (length lent) l, en) (refl, ey)
 
-  pub unmeasured : (n d : ℕ) → mapDone measuredOf (accepted s) ≡ refused n d → (refused n d ≡ (WriteText s lent).answer) × (lent ≡ (WriteText s lent).left)
-  unfolding WriteText
-  unmeasured n d e = rw (not-measured s e) (refl, refl)
+  pub unmeasured : (n d : ℕ) → map_done measured_of (accepted s) ≡ refused n d → (refused n d ≡ (write_text_outcome s lent).answer) × (lent ≡ (write_text_outcome s lent).left)
+  unfolding write_text_outcome
+  unmeasured n d e = rw (not_measured s e) (refl, refl)

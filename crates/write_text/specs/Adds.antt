@@ -3,7 +3,7 @@
 --     Adding          a loop that adds part by part
 use Rattle.std.specs.Prelude.{◌≡◌, refl, List, [], ◌++◌, ℕ, ◌+◌, ◌≤◌, ◌<◌, length, take, drop}
 use Rattle.std.proofs.Common.{sym, ap, ◌∙◌, subst, append_assoc, append-nil, arith, length-append, take-append-drop, take_at, drop_at, drop-drop, length-take-le}
-use Rattle.laws.specs.Written.{written, back, rest, written-length, written-part}
+use Rattle.laws.specs.Written.{written, back, rest, written-length, written_part}
 
 -- from place `at` of the bytes `out` on, `text` is added: that makes them `out'`, and `next` is the place behind it. Where it has no
 -- room the place alone is told
@@ -62,11 +62,11 @@ unfolding written
 
 -- of a text in two parts, both are counted
 module _ (at : ℕ) {all : List ℕ} (h : Counts at all) (t u : List ℕ) (e : all ≡ t ++ u) where
-  pub first-counts : Counts at t
-  first-counts = omega (arith, ap length e, length-append t u)
+  pub first_counts : Counts at t
+  first_counts = omega (arith, ap length e, length-append t u)
 
-  pub then-counts : {out : List ℕ} {next : ℕ} {out' : List ℕ} → Adds t at out next out' → Counts next u
-  then-counts a = omega (arith, ap length e, length-append t u, a.place)
+  pub then_counts : {out : List ℕ} {next : ℕ} {out' : List ℕ} → Adds t at out next out' → Counts next u
+  then_counts a = omega (arith, ap length e, length-append t u, a.place)
 
 -- what a callee has put at the start of `&mut out[at..]`
 pub put : (t : List ℕ) (at : ℕ) (out : List ℕ) (n : ℕ) (ys : List ℕ) → at + length t ≤ length out → n ≡ length t → ys ≡ written t (rest out at)
@@ -76,7 +76,7 @@ put t at out n ys fit en ey =
     let e : back out at ys ≡ written (take at out ++ t) out =
     ap (back out at) ey
     ∙ ap (λ o. back o at (written t (rest o at))) (itself at out (omega arith))
-    ∙ written-part (take at out) t out at l fit
+    ∙ written_part (take at out) t out at l fit
     in record {
       place = omega arith;
       long = ap length e ∙ written-length (take at out ++ t) out (omega (arith, length-append (take at out) t));
@@ -107,8 +107,8 @@ module _ {all todo : List ℕ} {at₀ : ℕ} {out₀ : List ℕ} {at : ℕ} {out
   pub counts : Counts at₀ all → Counts at todo
   counts h = omega (arith, place-of-all)
 
-  pub counts-first : (t todo' : List ℕ) → todo ≡ t ++ todo' → Counts at₀ all → Counts at t
-  counts-first t todo' e h = omega (arith, place-of-all, ap length e, length-append t todo')
+  pub counts_first : (t todo' : List ℕ) → todo ≡ t ++ todo' → Counts at₀ all → Counts at t
+  counts_first t todo' e h = omega (arith, place-of-all, ap length e, length-append t todo')
 
   pub same : {todo' : List ℕ} → todo ≡ todo' → Adding all todo' at₀ out₀ at out
   same e = subst (λ l. Adding all l at₀ out₀ at out) e a

@@ -13,5 +13,5 @@ module _ (z : ℤ) (m : ℕ) (e : m ≡ nat_abs z) where
   pub length-below : z <ℤ pos 0 → length (entry z) ≡ length (decimal m) + 2
   length-below h = omega (arith, ap length (entry-below z m e h), length-append (decimal m) (32 ∷ []))
 
-pub length-zero : (z : ℤ) → z ≤ℤ pos 0 → pos 0 ≤ℤ z → length (entry z) ≡ 2
-length-zero z h g = omega (arith, ap length (entry_zero z h g), length-append (decimal 0) (10 ∷ []), ap length (decimal-one 0 (omega arith)))
+pub length_zero : (z : ℤ) → z ≤ℤ pos 0 → pos 0 ≤ℤ z → length (entry z) ≡ 2
+length_zero z h g = omega (arith, ap length (entry_zero z h g), length-append (decimal 0) (10 ∷ []), ap length (decimal-one 0 (omega arith)))

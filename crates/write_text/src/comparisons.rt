@@ -1,8 +1,8 @@
 // A comparison's clauses, each led by the same literal, a negated selector, or by none.
 ghost use Rattle.std.specs.Prelude.{◌≡◌};
 ghost use Rattle.text.specs.Entries.{entries};
-ghost use Rattle.walk.specs.Comparisons.{FairComparison, overLeast, literalsOf};
-ghost use Rattle.writing.specs.Numbers.{led, underLead};
+ghost use Rattle.walk.specs.Comparisons.{FairComparison, over_least, literals_of};
+ghost use Rattle.writing.specs.Numbers.{led, under_lead};
 ghost use Rattle.write_text.specs.Adds.{Adds, Counts};
 
 use crate::rows::add_row;
@@ -12,8 +12,8 @@ use walk::{At, Comparison, Front, Row};
 
 // A clause for each tuple, row by row; t is the sum of a tuple's offsets.
 fn add_tuples(c: Comparison, t: i32, lead: Front, at: usize, out: &mut [u8]) -> usize
-    requires { FairComparison c × (t ≡ overLeast c) × Counts at (entries (led lead (literalsOf c))) }
-    ensures { Adds (entries (led lead (literalsOf c))) at out.old result out.new }
+    requires { FairComparison c × (t ≡ over_least c) × Counts at (entries (led lead (literals_of c))) }
+    ensures { Adds (entries (led lead (literals_of c))) at out.old result out.new }
 {
     let mut place = at;
     let mut tuple = first_over(c, t);
@@ -30,8 +30,8 @@ fn add_tuples(c: Comparison, t: i32, lead: Front, at: usize, out: &mut [u8]) -> 
 
 // Where the constant is below the least sum, the lead alone is the one clause.
 pub fn add_comparison(c: Comparison, lead: Front, at: usize, out: &mut [u8]) -> usize
-    requires { FairComparison c × Counts at (entries (underLead lead c)) }
-    ensures { Adds (entries (underLead lead c)) at out.old result out.new }
+    requires { FairComparison c × Counts at (entries (under_lead lead c)) }
+    ensures { Adds (entries (under_lead lead c)) at out.old result out.new }
 {
     let t = over_least(c);
     if t < 1 {

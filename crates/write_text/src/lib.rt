@@ -1,12 +1,12 @@
-// WriteText: an accepted record's text into lent bytes. The text is made clause by clause, and no clause list is lent: one pass over the
+// write_text_outcome: an accepted record's text into lent bytes. The text is made clause by clause, and no clause list is lent: one pass over the
 // record counts its bytes, and where there is room a second one, the same, writes them.
 ghost use Rattle.std.specs.Prelude.{◌≡◌, length};
-ghost use Rattle.laws.specs.Boards.{boardOf};
-ghost use Rattle.laws.specs.Pieces.{piecesFrom};
+ghost use Rattle.laws.specs.Boards.{board_of};
+ghost use Rattle.laws.specs.Pieces.{pieces_from};
 ghost use Rattle.opening.specs.Headers.{Opened};
-ghost use Rattle.measure.specs.Said.{totalsOf};
+ghost use Rattle.measure.specs.Said.{totals_of};
 ghost use Rattle.text.specs.Entries.{entries};
-ghost use Rattle.compile.specs.Lists.{piecesNumbers};
+ghost use Rattle.compile.specs.Lists.{pieces_numbers};
 ghost use Rattle.definitions.specs.TextOperations.{text_of};
 ghost use Rattle.write_text.specs.Adds.{Adds, Counts};
 ghost use Rattle.write_text.specs.Outcome.{Allowed};
@@ -29,8 +29,8 @@ pub mod rows; // rows.rt: a row of a comparison's clauses
 
 // The clauses of the rules, which stand in the record's tail.
 fn add_rules(bytes: &[u8], header: Header, at: usize, out: &mut [u8]) -> usize
-    requires { Opened bytes.now header × Counts at (entries (piecesNumbers (boardOf bytes.now) (piecesFrom 0 (boardOf bytes.now).clauses))) }
-    ensures { Adds (entries (piecesNumbers (boardOf bytes.now) (piecesFrom 0 (boardOf bytes.now).clauses))) at out.old result out.new }
+    requires { Opened bytes.now header × Counts at (entries (pieces_numbers (board_of bytes.now) (pieces_from 0 (board_of bytes.now).clauses))) }
+    ensures { Adds (entries (pieces_numbers (board_of bytes.now) (pieces_from 0 (board_of bytes.now).clauses))) at out.old result out.new }
 {
     let tail = header.rules;
     let mut firsts = [0u32; FIRSTS];
@@ -49,8 +49,8 @@ fn add_rules(bytes: &[u8], header: Header, at: usize, out: &mut [u8]) -> usize
 
 // The first line, the axioms, the clauses of the rules.
 fn add_text(bytes: &[u8], header: Header, totals: Totals, out: &mut [u8]) -> usize
-    requires { Opened bytes.now header × (totals ≡ totalsOf (boardOf bytes.now)) × Counts 0 (text_of (boardOf bytes.now)) }
-    ensures { Adds (text_of (boardOf bytes.now)) 0 out.old result out.new }
+    requires { Opened bytes.now header × (totals ≡ totals_of (board_of bytes.now)) × Counts 0 (text_of (board_of bytes.now)) }
+    ensures { Adds (text_of (board_of bytes.now)) 0 out.old result out.new }
 {
     let clauses = add_first_line(totals.n as u64, totals.m as u64, 0, out);
     let rules = add_variables(bytes, header.ints, header.bools, clauses, out);
@@ -59,8 +59,8 @@ fn add_text(bytes: &[u8], header: Header, totals: Totals, out: &mut [u8]) -> usi
 
 // How many bytes the text has.
 fn text_length(bytes: &[u8], header: Header, totals: Totals) -> usize
-    requires { Opened bytes.now header × (totals ≡ totalsOf (boardOf bytes.now)) × Counts 0 (text_of (boardOf bytes.now)) }
-    ensures { result ≡ length (text_of (boardOf bytes.now)) }
+    requires { Opened bytes.now header × (totals ≡ totals_of (board_of bytes.now)) × Counts 0 (text_of (board_of bytes.now)) }
+    ensures { result ≡ length (text_of (board_of bytes.now)) }
 {
     let mut nothing = [0u8; 0];
     add_text(bytes, header, totals, &mut nothing)

@@ -1,18 +1,18 @@
 // The clauses of the rules, piece by piece.
 ghost use Rattle.std.specs.Prelude.{◌≡◌, ◌+◌, ◌≤◌, ◌<◌, length};
 ghost use Rattle.definitions.specs.Encoding.{first};
-ghost use Rattle.laws.specs.Limits.{numbersLimit, selectorsLimit};
-ghost use Rattle.laws.specs.Again.{literalsAt};
-ghost use Rattle.laws.specs.Boards.{boardOf};
+ghost use Rattle.laws.specs.Limits.{numbers_limit, selectors_limit};
+ghost use Rattle.laws.specs.Again.{literals_at};
+ghost use Rattle.laws.specs.Boards.{board_of};
 ghost use Rattle.laws.specs.Mentions.{Sound};
-ghost use Rattle.laws.specs.Pieces.{piecesFrom};
+ghost use Rattle.laws.specs.Pieces.{pieces_from};
 ghost use Rattle.laws.specs.Reread.{context_of};
-ghost use Rattle.rules.specs.Cursors.{Held, saidPiece, selectorsTo};
+ghost use Rattle.rules.specs.Cursors.{Held, said_piece, selectors_to};
 ghost use Rattle.rules.specs.Known.{Known};
 ghost use Rattle.slots.specs.Variables.{FirstsOf};
 ghost use Rattle.text.specs.Entries.{entries};
-ghost use Rattle.writing.specs.Lines.{lineNumbers, LineRead};
-ghost use Rattle.compile.specs.Lists.{pieceNumbers, piecesNumbers};
+ghost use Rattle.writing.specs.Lines.{line_numbers, LineRead};
+ghost use Rattle.compile.specs.Lists.{piece_numbers, pieces_numbers};
 ghost use Rattle.write_text.specs.Adds.{Adds, Counts};
 
 use crate::comparisons::add_comparison;
@@ -27,8 +27,8 @@ const LONGEST: usize = 65;
 
 // The line of n literals that begin at a place of the rules; the first selector has the number given.
 fn add_line(rules: &[u8], place: usize, n: usize, selector: u32, at: usize, out: &mut [u8]) -> usize
-    requires { LineRead rules.now n place × (selector + n < numbersLimit) × (length (lineNumbers selector (literalsAt rules.now n place).value) ≤ 65) × Counts at (entries (lineNumbers selector (literalsAt rules.now n place).value)) }
-    ensures { Adds (entries (lineNumbers selector (literalsAt rules.now n place).value)) at out.old result out.new }
+    requires { LineRead rules.now n place × (selector + n < numbers_limit) × (length (line_numbers selector (literals_at rules.now n place).value) ≤ 65) × Counts at (entries (line_numbers selector (literals_at rules.now n place).value)) }
+    ensures { Adds (entries (line_numbers selector (literals_at rules.now n place).value)) at out.old result out.new }
 {
     let mut numbers = [0i32; LONGEST];
     let k = put_line(rules, place, n, selector, &mut numbers);
@@ -45,8 +45,8 @@ fn add_piece(
     at: usize,
     out: &mut [u8],
 ) -> usize
-    requires { Known bytes.now rules.now × FirstsOf (boardOf bytes.now) firsts.now × (selectors ≡ first (boardOf bytes.now) (length (boardOf bytes.now).bounds)) × Held (context_of (boardOf bytes.now)) rules.now piece × (selectorsTo piece ≤ selectorsLimit) × Sound (boardOf bytes.now) (saidPiece rules.now piece) × Counts at (entries (pieceNumbers (boardOf bytes.now) (saidPiece rules.now piece))) }
-    ensures { Adds (entries (pieceNumbers (boardOf bytes.now) (saidPiece rules.now piece))) at out.old result out.new }
+    requires { Known bytes.now rules.now × FirstsOf (board_of bytes.now) firsts.now × (selectors ≡ first (board_of bytes.now) (length (board_of bytes.now).bounds)) × Held (context_of (board_of bytes.now)) rules.now piece × (selectors_to piece ≤ selectors_limit) × Sound (board_of bytes.now) (said_piece rules.now piece) × Counts at (entries (piece_numbers (board_of bytes.now) (said_piece rules.now piece))) }
+    ensures { Adds (entries (piece_numbers (board_of bytes.now) (said_piece rules.now piece))) at out.old result out.new }
 {
     match piece {
         Piece::Line {
@@ -86,8 +86,8 @@ pub fn add_pieces(
     at: usize,
     out: &mut [u8],
 ) -> usize
-    requires { Known bytes.now rules.now × FirstsOf (boardOf bytes.now) firsts.now × (clauses ≡ length (boardOf bytes.now).clauses) × (selectors ≡ first (boardOf bytes.now) (length (boardOf bytes.now).bounds)) × Counts at (entries (piecesNumbers (boardOf bytes.now) (piecesFrom 0 (boardOf bytes.now).clauses))) }
-    ensures { Adds (entries (piecesNumbers (boardOf bytes.now) (piecesFrom 0 (boardOf bytes.now).clauses))) at out.old result out.new }
+    requires { Known bytes.now rules.now × FirstsOf (board_of bytes.now) firsts.now × (clauses ≡ length (board_of bytes.now).clauses) × (selectors ≡ first (board_of bytes.now) (length (board_of bytes.now).bounds)) × Counts at (entries (pieces_numbers (board_of bytes.now) (pieces_from 0 (board_of bytes.now).clauses))) }
+    ensures { Adds (entries (pieces_numbers (board_of bytes.now) (pieces_from 0 (board_of bytes.now).clauses))) at out.old result out.new }
 {
     let mut to = at;
     let mut cursor = start(clauses);

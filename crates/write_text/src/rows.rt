@@ -1,7 +1,7 @@
 // A row of a comparison's clauses: the literals of all terms but the last two stay, and those of the last two are stepped.
 ghost use Rattle.std.specs.Prelude.{◌∷◌, [], ◌++◌};
 ghost use Rattle.text.specs.Entries.{entries};
-ghost use Rattle.walk.specs.Rows.{frontOf, inRun, ReadyRun, in_row, Ready};
+ghost use Rattle.walk.specs.Rows.{front_of, in_run, ReadyRun, in_row, Ready};
 ghost use Rattle.writing.specs.Numbers.{clause, led, stays};
 ghost use Rattle.write_text.specs.Adds.{Adds, Counts};
 
@@ -10,8 +10,8 @@ use walk::rows::onward;
 use walk::{Front, Row, Run};
 
 fn add_front(front: Front, at: usize, out: &mut [u8]) -> usize
-    requires { Counts at (entries (frontOf front)) }
-    ensures { Adds (entries (frontOf front)) at out.old result out.new }
+    requires { Counts at (entries (front_of front)) }
+    ensures { Adds (entries (front_of front)) at out.old result out.new }
 {
     let Front::Literal(literal) = front else {
         return at;
@@ -55,8 +55,8 @@ fn add_short(lead: Front, front: Front, at: usize, out: &mut [u8]) -> usize
 }
 
 fn add_run(lead: Front, run: Run, at: usize, out: &mut [u8]) -> usize
-    requires { ReadyRun run × Counts at (entries (led lead (inRun run))) }
-    ensures { Adds (entries (led lead (inRun run))) at out.old result out.new }
+    requires { ReadyRun run × Counts at (entries (led lead (in_run run))) }
+    ensures { Adds (entries (led lead (in_run run))) at out.old result out.new }
 {
     let mut place = at;
     let mut rest = run;

@@ -4,36 +4,36 @@ use mathlib.Core.List.{List, [], ◌∷◌}
 use Prim.Native.Nat.{ℕ, ◌+◌, ◌-◌, ◌<◌}
 use native.Mathlib.Omega.{arith}
 use lib.IntN.{pos, nat_abs}
-use Rattle.laws.specs.Limits.{numbersLimit}
+use Rattle.laws.specs.Limits.{numbers_limit}
 use Rattle.laws.specs.Whole.{abs_neg}
-use Rattle.laws.specs.Again.{There, literal-read, literalsAt, FirstLiteral, first-literal}
+use Rattle.laws.specs.Again.{There, literal_read, literals_at, FirstLiteral, first_literal}
 use Rattle.reader.specs.declared.Literal.{Literal}
 use Rattle.reader.specs.declared.Reread.{Reread}
-use Rattle.reader.specs.Literals.{Rereads, KnownLiteral, known-literal}
-use Rattle.writing.specs.Lines.{literalHere, takes, lineNumbers, line-more, line-none, LineRead}
+use Rattle.reader.specs.Literals.{Rereads, KnownLiteral, known_literal}
+use Rattle.writing.specs.Lines.{literal_here, takes, line_numbers, line-more, line_none, LineRead}
 
-pub line-last : (t : List ℕ) (n place number : ℕ) → n ≡ 0 → lineNumbers number (literalsAt t n place).value ≡ pos 0 ∷ []
-line-last t n place number e = ap (λ k. lineNumbers number (literalsAt t k place).value) e ∙ line-none number
+pub line-last : (t : List ℕ) (n place number : ℕ) → n ≡ 0 → line_numbers number (literals_at t n place).value ≡ pos 0 ∷ []
+line-last t n place number e = ap (λ k. line_numbers number (literals_at t k place).value) e ∙ line_none number
 
 module _ {t : List ℕ} {n place : ℕ} (h : 0 < n) (l : LineRead t n place) where
   first : FirstLiteral l.ctx t n place
-  first = first-literal l.ctx t n place h l.literals
+  first = first_literal l.ctx t n place h l.literals
 
   pub there : There t place
-  there = (literal-read t place l.ctx _ first.read).there
+  there = (literal_read t place l.ctx _ first.read).there
 
   module _ {r : Reread} (a : Rereads t place r) where
     pub rest_read : LineRead t (n - 1) r.next
     rest_read = rw a.next (record { ctx = l.ctx; bools = l.bools; literals = first.rest })
 
-    pub line_first : (number : ℕ) → lineNumbers number (literalsAt t n place).value ≡ literalHere number r.literal ∷ lineNumbers (number + takes r.literal) (literalsAt t (n - 1) r.next).value
+    pub line_first : (number : ℕ) → line_numbers number (literals_at t n place).value ≡ literal_here number r.literal ∷ line_numbers (number + takes r.literal) (literals_at t (n - 1) r.next).value
     line_first number = rw (first.joined, a.next, ← a.literal) (line-more t number r.literal _)
 
     -- its number fits
-    pub small : (number : ℕ) → number < numbersLimit → nat_abs (literalHere number r.literal) < numbersLimit
-    small number k = go r.literal (known-literal l.ctx t place first.read a)
+    pub small : (number : ℕ) → number < numbers_limit → nat_abs (literal_here number r.literal) < numbers_limit
+    small number k = go r.literal (known_literal l.ctx t place first.read a)
       where
-        go : (x : Literal) → KnownLiteral t l.ctx.ints l.ctx.bools x → nat_abs (literalHere number x) < numbersLimit
+        go : (x : Literal) → KnownLiteral t l.ctx.ints l.ctx.bools x → nat_abs (literal_here number x) < numbers_limit
         go (Literal.Boolean b) g = omega (arith, g.1, l.bools)
         go (Literal.Negated b) g = omega (arith, g.1, l.bools, abs_neg (pos b))
         go (Literal.Comparison q constant) g = k

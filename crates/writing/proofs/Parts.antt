@@ -7,7 +7,7 @@ use lib.ListN.{length, drop, set}
 use lib.IntN.{ℤ, pos, ◌+ℤ◌, ◌-ℤ◌}
 use mir.Syntax.{w32}
 use mir.Val.{to_z, of_z}
-use Rattle.laws.specs.Limits.{numbersLimit}
+use Rattle.laws.specs.Limits.{numbers_limit}
 use Rattle.laws.specs.Lists.{flatten-append}
 use Rattle.laws.specs.Written.{written}
 use Rattle.walk.specs.declared.Comparison.{Comparison}
@@ -17,25 +17,25 @@ use Rattle.walk.specs.declared.At.TheVariants.{Tuple, End}
 use Rattle.walk.specs.declared.Spot.{Spot}
 use Rattle.walk.specs.declared.Front.{Front}
 use Rattle.walk.specs.declared.Run.{Run}
-use Rattle.walk.specs.Rows.{frontOf, raised, lowered, inRun, ReadyRun, run-first, run_none, row_next}
-use Rattle.walk.specs.Comparisons.{toCome, none_left}
-use Rattle.walk.proofs.Runs.{raised-steady, lowered-steady}
-use Rattle.laws.specs.Signs.{plus-is, minus_is}
-use Rattle.writing.specs.Numbers.{clause, flat, stays, led, led-none, led-more}
-use Rattle.writing.specs.Axioms.{stepsFrom, axiomNumbers}
+use Rattle.walk.specs.Rows.{front_of, raised, lowered, in_run, ReadyRun, run-first, run_none, row_next}
+use Rattle.walk.specs.Comparisons.{to_come, none_left}
+use Rattle.walk.proofs.Runs.{raised_steady, lowered_steady}
+use Rattle.laws.specs.Signs.{plus_is, minus_is}
+use Rattle.writing.specs.Numbers.{clause, flat, stays, led, led_none, led-more}
+use Rattle.writing.specs.Axioms.{steps_from, axiom_numbers}
 use Rattle.laws.specs.Filling.{Filling, begin, begun, one, three, ended}
 
 -- the two unit clauses of a variable, before its steps
 abbrev pub headed : ℕ → ℕ → List ℤ → List ℤ
 headed i w o = set (set (set (set o 0 (to_z w32 (of_z w32 (pos 0 -ℤ to_z w32 i)))) 1 (pos 0)) 2 (to_z w32 (i + (w - 1)))) 3 (pos 0)
 
-pub units : (i w : ℕ) (o : List ℤ) → i + w < numbersLimit → length (axiomNumbers i w) ≤ length o
-    → Filling (axiomNumbers i w) (stepsFrom i (w - 1)) o (headed i w o) 4
-unfolding axiomNumbers
+pub units : (i w : ℕ) (o : List ℤ) → i + w < numbers_limit → length (axiom_numbers i w) ≤ length o
+    → Filling (axiom_numbers i w) (steps_from i (w - 1)) o (headed i w o) 4
+unfolding axiom_numbers
 units i w o h fit =
     let u = minus_is i (omega arith) in
-    let v = plus-is (i + (w - 1)) (omega arith) in
-    let e = ap₂ (λ a b. a ∷ pos 0 ∷ b ∷ pos 0 ∷ stepsFrom i (w - 1)) (sym u) (sym v) in
+    let v = plus_is (i + (w - 1)) (omega arith) in
+    let e = ap₂ (λ a b. a ∷ pos 0 ∷ b ∷ pos 0 ∷ steps_from i (w - 1)) (sym u) (sym v) in
     one (one (one (one (begin _ _ o refl fit) _ _ e) (pos 0) _ refl) _ _ refl) (pos 0) _ refl
 
 -- ---- rows
@@ -55,53 +55,53 @@ module _ (fixed : List ℤ) (o out : List ℤ) (at : ℕ) (en : at ≡ length fi
   unfolding clause
   alone fit = begun fixed (pos 0 ∷ []) o out at fit en ey
 
-led-next : (lead front : Front) (ls : List ℤ) (cs : List (List ℤ)) → led lead ((frontOf front ++ ls) ∷ cs) ≡ clause (stays lead front ++ ls) ++ led lead cs
-led-next lead front ls cs = led-more lead (frontOf front ++ ls) cs ∙ ap (λ l. clause l ++ led lead cs) (sym (append_assoc (frontOf lead) (frontOf front) ls))
+led_next : (lead front : Front) (ls : List ℤ) (cs : List (List ℤ)) → led lead ((front_of front ++ ls) ∷ cs) ≡ clause (stays lead front ++ ls) ++ led lead cs
+led_next lead front ls cs = led-more lead (front_of front ++ ls) cs ∙ ap (λ l. clause l ++ led lead cs) (sym (append_assoc (front_of lead) (front_of front) ls))
 
 module _ (lead : Front) (run : Run) where
-  pub run_end : run.count ≡ 0 → led lead (inRun run) ≡ []
-  run_end h = ap (led lead) (run_none run h) ∙ led-none lead
+  pub run_end : run.count ≡ 0 → led lead (in_run run) ≡ []
+  run_end h = ap (led lead) (run_none run h) ∙ led_none lead
 
-  pub run_more : 0 < run.count → led lead (inRun run) ≡ clause (stays lead run.front ++ (run.y.literal ∷ run.z.literal ∷ [])) ++ led lead (drop 1 (inRun run))
-  run_more h = ap (led lead) (run-first run h) ∙ led-next lead run.front (run.y.literal ∷ run.z.literal ∷ []) (drop 1 (inRun run))
+  pub run_more : 0 < run.count → led lead (in_run run) ≡ clause (stays lead run.front ++ (run.y.literal ∷ run.z.literal ∷ [])) ++ led lead (drop 1 (in_run run))
+  run_more h = ap (led lead) (run-first run h) ∙ led_next lead run.front (run.y.literal ∷ run.z.literal ∷ []) (drop 1 (in_run run))
 
 -- ---- a run whose literals move with each clause
 abbrev unit : ℤ → Spot
 unit l = record { d = 1; r = 0; literal = l }
 
-abbrev pub unitRun : Front → ℤ → ℤ → ℕ → Run
-unitRun front y z n = record { front = front; y = unit y; z = unit z; count = n }
+abbrev pub unit_run : Front → ℤ → ℤ → ℕ → Run
+unit_run front y z n = record { front = front; y = unit y; z = unit z; count = n }
 
-pub unit-is : (run : Run) → ReadyRun run → run.y.d + run.z.d < 3 → run ≡ unitRun run.front run.y.literal run.z.literal run.count
-unit-is run ready h = ap₂ (λ y z. record { front = run.front; y = y; z = z; count = run.count }) (one-step run.y (omega (arith, ready.rising.short, ready.falling.short)) (omega (arith, ready.rising.short, ready.falling.short))) (one-step run.z (omega (arith, ready.rising.short, ready.falling.short)) (omega (arith, ready.rising.short, ready.falling.short)))
+pub unit_is : (run : Run) → ReadyRun run → run.y.d + run.z.d < 3 → run ≡ unit_run run.front run.y.literal run.z.literal run.count
+unit_is run ready h = ap₂ (λ y z. record { front = run.front; y = y; z = z; count = run.count }) (one-step run.y (omega (arith, ready.rising.short, ready.falling.short)) (omega (arith, ready.rising.short, ready.falling.short))) (one-step run.z (omega (arith, ready.rising.short, ready.falling.short)) (omega (arith, ready.rising.short, ready.falling.short)))
   where
     one-step : (p : Spot) → p.d ≡ 1 → p.r ≡ 0 → p ≡ unit p.literal
     one-step p d r = ap₂ (λ a b. record { d = a; r = b; literal = p.literal }) d r
 
-pub units-more : (lead front : Front) (y z : ℤ) (n : ℕ) → 0 < n
-    → led lead (inRun (unitRun front y z n)) ≡ clause (stays lead front ++ (y ∷ z ∷ [])) ++ led lead (inRun (unitRun front (y +ℤ pos 1) (z -ℤ pos 1) (n - 1)))
-unfolding inRun raised lowered
-units-more lead front y z n h = ap (led lead) (row_next (frontOf front) (unit y) (unit z) n h) ∙ led-next lead front (y ∷ z ∷ []) (inRun (unitRun front (y +ℤ pos 1) (z -ℤ pos 1) (n - 1)))
+pub units_more : (lead front : Front) (y z : ℤ) (n : ℕ) → 0 < n
+    → led lead (in_run (unit_run front y z n)) ≡ clause (stays lead front ++ (y ∷ z ∷ [])) ++ led lead (in_run (unit_run front (y +ℤ pos 1) (z -ℤ pos 1) (n - 1)))
+unfolding in_run raised lowered
+units_more lead front y z n h = ap (led lead) (row_next (front_of front) (unit y) (unit z) n h) ∙ led_next lead front (y ∷ z ∷ []) (in_run (unit_run front (y +ℤ pos 1) (z -ℤ pos 1) (n - 1)))
 
-pub units-ready : (front : Front) (y z : ℤ) (n : ℕ) → 0 < n → ReadyRun (unitRun front y z n) → ReadyRun (unitRun front (y +ℤ pos 1) (z -ℤ pos 1) (n - 1))
+pub units_ready : (front : Front) (y z : ℤ) (n : ℕ) → 0 < n → ReadyRun (unit_run front y z n) → ReadyRun (unit_run front (y +ℤ pos 1) (z -ℤ pos 1) (n - 1))
 unfolding raised lowered
-units-ready front y z n h ready = record { rising = raised-steady (unit y) n h ready.rising; falling = lowered-steady (unit z) n h ready.falling }
+units_ready front y z n h ready = record { rising = raised_steady (unit y) n h ready.rising; falling = lowered_steady (unit z) n h ready.falling }
 
 pub led-append : (lead : Front) (cs ds : List (List ℤ)) → led lead (cs ++ ds) ≡ led lead cs ++ led lead ds
 unfolding flat
 led-append lead cs ds =
-    ap (λ l. flatten (map clause l)) (map-append (λ ls. frontOf lead ++ ls) cs ds)
-    ∙ ap flatten (map-append clause (map (λ ls. frontOf lead ++ ls) cs) (map (λ ls. frontOf lead ++ ls) ds))
-    ∙ flatten-append (map clause (map (λ ls. frontOf lead ++ ls) cs)) (map clause (map (λ ls. frontOf lead ++ ls) ds))
+    ap (λ l. flatten (map clause l)) (map-append (λ ls. front_of lead ++ ls) cs ds)
+    ∙ ap flatten (map-append clause (map (λ ls. front_of lead ++ ls) cs) (map (λ ls. front_of lead ++ ls) ds))
+    ∙ flatten-append (map clause (map (λ ls. front_of lead ++ ls) cs)) (map clause (map (λ ls. front_of lead ++ ls) ds))
 
-pub led-single : (lead : Front) (ls : List ℤ) → led lead (ls ∷ []) ≡ clause (frontOf lead ++ ls)
-led-single lead ls = led-more lead ls [] ∙ ap (λ l. clause (frontOf lead ++ ls) ++ l) (led-none lead) ∙ append-nil (clause (frontOf lead ++ ls))
+pub led-single : (lead : Front) (ls : List ℤ) → led lead (ls ∷ []) ≡ clause (front_of lead ++ ls)
+led-single lead ls = led-more lead ls [] ∙ ap (λ l. clause (front_of lead ++ ls) ++ l) (led_none lead) ∙ append-nil (clause (front_of lead ++ ls))
 
 -- ---- the clauses of the tuples to come
 module _ (c : Comparison) (lead : Front) (cur : At) where
-  pub led-end : cur ≡ End → led lead (toCome c cur) ≡ []
-  led-end q = ap (led lead) (ap (toCome c) q ∙ none_left c) ∙ led-none lead
+  pub led-end : cur ≡ End → led lead (to_come c cur) ≡ []
+  led-end q = ap (led lead) (ap (to_come c) q ∙ none_left c) ∙ led_none lead
 
   -- a row, and then the rest
-  pub led_on : (w : Walk) → cur ≡ Tuple w → (row rest : List (List ℤ)) → toCome c (Tuple w) ≡ row ++ rest → led lead (toCome c cur) ≡ led lead row ++ led lead rest
-  led_on w q row rest e = ap (led lead) (ap (toCome c) q ∙ e) ∙ led-append lead row rest
+  pub led_on : (w : Walk) → cur ≡ Tuple w → (row rest : List (List ℤ)) → to_come c (Tuple w) ≡ row ++ rest → led lead (to_come c cur) ≡ led lead row ++ led lead rest
+  led_on w q row rest e = ap (led lead) (ap (to_come c) q ∙ e) ∙ led-append lead row rest

@@ -1,13 +1,13 @@
 // The axioms of an integer variable, from its first number and how many order variables it has.
 ghost use Rattle.std.specs.Prelude.{◌≡◌, ◌+◌, ◌≤◌, ◌<◌, length};
-ghost use Rattle.laws.specs.Limits.{numbersLimit};
+ghost use Rattle.laws.specs.Limits.{numbers_limit};
 ghost use Rattle.laws.specs.Written.{written};
-ghost use Rattle.writing.specs.Axioms.{stepsFrom, axiomNumbers};
+ghost use Rattle.writing.specs.Axioms.{steps_from, axiom_numbers};
 
 // From each order variable to the next: if x is at most c - 1, it is at most c.
 fn put_steps(first: u32, steps: u32, list: &mut [i32]) -> usize
-    requires { (first + steps < numbersLimit) × (length (stepsFrom first steps) ≤ length list.old) }
-    ensures { (result ≡ length (stepsFrom first steps)) × (list.new ≡ written (stepsFrom first steps) list.old) }
+    requires { (first + steps < numbers_limit) × (length (steps_from first steps) ≤ length list.old) }
+    ensures { (result ≡ length (steps_from first steps)) × (list.new ≡ written (steps_from first steps) list.old) }
 {
     let mut number = first;
     let mut left = steps;
@@ -25,8 +25,8 @@ fn put_steps(first: u32, steps: u32, list: &mut [i32]) -> usize
 
 // Not p(x, lower - 1); p(x, upper); then the steps between.
 pub fn put_axioms(first: u32, width: u32, list: &mut [i32]) -> usize
-    requires { (0 < width) × (first + width < numbersLimit) × (length (axiomNumbers first width) ≤ length list.old) }
-    ensures { (result ≡ length (axiomNumbers first width)) × (list.new ≡ written (axiomNumbers first width) list.old) }
+    requires { (0 < width) × (first + width < numbers_limit) × (length (axiom_numbers first width) ≤ length list.old) }
+    ensures { (result ≡ length (axiom_numbers first width)) × (list.new ≡ written (axiom_numbers first width) list.old) }
 {
     let steps = width - 1;
     list[0] = -(first as i32);

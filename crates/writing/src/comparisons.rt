@@ -1,8 +1,8 @@
 // A comparison's clauses, each led by the same literal, a negated selector, or by none.
 ghost use Rattle.std.specs.Prelude.{◌≡◌, ◌≤◌, length};
 ghost use Rattle.laws.specs.Written.{written};
-ghost use Rattle.walk.specs.Comparisons.{FairComparison, overLeast, literalsOf};
-ghost use Rattle.writing.specs.Numbers.{led, underLead};
+ghost use Rattle.walk.specs.Comparisons.{FairComparison, over_least, literals_of};
+ghost use Rattle.writing.specs.Numbers.{led, under_lead};
 
 use crate::rows::put_row;
 use walk::rows::{after_row, row_at};
@@ -11,8 +11,8 @@ use walk::{At, Comparison, Front, Row};
 
 // A clause for each tuple, row by row; t is the sum of a tuple's offsets.
 fn put_tuples(c: Comparison, t: i32, lead: Front, list: &mut [i32]) -> usize
-    requires { FairComparison c × (t ≡ overLeast c) × (length (led lead (literalsOf c)) ≤ length list.old) }
-    ensures { (result ≡ length (led lead (literalsOf c))) × (list.new ≡ written (led lead (literalsOf c)) list.old) }
+    requires { FairComparison c × (t ≡ over_least c) × (length (led lead (literals_of c)) ≤ length list.old) }
+    ensures { (result ≡ length (led lead (literals_of c))) × (list.new ≡ written (led lead (literals_of c)) list.old) }
 {
     let mut at: usize = 0;
     let mut tuple = first_over(c, t);
@@ -29,8 +29,8 @@ fn put_tuples(c: Comparison, t: i32, lead: Front, list: &mut [i32]) -> usize
 
 // Where the constant is below the least sum, the lead alone is the one clause.
 pub fn put_comparison(c: Comparison, lead: Front, list: &mut [i32]) -> usize
-    requires { FairComparison c × (length (underLead lead c) ≤ length list.old) }
-    ensures { (result ≡ length (underLead lead c)) × (list.new ≡ written (underLead lead c) list.old) }
+    requires { FairComparison c × (length (under_lead lead c) ≤ length list.old) }
+    ensures { (result ≡ length (under_lead lead c)) × (list.new ≡ written (under_lead lead c) list.old) }
 {
     let t = over_least(c);
     if t < 1 {

@@ -1,17 +1,17 @@
 // The line of a clause: its Boolean literals and its comparisons' selectors.
 ghost use Rattle.std.specs.Prelude.{◌≡◌, ◌+◌, ◌≤◌, ◌<◌, nat_abs, length};
-ghost use Rattle.laws.specs.Limits.{numbersLimit};
-ghost use Rattle.laws.specs.Again.{literalsAt};
+ghost use Rattle.laws.specs.Limits.{numbers_limit};
+ghost use Rattle.laws.specs.Again.{literals_at};
 ghost use Rattle.laws.specs.Written.{written};
-ghost use Rattle.writing.specs.Lines.{literalHere, takes, lineNumbers, LineRead};
+ghost use Rattle.writing.specs.Lines.{literal_here, takes, line_numbers, LineRead};
 
 use reader::Literal;
 use reader::rereading::literal_again;
 
 // A literal's number; a comparison's is that of its selector.
 fn number_of(literal: Literal, selector: u32) -> i32
-    requires { nat_abs (literalHere selector literal) < numbersLimit }
-    ensures { result ≡ literalHere selector literal }
+    requires { nat_abs (literal_here selector literal) < numbers_limit }
+    ensures { result ≡ literal_here selector literal }
 {
     match literal {
         Literal::Boolean(b) => b as i32,
@@ -38,8 +38,8 @@ fn selectors_of(literal: Literal) -> u32
 
 // Of n literals that begin at a place of the rules; the first selector has the number given.
 pub fn put_line(rules: &[u8], place: usize, n: usize, selector: u32, list: &mut [i32]) -> usize
-    requires { LineRead rules.now n place × (selector + n < numbersLimit) × (length (lineNumbers selector (literalsAt rules.now n place).value) ≤ length list.old) }
-    ensures { (result ≡ length (lineNumbers selector (literalsAt rules.now n place).value)) × (list.new ≡ written (lineNumbers selector (literalsAt rules.now n place).value) list.old) }
+    requires { LineRead rules.now n place × (selector + n < numbers_limit) × (length (line_numbers selector (literals_at rules.now n place).value) ≤ length list.old) }
+    ensures { (result ≡ length (line_numbers selector (literals_at rules.now n place).value)) × (list.new ≡ written (line_numbers selector (literals_at rules.now n place).value) list.old) }
 {
     let mut next_place = place;
     let mut left = n;

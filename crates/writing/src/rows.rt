@@ -1,15 +1,15 @@
 // A row of a comparison's clauses: the literals of all terms but the last two stay, and those of the last two are stepped.
 ghost use Rattle.std.specs.Prelude.{◌≡◌, ◌+◌, ◌≤◌, ◌<◌, ◌∷◌, [], ◌++◌, length};
 ghost use Rattle.laws.specs.Written.{written};
-ghost use Rattle.walk.specs.Rows.{frontOf, inRun, ReadyRun, in_row, Ready};
+ghost use Rattle.walk.specs.Rows.{front_of, in_run, ReadyRun, in_row, Ready};
 ghost use Rattle.writing.specs.Numbers.{clause, led, stays};
 
 use walk::rows::onward;
 use walk::{Front, Row, Run};
 
 fn put_front(front: Front, list: &mut [i32]) -> usize
-    requires { length (frontOf front) ≤ length list.old }
-    ensures { (result ≡ length (frontOf front)) × (list.new ≡ written (frontOf front) list.old) }
+    requires { length (front_of front) ≤ length list.old }
+    ensures { (result ≡ length (front_of front)) × (list.new ≡ written (front_of front) list.old) }
 {
     let Front::Literal(literal) = front else {
         return 0;
@@ -56,8 +56,8 @@ fn put_short(lead: Front, front: Front, list: &mut [i32]) -> usize
 }
 
 fn put_stepped(lead: Front, run: Run, list: &mut [i32]) -> usize
-    requires { ReadyRun run × (length (led lead (inRun run)) ≤ length list.old) }
-    ensures { (result ≡ length (led lead (inRun run))) × (list.new ≡ written (led lead (inRun run)) list.old) }
+    requires { ReadyRun run × (length (led lead (in_run run)) ≤ length list.old) }
+    ensures { (result ≡ length (led lead (in_run run))) × (list.new ≡ written (led lead (in_run run)) list.old) }
 {
     let mut at: usize = 0;
     let mut rest = run;
@@ -73,8 +73,8 @@ fn put_stepped(lead: Front, run: Run, list: &mut [i32]) -> usize
 
 // Where both coefficients are 1 or -1, one literal rises with each clause, the other falls.
 fn put_units(lead: Front, run: Run, list: &mut [i32]) -> usize
-    requires { ReadyRun run × (run.y.d + run.z.d < 3) × (length (led lead (inRun run)) ≤ length list.old) }
-    ensures { (result ≡ length (led lead (inRun run))) × (list.new ≡ written (led lead (inRun run)) list.old) }
+    requires { ReadyRun run × (run.y.d + run.z.d < 3) × (length (led lead (in_run run)) ≤ length list.old) }
+    ensures { (result ≡ length (led lead (in_run run))) × (list.new ≡ written (led lead (in_run run)) list.old) }
 {
     let front = run.front;
     let y = run.y;

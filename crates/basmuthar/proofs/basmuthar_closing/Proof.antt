@@ -1,7 +1,7 @@
 -- `basmuthar::basmuthar_closing` meets its contract.
 use mathlib.Core.Path.{ap, ◌∙◌}
 use borrow.Author.Rules.{rules}
-use Rattle.basmuthar.specs.Interface.{hourWritten, hoursWritten}
+use Rattle.basmuthar.specs.Interface.{hour_written, hours_written}
 use Rattle.basmuthar.proofs.basmuthar_closing.Statement.{statement}
 use Rattle.basmuthar.proofs.basmuthar_closing.Tie as tie
 
@@ -17,7 +17,7 @@ hours-written-requires c κs = search rules
 returns : tie.Need-returns
 returns c =
     let hour = c.before.before.before.closing.ensures in
-    (c.before.before.hour-written.ensures ∙ ap hourWritten hour, c.hours-written.ensures ∙ ap (λ h. hoursWritten h c.before.before.before.before.before.before.args.hours.now) hour)
+    (c.before.before.hour-written.ensures ∙ ap hour_written hour, c.hours-written.ensures ∙ ap (λ h. hours_written h c.before.before.before.before.before.before.args.hours.now) hour)
 
 pub basmuthar-closing-spec : {M : Type 1} → statement M
 basmuthar-closing-spec =

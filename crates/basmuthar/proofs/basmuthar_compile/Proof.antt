@@ -1,7 +1,7 @@
 -- `basmuthar::basmuthar_compile` meets its contract.
 use mathlib.Core.Path.{ap, ◌∙◌}
 use borrow.Author.Rules.{rules}
-use Rattle.basmuthar.specs.Interface.{sizesWritten}
+use Rattle.basmuthar.specs.Interface.{sizes_written}
 use Rattle.basmuthar.proofs.basmuthar_compile.Statement.{statement}
 use Rattle.basmuthar.proofs.basmuthar_compile.Tie as tie
 
@@ -17,7 +17,7 @@ same_length c = search rules
 returns : tie.Need-returns
 returns c =
     let allowed = c.before.before.compile.ensures in
-    (c.sizes-written.ensures ∙ ap sizesWritten allowed.0, allowed.1)
+    (c.sizes-written.ensures ∙ ap sizes_written allowed.0, allowed.1)
 
 pub basmuthar-compile-spec : {M : Type 1} → statement M
 basmuthar-compile-spec =

@@ -1,7 +1,7 @@
 -- `basmuthar::basmuthar_decode` meets its contract.
 use mathlib.Core.Path.{ap, ◌∙◌}
 use borrow.Author.Rules.{rules}
-use Rattle.basmuthar.specs.Interface.{verdictWritten}
+use Rattle.basmuthar.specs.Interface.{verdict_written}
 use Rattle.basmuthar.proofs.basmuthar_decode.Statement.{statement}
 use Rattle.basmuthar.proofs.basmuthar_decode.Tie as tie
 
@@ -20,7 +20,7 @@ same-length-2 c = search rules
 returns : tie.Need-returns
 returns c =
     let leaves = c.before.before.before.before.decode.ensures in
-    (c.verdict-written.ensures ∙ ap verdictWritten leaves.answer, leaves.values, leaves.booleans)
+    (c.verdict-written.ensures ∙ ap verdict_written leaves.answer, leaves.values, leaves.booleans)
 
 pub basmuthar-decode-spec : {M : Type 1} → statement M
 basmuthar-decode-spec =

@@ -1,7 +1,7 @@
 -- `basmuthar::basmuthar_image` meets its contract.
 use mathlib.Core.Path.{ap, ◌∙◌}
 use borrow.Author.Rules.{rules}
-use Rattle.basmuthar.specs.Interface.{verdictWritten}
+use Rattle.basmuthar.specs.Interface.{verdict_written}
 use Rattle.basmuthar.proofs.basmuthar_image.Statement.{statement}
 use Rattle.basmuthar.proofs.basmuthar_image.Tie as tie
 
@@ -17,7 +17,7 @@ same_length c = search rules
 returns : tie.Need-returns
 returns c =
     let allowed = c.before.before.before.image.ensures in
-    (c.verdict-written.ensures ∙ ap verdictWritten allowed.0, allowed.1)
+    (c.verdict-written.ensures ∙ ap verdict_written allowed.0, allowed.1)
 
 pub basmuthar-image-spec : {M : Type 1} → statement M
 basmuthar-image-spec =

@@ -1,7 +1,7 @@
 -- `basmuthar::basmuthar_read_reply` meets its contract.
 use mathlib.Core.Path.{ap, ◌∙◌}
 use borrow.Author.Rules.{rules}
-use Rattle.basmuthar.specs.Interface.{replyWritten}
+use Rattle.basmuthar.specs.Interface.{reply_written}
 use Rattle.basmuthar.proofs.basmuthar_read_reply.Statement.{statement}
 use Rattle.basmuthar.proofs.basmuthar_read_reply.Tie as tie
 
@@ -17,7 +17,7 @@ same_length c = search rules
 returns : tie.Need-returns
 returns c =
     let allowed = c.before.before.before.read-reply.ensures in
-    (c.reply-written.ensures ∙ ap replyWritten allowed.0, allowed.1)
+    (c.reply-written.ensures ∙ ap reply_written allowed.0, allowed.1)
 
 pub basmuthar-read-reply-spec : {M : Type 1} → statement M
 basmuthar-read-reply-spec =

@@ -1,7 +1,7 @@
 -- `basmuthar::basmuthar_size` meets its contract.
 use mathlib.Core.Path.{ap, ◌∙◌}
 use borrow.Author.Rules.{rules}
-use Rattle.basmuthar.specs.Interface.{sizesWritten}
+use Rattle.basmuthar.specs.Interface.{sizes_written}
 use Rattle.basmuthar.proofs.basmuthar_size.Statement.{statement}
 use Rattle.basmuthar.proofs.basmuthar_size.Tie as tie
 
@@ -12,7 +12,7 @@ sizes-written-requires : tie.Need-sizes-written-requires
 sizes-written-requires c κs = search rules
 
 returns : tie.Need-returns
-returns c = c.sizes-written.ensures ∙ ap sizesWritten c.before.size.ensures
+returns c = c.sizes-written.ensures ∙ ap sizes_written c.before.size.ensures
 
 pub basmuthar-size-spec : {M : Type 1} → statement M
 basmuthar-size-spec = tie.close (tie.spec size-requires sizes-written-requires returns)

@@ -1,7 +1,7 @@
 -- `basmuthar::basmuthar_write_text` meets its contract.
 use mathlib.Core.Path.{ap, ◌∙◌}
 use borrow.Author.Rules.{rules}
-use Rattle.basmuthar.specs.Interface.{lengthWritten}
+use Rattle.basmuthar.specs.Interface.{length_written}
 use Rattle.basmuthar.proofs.basmuthar_write_text.Statement.{statement}
 use Rattle.basmuthar.proofs.basmuthar_write_text.Tie as tie
 
@@ -17,7 +17,7 @@ same_length c = search rules
 returns : tie.Need-returns
 returns c =
     let allowed = c.before.before.before.write-text.ensures in
-    (c.length-written.ensures ∙ ap lengthWritten allowed.0, allowed.1)
+    (c.length-written.ensures ∙ ap length_written allowed.0, allowed.1)
 
 pub basmuthar-write-text-spec : {M : Type 1} → statement M
 basmuthar-write-text-spec =

@@ -1,8 +1,8 @@
 -- `basmuthar::hour_written` meets its contract.
 use mathlib.Core.Path.{sym, ap, ◌∙◌}
 use borrow.Author.Rules.{rules}
-use Rattle.definitions.specs.Answers.{saidHour}
-use Rattle.basmuthar.specs.Interface.{hourWritten}
+use Rattle.definitions.specs.Answers.{said_hour}
+use Rattle.basmuthar.specs.Interface.{hour_written}
 use Rattle.basmuthar.proofs.hour_written.Statement.{statement}
 use Rattle.basmuthar.proofs.hour_written.Tie as tie
 
@@ -32,7 +32,7 @@ returns-3 c = search rules
 
 returns-4 : tie.Need-returns-4
 returns-4 c =
-    c.refusal-written.ensures ∙ ap (λ h. hourWritten (saidHour h)) (sym c.before.before.hour.given.1)
+    c.refusal-written.ensures ∙ ap (λ h. hour_written (said_hour h)) (sym c.before.before.hour.given.1)
 
 pub hour-written-spec : {M : Type 1} → statement M
 hour-written-spec =

@@ -1,8 +1,8 @@
 -- `basmuthar::reply_written` meets its contract.
 use mathlib.Core.Path.{sym, ap, ◌∙◌}
 use borrow.Author.Rules.{rules}
-use Rattle.definitions.specs.Answers.{saidReplied}
-use Rattle.basmuthar.specs.Interface.{replyWritten}
+use Rattle.definitions.specs.Answers.{said_replied}
+use Rattle.basmuthar.specs.Interface.{reply_written}
 use Rattle.basmuthar.proofs.reply_written.Statement.{statement}
 use Rattle.basmuthar.proofs.reply_written.Tie as tie
 
@@ -26,7 +26,7 @@ returns-2 c = search rules
 
 returns-3 : tie.Need-returns-3
 returns-3 c =
-    c.refusal-written.ensures ∙ ap (λ h. replyWritten (saidReplied h)) (sym c.before.before.replied.given.1)
+    c.refusal-written.ensures ∙ ap (λ h. reply_written (said_replied h)) (sym c.before.before.replied.given.1)
 
 pub reply-written-spec : {M : Type 1} → statement M
 reply-written-spec =

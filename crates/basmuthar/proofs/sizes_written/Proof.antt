@@ -1,8 +1,8 @@
 -- `basmuthar::sizes_written` meets its contract.
 use mathlib.Core.Path.{sym, ap, ◌∙◌}
 use borrow.Author.Rules.{rules}
-use Rattle.definitions.specs.Answers.{saidSizing}
-use Rattle.basmuthar.specs.Interface.{sizesWritten}
+use Rattle.definitions.specs.Answers.{said_sizing}
+use Rattle.basmuthar.specs.Interface.{sizes_written}
 use Rattle.basmuthar.proofs.sizes_written.Statement.{statement}
 use Rattle.basmuthar.proofs.sizes_written.Tie as tie
 
@@ -16,11 +16,11 @@ refusal-written-requires : tie.Need-refusal-written-requires
 refusal-written-requires c κs = search rules
 
 returns : tie.Need-returns
-returns c = ap (λ z. sizesWritten (saidSizing z)) (sym c.before.sizing.given.1)
+returns c = ap (λ z. sizes_written (said_sizing z)) (sym c.before.sizing.given.1)
 
 returns-2 : tie.Need-returns-2
 returns-2 c =
-    c.refusal-written.ensures ∙ ap (λ z. sizesWritten (saidSizing z)) (sym c.before.before.sizing2.given.1)
+    c.refusal-written.ensures ∙ ap (λ z. sizes_written (said_sizing z)) (sym c.before.before.sizing2.given.1)
 
 pub sizes-written-spec : {M : Type 1} → statement M
 sizes-written-spec =

@@ -1,15 +1,15 @@
 -- `closing::closing` meets its contract: the record, the checks, then the search.
 use mathlib.Core.Path.{sym, ap, ◌∙◌}
 use borrow.Author.Rules.{rules}
-use Rattle.definitions.specs.Answers.{saidVerdict}
+use Rattle.definitions.specs.Answers.{said_verdict}
 use Rattle.definitions.specs.Closing.{unfinished, after}
 use Rattle.fields.proofs.Laws.{told}
-use Rattle.laws.specs.Boards.{boardOf}
-use Rattle.opening.specs.Headers.{ints-is}
-use Rattle.measure.specs.Said.{saidMeasured}
-use Rattle.measure.specs.Told.{measured, not-measured}
-use Rattle.slots.specs.Variables.{bounds-same}
-use Rattle.closing.proofs.Checked.{known-then, record-refused, closing-is}
+use Rattle.laws.specs.Boards.{board_of}
+use Rattle.opening.specs.Headers.{ints_is}
+use Rattle.measure.specs.Said.{said_measured}
+use Rattle.measure.specs.Told.{measured, not_measured}
+use Rattle.slots.specs.Variables.{bounds_same}
+use Rattle.closing.proofs.Checked.{known_then, record_refused, closing_is}
 use Rattle.closing.proofs.closing.Statement.{statement}
 use Rattle.closing.proofs.closing.Tie as tie
 
@@ -28,8 +28,8 @@ enum_told c = search rules
 bounds-of-requires : tie.Need-bounds-of-requires
 bounds-of-requires c κs =
     let a = c.before.before.before.before.before.before.before.before.before.args in
-    let m = measured a.bytes.now (told saidMeasured c.before.before.before.before.before.before.measure.ensures c.before.before.before.before.header.given.1) in
-    (m.opened.opens, rw (ints-is m.opened) at (known-then _ a.variable a.replies.now (told saidVerdict c.before.before.checked.ensures c.enum_told.given.1)))
+    let m = measured a.bytes.now (told said_measured c.before.before.before.before.before.before.measure.ensures c.before.before.before.before.header.given.1) in
+    (m.opened.opens, rw (ints_is m.opened) at (known_then _ a.variable a.replies.now (told said_verdict c.before.before.checked.ensures c.enum_told.given.1)))
 
 searched-requires : tie.Need-searched-requires
 searched-requires c κs = c.bounds_of.ensures.good
@@ -43,21 +43,21 @@ enum-known-r-2 c = search rules
 returns : tie.Need-returns
 returns c =
     let a = c.before.before.before.before.before.before.before.before.before.before.before.args in
-    let m = measured a.bytes.now (told saidMeasured c.before.before.before.before.before.before.before.before.measure.ensures c.before.before.before.before.before.before.header.given.1) in
-    let e = rw (ints-is m.opened) at (told saidVerdict c.before.before.before.before.checked.ensures c.before.before.enum_told.given.1) in
-    c.searched.ensures ∙ ap (λ b. after (unfinished b b.hi) a.replies.now) (bounds-same _ _ _ c.before.bounds_of.ensures) ∙ sym (closing-is a.bytes.now a.variable a.replies.now (boardOf a.bytes.now) m.board e)
+    let m = measured a.bytes.now (told said_measured c.before.before.before.before.before.before.before.before.measure.ensures c.before.before.before.before.before.before.header.given.1) in
+    let e = rw (ints_is m.opened) at (told said_verdict c.before.before.before.before.checked.ensures c.before.before.enum_told.given.1) in
+    c.searched.ensures ∙ ap (λ b. after (unfinished b b.hi) a.replies.now) (bounds_same _ _ _ c.before.bounds_of.ensures) ∙ sym (closing_is a.bytes.now a.variable a.replies.now (board_of a.bytes.now) m.board e)
 
 returns-2 : tie.Need-returns-2
 returns-2 c =
     let a = c.before.before.before.before.before.before.before.before.before.before.args in
-    let m = measured a.bytes.now (told saidMeasured c.before.before.before.before.before.before.before.measure.ensures c.before.before.before.before.before.header.given.1) in
-    let e = rw (ints-is m.opened) at (told saidVerdict c.before.before.before.checked.ensures c.before.r.given.1) in
-    sym (closing-is a.bytes.now a.variable a.replies.now (boardOf a.bytes.now) m.board e)
+    let m = measured a.bytes.now (told said_measured c.before.before.before.before.before.before.before.measure.ensures c.before.before.before.before.before.header.given.1) in
+    let e = rw (ints_is m.opened) at (told said_verdict c.before.before.before.checked.ensures c.before.r.given.1) in
+    sym (closing_is a.bytes.now a.variable a.replies.now (board_of a.bytes.now) m.board e)
 
 returns-3 : tie.Need-returns-3
 returns-3 c =
     let a = c.before.before.before.before.before.before.args in
-    record-refused a.bytes.now a.variable a.replies.now (not-measured a.bytes.now (told saidMeasured c.before.before.before.measure.ensures c.before.r2.given.1))
+    record_refused a.bytes.now a.variable a.replies.now (not_measured a.bytes.now (told said_measured c.before.before.before.measure.ensures c.before.r2.given.1))
 
 pub closing-spec : {M : Type 1} → statement M
 closing-spec =

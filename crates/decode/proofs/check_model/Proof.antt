@@ -1,20 +1,20 @@
 -- `decode::check_model` meets its contract.
 use borrow.Author.Rules.{rules}
-use Rattle.laws.specs.Boards.{boardOf}
-use Rattle.decode.specs.Decoded.{byte-wrong, clause-fails, clauses-hold}
+use Rattle.laws.specs.Boards.{board_of}
+use Rattle.decode.specs.Decoded.{byte_wrong, clause_fails, clauses_hold}
 use Rattle.decode.proofs.check_model.Statement.{statement}
 use Rattle.decode.proofs.check_model.Tie as tie
 
 returns : tie.Need-returns
-returns c = byte-wrong (boardOf c.before.before.before.before.before.before.args.bytes.now) c.before.before.before.before.before.before.args.model.now (search rules) c.before.index.given.1
+returns c = byte_wrong (board_of c.before.before.before.before.before.before.args.bytes.now) c.before.before.before.before.before.before.args.model.now (search rules) c.before.index.given.1
 
 returns-2 : tie.Need-returns-2
 returns-2 c =
-    clause-fails (boardOf c.before.before.before.before.before.before.before.before.before.args.bytes.now) c.before.before.before.before.before.before.before.before.before.args.model.now c.before.before.before.before.before.before.first-bad-byte.ensures c.before.before.before.before.enum_told.given.1 c.before.before.before.search-clauses.ensures c.before.number.given.1
+    clause_fails (board_of c.before.before.before.before.before.before.before.before.before.args.bytes.now) c.before.before.before.before.before.before.before.before.before.args.model.now c.before.before.before.before.before.before.first-bad-byte.ensures c.before.before.before.before.enum_told.given.1 c.before.before.before.search-clauses.ensures c.before.number.given.1
 
 returns-3 : tie.Need-returns-3
 returns-3 c =
-    clauses-hold (boardOf c.before.before.before.before.before.before.before.before.args.bytes.now) c.before.before.before.before.before.before.before.before.args.model.now c.before.before.before.before.before.first-bad-byte.ensures c.before.before.before.enum_told.given.1 c.before.before.search-clauses.ensures c.enum-told2.given.1
+    clauses_hold (board_of c.before.before.before.before.before.before.before.before.args.bytes.now) c.before.before.before.before.before.before.before.before.args.model.now c.before.before.before.before.before.first-bad-byte.ensures c.before.before.before.enum_told.given.1 c.before.before.search-clauses.ensures c.enum-told2.given.1
 
 first-bad-byte-requires : tie.Need-first-bad-byte-requires
 first-bad-byte-requires c κs = search rules

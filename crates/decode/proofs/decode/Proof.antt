@@ -2,15 +2,15 @@
 use borrow.Author.Rules.{rules}
 use mathlib.Core.Path.{ap}
 use Rattle.fields.proofs.Laws.{told}
-use Rattle.measure.specs.Said.{saidMeasured}
-use Rattle.measure.specs.Told.{Measures, measured, not-measured}
-use Rattle.decode.specs.Decoded.{decode_is, decode-refused}
+use Rattle.measure.specs.Said.{said_measured}
+use Rattle.measure.specs.Told.{Measures, measured, not_measured}
+use Rattle.decode.specs.Decoded.{decode_is, decode_refused}
 use Rattle.decode.proofs.decode.Statement.{statement}
 use Rattle.decode.proofs.decode.Tie as tie
 
 -- the record is accepted
 told-all : (c : tie.After-header) → Measures c.before.before.before.before.before.before.args.bytes.now c.header.given.0.0 c.header.given.0.1.0
-told-all c = measured c.before.before.before.before.before.before.args.bytes.now (told saidMeasured c.before.before.measure.ensures c.header.given.1)
+told-all c = measured c.before.before.before.before.before.before.args.bytes.now (told said_measured c.before.before.measure.ensures c.header.given.1)
 
 measure-requires : tie.Need-measure-requires
 measure-requires c κs = search rules
@@ -39,7 +39,7 @@ returns c =
 returns-2 : tie.Need-returns-2
 returns-2 c =
     let a = c.before.before.before.before.before.before.before.args in
-    decode-refused a.bytes.now a.model.now a.values.now a.booleans.now _ (not-measured a.bytes.now (told saidMeasured c.before.before.before.measure.ensures c.before.r.given.1))
+    decode_refused a.bytes.now a.model.now a.values.now a.booleans.now _ (not_measured a.bytes.now (told said_measured c.before.before.before.measure.ensures c.before.r.given.1))
 
 pub decode-spec : {M : Type 1} → statement M
 decode-spec =

@@ -3,7 +3,7 @@ use borrow.Author.Rules.{rules}
 use Prim.Native.Nat.{◌≤◌, ◌-◌, ◌^◌}
 use mathlib.Core.Path.{◌≡◌, refl}
 use native.Mathlib.Omega.{arith}
-use Rattle.fields.proofs.Laws.{power-more, power-most}
+use Rattle.fields.proofs.Laws.{power_more, power_most}
 use Rattle.fields.proofs.power.Statement.{statement}
 use Rattle.fields.proofs.power.Tie as tie
 
@@ -18,7 +18,7 @@ loop-holds c = (omega arith, refl)
 
 mul-numbers : tie.Need-overflow-mul-numbers invariant-loop decreases-loop
 mul-numbers c =
-    omega (arith, power-most {n = c.before.loop.i} (omega arith))
+    omega (arith, power_most {n = c.before.loop.i} (omega arith))
 
 add-i : tie.Need-overflow-add-i invariant-loop decreases-loop
 add-i c = search rules
@@ -28,7 +28,7 @@ loop-less c = search rules
 
 loop-again : tie.Need-loop-preserved invariant-loop decreases-loop
 loop-again c =
-    (omega arith, omega (arith, power-more c.before.loop.i))
+    (omega arith, omega (arith, power_more c.before.loop.i))
 
 returns : tie.Need-returns invariant-loop decreases-loop
 returns c =

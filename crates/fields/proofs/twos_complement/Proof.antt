@@ -2,7 +2,7 @@
 use borrow.Author.Rules.{rules}
 use mir.Facts.{to_z-of_z, sfits_widen}
 use native.Mathlib.Omega.{arith}
-use Rattle.fields.proofs.Laws.{low_fits, twos-low, twos-high, twos-fits}
+use Rattle.fields.proofs.Laws.{low_fits, twos_low, twos-high, twos_fits}
 use Rattle.fields.proofs.twos_complement.Statement.{statement}
 use Rattle.fields.proofs.twos_complement.Tie as tie
 
@@ -18,7 +18,7 @@ cast-result c =
 
 returns : tie.Need-returns
 returns c =
-    twos-low c.before.before.args.width _ c.before.before.requires.0 c.before.before.requires.1 (omega arith)
+    twos_low c.before.before.args.width _ c.before.before.requires.0 c.before.before.requires.1 (omega arith)
 
 cast-result-2 : tie.Need-overflow-cast-result-2
 cast-result-2 c = search rules
@@ -28,16 +28,16 @@ cast-result-3 c = search rules
 
 sub-result : tie.Need-overflow-sub-result
 sub-result c =
-    rw (c.before.power.ensures, twos-high _ _ c.before.before.requires.0 c.before.before.requires.1 (omega arith)) (sfits_widen tt (twos-fits _ _ c.before.before.requires.0 c.before.before.requires.1))
+    rw (c.before.power.ensures, twos-high _ _ c.before.before.requires.0 c.before.before.requires.1 (omega arith)) (sfits_widen tt (twos_fits _ _ c.before.before.requires.0 c.before.before.requires.1))
 
 cast-result-4 : tie.Need-overflow-cast-result-4
 cast-result-4 c =
-    let f = twos-fits _ _ c.before.before.requires.0 c.before.before.requires.1 in
+    let f = twos_fits _ _ c.before.before.requires.0 c.before.before.requires.1 in
     rw (c.before.power.ensures, twos-high _ _ c.before.before.requires.0 c.before.before.requires.1 (omega arith), to_z-of_z (sfits_widen tt f)) f
 
 returns-2 : tie.Need-returns-2
 returns-2 c =
-    let f = twos-fits _ _ c.before.before.requires.0 c.before.before.requires.1 in
+    let f = twos_fits _ _ c.before.before.requires.0 c.before.before.requires.1 in
     rw (c.before.power.ensures, twos-high _ _ c.before.before.requires.0 c.before.before.requires.1 (omega arith), to_z-of_z (sfits_widen tt f), to_z-of_z f)
 
 pub twos-complement-spec : {M : Type 1} → statement M

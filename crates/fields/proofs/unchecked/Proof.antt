@@ -4,7 +4,7 @@ use Prim.Native.Nat.{◌≤◌, ◌-◌}
 use mathlib.Core.Path.{◌≡◌, sym}
 use native.Mathlib.Omega.{arith}
 use Rattle.definitions.specs.Reading.{big}
-use Rattle.fields.proofs.Laws.{big-none, big-more, big-room}
+use Rattle.fields.proofs.Laws.{big_none, big-more, big_room}
 use Rattle.fields.proofs.unchecked.Statement.{statement}
 use Rattle.fields.proofs.unchecked.Tie as tie
 
@@ -15,7 +15,7 @@ abbrev decreases-loop : tie.decreases-loop
 decreases-loop bytes at width value₀ i₀ value i = width - i
 
 loop-holds : tie.Need-loop-init invariant-loop decreases-loop
-loop-holds c = (omega arith, sym (big-none _ _))
+loop-holds c = (omega arith, sym (big_none _ _))
 
 add-byte : tie.Need-overflow-add-byte invariant-loop decreases-loop
 add-byte c = search rules
@@ -25,15 +25,15 @@ shared-slice-read-byte c = search rules
 
 cast-byte : tie.Need-overflow-cast-byte invariant-loop decreases-loop
 cast-byte c =
-    omega (arith, big-room c.before.before.before.args.bytes.now c.before.before.before.args.at c.shared-slice-known.given c.before.before.loop.i (omega arith))
+    omega (arith, big_room c.before.before.before.args.bytes.now c.before.before.before.args.at c.shared-slice-known.given c.before.before.loop.i (omega arith))
 
 mul-value : tie.Need-overflow-mul-value invariant-loop decreases-loop
 mul-value c =
-    omega (arith, big-room c.before.before.before.args.bytes.now c.before.before.before.args.at c.shared-slice-known.given c.before.before.loop.i (omega arith))
+    omega (arith, big_room c.before.before.before.args.bytes.now c.before.before.before.args.at c.shared-slice-known.given c.before.before.loop.i (omega arith))
 
 add-value : tie.Need-overflow-add-value invariant-loop decreases-loop
 add-value c =
-    omega (arith, big-room c.before.before.before.args.bytes.now c.before.before.before.args.at c.shared-slice-known.given c.before.before.loop.i (omega arith))
+    omega (arith, big_room c.before.before.before.args.bytes.now c.before.before.before.args.at c.shared-slice-known.given c.before.before.loop.i (omega arith))
 
 add-i : tie.Need-overflow-add-i invariant-loop decreases-loop
 add-i c = search rules

@@ -6,7 +6,7 @@ use lib.Dec.{leb}
 use lib.ListN.{length, drop}
 use borrow.Author.Tests.{le-leb, lt-leb}
 use Rattle.definitions.specs.Operations.{bits}
-use Rattle.laws.specs.Search.{seek, seek-fails, seek-goes, seek-end}
+use Rattle.laws.specs.Search.{seek, seek_fails, seek_goes, seek-end}
 use Rattle.lent.proofs.first_bad_byte.Statement.{statement}
 use Rattle.lent.proofs.first_bad_byte.Tie as tie
 
@@ -24,7 +24,7 @@ shared-slice-read-if1 c = search rules
 
 returns : tie.Need-returns invariant-loop decreases-loop
 returns c =
-    sym (seek-fails 12 (λ b. leb b 1) 0 _ _ c.before.before.loop-test.true (lt-leb _ _ c.if1.true)) ∙ c.before.before.before.loop.invariant
+    sym (seek_fails 12 (λ b. leb b 1) 0 _ _ c.before.before.loop-test.true (lt-leb _ _ c.if1.true)) ∙ c.before.before.before.loop.invariant
 
 add-i : tie.Need-overflow-add-i invariant-loop decreases-loop
 add-i c = search rules
@@ -34,7 +34,7 @@ loop-less c = search rules
 
 loop-again : tie.Need-loop-preserved invariant-loop decreases-loop
 loop-again c =
-    sym (seek-goes 12 (λ b. leb b 1) 0 _ _ c.before.before.loop-test.true (le-leb _ _ c.if1.false)) ∙ c.before.before.before.loop.invariant
+    sym (seek_goes 12 (λ b. leb b 1) 0 _ _ c.before.before.loop-test.true (le-leb _ _ c.if1.false)) ∙ c.before.before.before.loop.invariant
 
 returns-2 : tie.Need-returns-2 invariant-loop decreases-loop
 returns-2 c =

@@ -1,7 +1,7 @@
 -- `measure::measure` meets its contract.
 use native.Mathlib.Omega.{arith}
 use Rattle.fields.proofs.Laws.{told}
-use Rattle.opening.specs.Said.{saidOpening}
+use Rattle.opening.specs.Said.{said_opening}
 use Rattle.opening.specs.Told.{opened}
 use Rattle.measure.proofs.Answers.{measured, too_long, unopened}
 use borrow.Author.Rules.{rules}
@@ -16,22 +16,22 @@ enum-known-header c = search rules
 
 totals-of-requires : tie.Need-totals-of-requires
 totals-of-requires c κs =
-    opened _ (told saidOpening c.before.before.before.«open».ensures c.before.header.given.1)
+    opened _ (told said_opening c.before.before.before.«open».ensures c.before.header.given.1)
 
 enum-known-r : tie.Need-enum-known-r
 enum-known-r c = search rules
 
 returns : tie.Need-returns
 returns c =
-    measured _ _ (told saidOpening c.before.before.before.before.before.before.«open».ensures c.before.before.before.before.header.given.1) _ c.before.before.totals-of.ensures (omega (arith, c.if1.true))
+    measured _ _ (told said_opening c.before.before.before.before.before.before.«open».ensures c.before.before.before.before.header.given.1) _ c.before.before.totals-of.ensures (omega (arith, c.if1.true))
 
 returns-2 : tie.Need-returns-2
 returns-2 c =
-    too_long _ _ (told saidOpening c.before.before.before.before.before.before.«open».ensures c.before.before.before.before.header.given.1) _ c.before.before.totals-of.ensures (omega (arith, c.if1.false))
+    too_long _ _ (told said_opening c.before.before.before.before.before.before.«open».ensures c.before.before.before.before.header.given.1) _ c.before.before.totals-of.ensures (omega (arith, c.if1.false))
 
 returns-3 : tie.Need-returns-3
 returns-3 c =
-    unopened _ _ _ (told saidOpening c.before.before.before.«open».ensures c.before.r.given.1)
+    unopened _ _ _ (told said_opening c.before.before.before.«open».ensures c.before.r.given.1)
 
 pub measure-spec : {M : Type 1} → statement M
 measure-spec =

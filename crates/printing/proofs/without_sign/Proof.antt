@@ -6,7 +6,7 @@ use lib.Signed.{yes_non_neg, nat_abs-le}
 use mir.Syntax.{w32, w64}
 use mir.Val.{SFits}
 use mir.Facts.{to_z-of_z, sfits_widen, Fits-nat_abs}
-use Rattle.laws.specs.Whole.{whole, back, abs-fits, abs-sub, sub-law}
+use Rattle.laws.specs.Whole.{whole, back, abs_fits, abs_sub, sub_law}
 use Rattle.printing.proofs.without_sign.Statement.{statement}
 use Rattle.printing.proofs.without_sign.Tie as tie
 
@@ -14,7 +14,7 @@ widened : {z : ℤ} → SFits w32 z → SFits w64 z
 widened = sfits_widen tt
 
 turned : (z : ℤ) → SFits w32 z → SFits w64 (pos 0 -ℤ z)
-turned z f = abs-fits (omega (arith, abs-sub (pos 0) z, nat_abs-le z f.sfits))
+turned z f = abs_fits (omega (arith, abs_sub (pos 0) z, nat_abs-le z f.sfits))
 
 cast-result : tie.Need-overflow-cast-result
 cast-result c = let f = c.before.ranges.number in simp to_z-of_z (widened f)
@@ -31,7 +31,7 @@ cast-result-2 c =
     let f = c.before.ranges.number in
     let g = widened f in
     let h = turned z f in
-    simp to_z-of_z (yes_non_neg {z = pos 0 -ℤ z} (omega (whole, back f, sub-law (pos 0) z)), Fits-nat_abs tt h)
+    simp to_z-of_z (yes_non_neg {z = pos 0 -ℤ z} (omega (whole, back f, sub_law (pos 0) z)), Fits-nat_abs tt h)
 
 returns : tie.Need-returns
 returns c = search rules

@@ -2,12 +2,12 @@
 use mathlib.Core.Path.{sym, ap, ◌∙◌}
 use native.Mathlib.Omega.{arith}
 use lib.Dec.{eqb}
-use Rattle.laws.specs.Ahead.{not-alone, alone}
+use Rattle.laws.specs.Ahead.{not_alone, alone}
 use Rattle.rules.proofs.is_lone.Statement.{statement}
 use Rattle.rules.proofs.is_lone.Tie as tie
 
 returns : tie.Need-returns
-returns c = let a = c.before.before.args in sym (not-alone a.rules.now a.n a.at c.if1.true)
+returns c = let a = c.before.before.args in sym (not_alone a.rules.now a.n a.at c.if1.true)
 
 unchecked-requires : tie.Need-unchecked-requires
 unchecked-requires c κs = (omega arith, (c.before.before.requires c.if1.false).kind)

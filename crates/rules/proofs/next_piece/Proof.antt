@@ -2,7 +2,7 @@
 use borrow.Author.Rules.{rules}
 use Rattle.definitions.specs.Reading.{Context}
 use Rattle.rules.specs.Cursors.{Sound, todo}
-use Rattle.rules.proofs.Onto.{Onto, onto-start, onto-met, onto-passed, onto-end}
+use Rattle.rules.proofs.Onto.{Onto, onto_start, onto_met, onto_passed, onto_end}
 use Rattle.rules.proofs.next_piece.Statement.{statement}
 use Rattle.rules.proofs.next_piece.Tie as tie
 
@@ -13,7 +13,7 @@ abbrev decreases-loop : tie.decreases-loop
 decreases-loop rules at₀ at = todo at
 
 loop-holds : tie.Need-loop-init invariant-loop decreases-loop
-loop-holds c = λ ctx s. onto-start s
+loop-holds c = λ ctx s. onto_start s
 
 step-requires : tie.Need-step-requires invariant-loop decreases-loop
 step-requires c κs = let p = c.before.before.requires in (p.0, (c.loop.invariant p.0 p.1).sound)
@@ -23,7 +23,7 @@ enum-known-piece c = search rules
 
 returns : tie.Need-returns invariant-loop decreases-loop
 returns c =
-    λ ctx s. let o = c.before.before.before.before.loop.invariant ctx s in onto-met o (c.before.before.before.step.ensures ctx o.sound) c.before.piece.given.1
+    λ ctx s. let o = c.before.before.before.before.loop.invariant ctx s in onto_met o (c.before.before.before.step.ensures ctx o.sound) c.before.piece.given.1
 
 enum-known-behind : tie.Need-enum-known-behind invariant-loop decreases-loop
 enum-known-behind c = search rules
@@ -32,18 +32,18 @@ loop-less : tie.Need-loop-smaller invariant-loop decreases-loop
 loop-less c =
     let p = c.before.before.before.before.before.before.requires in
     let o = c.before.before.before.before.loop.invariant p.0 p.1 in
-    (onto-passed o (c.before.before.before.step.ensures p.0 o.sound) c.before.behind.given.1).1
+    (onto_passed o (c.before.before.before.step.ensures p.0 o.sound) c.before.behind.given.1).1
 
 loop-again : tie.Need-loop-preserved invariant-loop decreases-loop
 loop-again c =
-    λ ctx s. let o = c.before.before.before.before.loop.invariant ctx s in (onto-passed o (c.before.before.before.step.ensures ctx o.sound) c.before.behind.given.1).0
+    λ ctx s. let o = c.before.before.before.before.loop.invariant ctx s in (onto_passed o (c.before.before.before.step.ensures ctx o.sound) c.before.behind.given.1).0
 
 enum_told : tie.Need-enum-told invariant-loop decreases-loop
 enum_told c = search rules
 
 returns-2 : tie.Need-returns-2 invariant-loop decreases-loop
 returns-2 c =
-    λ ctx s. let o = c.before.before.before.loop.invariant ctx s in onto-end o (c.before.before.step.ensures ctx o.sound) c.enum_told.given.1
+    λ ctx s. let o = c.before.before.before.loop.invariant ctx s in onto_end o (c.before.before.step.ensures ctx o.sound) c.enum_told.given.1
 
 pub next-piece-spec : {M : Type 1} → statement M
 next-piece-spec =

@@ -1,13 +1,13 @@
 -- `rules::past_literal` meets its contract.
 use mir.Facts.{to_z-of_z}
 use Rattle.laws.specs.Fits.{good-constant}
-use Rattle.rules.proofs.Steps.{literal-there, known, goes-bool, goes-negated, goes-led, goes-lone}
+use Rattle.rules.proofs.Steps.{literal_there, known, goes_bool, goes_negated, goes_led, goes_lone}
 use borrow.Author.Rules.{rules}
 use Rattle.rules.proofs.past_literal.Statement.{statement}
 use Rattle.rules.proofs.past_literal.Tie as tie
 
 literal-again-requires : tie.Need-literal-again-requires
-literal-again-requires c κs = let p = c.before.requires in literal-there p.0.0 _ _ p.0.1 p.1
+literal-again-requires c κs = let p = c.before.requires in literal_there p.0.0 _ _ p.0.1 p.1
 
 enum_told : tie.Need-enum-told
 enum_told c = search rules
@@ -36,12 +36,12 @@ after-requires-4 c κs = search rules
 returns : tie.Need-returns
 returns c =
     let a = c.before.before.before in
-    λ ctx s. rw c.after.ensures (goes-bool ctx _ _ s a.before.before.requires.1 _ a.literal-again.ensures c.before.enum_told.given.1)
+    λ ctx s. rw c.after.ensures (goes_bool ctx _ _ s a.before.before.requires.1 _ a.literal-again.ensures c.before.enum_told.given.1)
 
 returns-2 : tie.Need-returns-2
 returns-2 c =
     let a = c.before.before.before in
-    λ ctx s. rw c.after2.ensures (goes-negated ctx _ _ s a.before.before.requires.1 _ a.literal-again.ensures c.before.enum-told2.given.1)
+    λ ctx s. rw c.after2.ensures (goes_negated ctx _ _ s a.before.before.requires.1 _ a.literal-again.ensures c.before.enum-told2.given.1)
 
 returns-3 : tie.Need-returns-3
 returns-3 c =
@@ -49,7 +49,7 @@ returns-3 c =
     let h = a.before.before.requires.1 in
     let e = c.before.before.before.before.literal.given.1 in
     λ ctx s. rw (c.after3.ensures, to_z-of_z (good-constant (known ctx _ _ s h _ a.literal-again.ensures e).good))
-    (goes-led ctx _ _ s h _ a.literal-again.ensures e c.before.before.if1.true)
+    (goes_led ctx _ _ s h _ a.literal-again.ensures e c.before.before.if1.true)
 
 returns-4 : tie.Need-returns-4
 returns-4 c =
@@ -57,7 +57,7 @@ returns-4 c =
     let h = a.before.before.requires.1 in
     let e = c.before.before.before.literal.given.1 in
     λ ctx s. rw (c.after4.ensures, to_z-of_z (good-constant (known ctx _ _ s h _ a.literal-again.ensures e).good))
-    (goes-lone ctx _ _ s h _ a.literal-again.ensures e c.before.if1.false)
+    (goes_lone ctx _ _ s h _ a.literal-again.ensures e c.before.if1.false)
 
 pub past-literal-spec : {M : Type 1} → statement M
 past-literal-spec =

@@ -2,8 +2,8 @@
 use mathlib.Core.Path.{ap, ◌∙◌}
 use native.Mathlib.Omega.{arith}
 use Rattle.definitions.specs.Encoding.{first}
-use Rattle.laws.specs.Boards.{boardOf}
-use Rattle.opening.specs.Headers.{ints-is, bools-is, clauses-is, counts-small, rules-inside}
+use Rattle.laws.specs.Boards.{board_of}
+use Rattle.opening.specs.Headers.{ints_is, bools_is, clauses_is, counts_small, rules_inside}
 use Rattle.measure.proofs.Numbers.{known}
 use borrow.Author.Rules.{rules}
 use Rattle.write_text.proofs.add_rules.Statement.{statement}
@@ -16,7 +16,7 @@ put-firsts-requires : tie.Need-put-firsts-requires
 put-firsts-requires c κs =
     let s = c.before.before.before in
     let o = s.requires.0 in
-    (o.opens, bools-is o, ints-is o, omega (arith, counts-small o))
+    (o.opens, bools_is o, ints_is o, omega (arith, counts_small o))
 
 slice-aggregate-first-in : tie.Need-slice-aggregate-first-in
 slice-aggregate-first-in c = search rules
@@ -30,12 +30,12 @@ slice-aggregate-add-pieces c = search rules
 sub-add-pieces : tie.Need-overflow-sub-add-pieces
 sub-add-pieces c =
     let s = c.before.before.before.before.before.before.before.before in
-    rules-inside s.requires.0
+    rules_inside s.requires.0
 
 part-add-pieces-start : tie.Need-slice-bounds-add-pieces-start
 part-add-pieces-start c =
     let s = c.before.before.before.before.before.before.before.before in
-    omega (arith, rules-inside s.requires.0)
+    omega (arith, rules_inside s.requires.0)
 
 part-add-pieces-end : tie.Need-slice-bounds-add-pieces-end
 part-add-pieces-end c = search rules
@@ -45,7 +45,7 @@ add-pieces-requires c κs =
     let s = c.before.before.before.before.before.before.before.before.before.before in
     let o = s.requires.0 in
     let f = c.before.before.before.before.before.before.put-firsts.ensures in
-    (known o, f, clauses-is o, c.before.before.before.first-in.ensures ∙ f s.args.header.ints (omega (arith, ints-is o)) ∙ ap (first (boardOf s.args.bytes.now)) (ints-is o), s.requires.1)
+    (known o, f, clauses_is o, c.before.before.before.first-in.ensures ∙ f s.args.header.ints (omega (arith, ints_is o)) ∙ ap (first (board_of s.args.bytes.now)) (ints_is o), s.requires.1)
 
 same_length : tie.Need-same-length
 same_length c = c.before.before.add-pieces.ensures.long

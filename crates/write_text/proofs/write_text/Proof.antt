@@ -1,7 +1,7 @@
 -- `write_text::write_text` meets its contract.
 use native.Mathlib.Omega.{arith}
 use Rattle.fields.proofs.Laws.{told}
-use Rattle.measure.specs.Said.{saidMeasured}
+use Rattle.measure.specs.Said.{said_measured}
 use Rattle.measure.specs.Told.{measured}
 use Rattle.write_text.specs.Adds.{all_held}
 use borrow.Author.Rules.{rules}
@@ -19,7 +19,7 @@ text-length-requires : tie.Need-text-length-requires
 text-length-requires c κs =
     let s = c.before.before.before.before.before.before in
     let a = s.args in
-    let e = told saidMeasured c.before.before.before.measure.ensures c.before.header.given.1 in
+    let e = told said_measured c.before.before.before.measure.ensures c.before.header.given.1 in
     let m = measured a.bytes.now e in
     (m.opened, m.totals, counted a.bytes.now a.out.now _ _ e)
 
@@ -27,7 +27,7 @@ add-text-requires : tie.Need-add-text-requires
 add-text-requires c κs =
     let s = c.before.before.before.before.before.before.before.before.before in
     let a = s.args in
-    let e = told saidMeasured c.before.before.before.before.before.before.measure.ensures c.before.before.before.before.header.given.1 in
+    let e = told said_measured c.before.before.before.before.before.before.measure.ensures c.before.before.before.before.header.given.1 in
     let m = measured a.bytes.now e in
     (m.opened, m.totals, counted a.bytes.now a.out.now _ _ e)
 
@@ -38,7 +38,7 @@ returns : tie.Need-returns
 returns c =
     let s = c.before.before.before.before.before.before.before.before in
     let a = s.args in
-    too_short a.bytes.now a.out.now _ _ (told saidMeasured c.before.before.before.before.before.measure.ensures c.before.before.before.header.given.1) _ c.before.text-length.ensures c.if1.true
+    too_short a.bytes.now a.out.now _ _ (told said_measured c.before.before.before.before.before.measure.ensures c.before.before.before.header.given.1) _ c.before.text-length.ensures c.if1.true
 
 same_length : tie.Need-same-length
 same_length c = c.before.before.add-text.ensures.long
@@ -48,13 +48,13 @@ returns-2 c =
     let s = c.before.before.before.before.before.before.before.before.before.before.before.before in
     let a = s.args in
     let t = c.before.before.add-text.ensures in
-    texted a.bytes.now a.out.now _ _ (told saidMeasured c.before.before.before.before.before.before.before.before.before.measure.ensures c.before.before.before.before.before.before.before.header.given.1) (omega (arith, c.before.before.before.before.before.text-length.ensures, c.before.before.before.before.if1.false)) _ _ (omega (arith, t.place)) (all_held t (omega (arith, c.before.before.before.before.before.text-length.ensures, c.before.before.before.before.if1.false)))
+    texted a.bytes.now a.out.now _ _ (told said_measured c.before.before.before.before.before.before.before.before.before.measure.ensures c.before.before.before.before.before.before.before.header.given.1) (omega (arith, c.before.before.before.before.before.text-length.ensures, c.before.before.before.before.if1.false)) _ _ (omega (arith, t.place)) (all_held t (omega (arith, c.before.before.before.before.before.text-length.ensures, c.before.before.before.before.if1.false)))
 
 returns-3 : tie.Need-returns-3
 returns-3 c =
     let s = c.before.before.before.before.before.before in
     let a = s.args in
-    unmeasured a.bytes.now a.out.now _ _ (told saidMeasured c.before.before.before.measure.ensures c.before.r.given.1)
+    unmeasured a.bytes.now a.out.now _ _ (told said_measured c.before.before.before.measure.ensures c.before.r.given.1)
 
 pub write-text-spec : {M : Type 1} → statement M
 write-text-spec =

@@ -2,7 +2,7 @@
 use mathlib.Core.Path.{refl}
 use borrow.Author.Rules.{rules}
 use Rattle.fields.proofs.Laws.{told}
-use Rattle.lent.specs.Said.{saidFound}
+use Rattle.lent.specs.Said.{said_found}
 use Rattle.closing.proofs.Checked.{lent_is}
 use Rattle.closing.proofs.checks.checked.Statement.{statement}
 use Rattle.closing.proofs.checks.checked.Tie as tie
@@ -28,17 +28,17 @@ enum-told-2 c = search rules
 returns : tie.Need-returns
 returns c =
     let a = c.before.before.before.before.before.before.args in
-    lent_is a.ints a.variable a.replies.now (told (saidFound 22) c.before.before.before.before.unknown-variable.ensures c.before.first.given.1) refl
+    lent_is a.ints a.variable a.replies.now (told (said_found 22) c.before.before.before.before.unknown_variable.ensures c.before.first.given.1) refl
 
 returns-2 : tie.Need-returns-2
 returns-2 c =
     let a = c.before.before.before.before.before.before.before.before.args in
-    lent_is a.ints a.variable a.replies.now (told (saidFound 22) c.before.before.before.before.before.before.unknown-variable.ensures c.before.before.before.enum_told.given.1) (told (saidFound 12) c.before.before.before.before.before.first-bad-byte.ensures c.before.second.given.1)
+    lent_is a.ints a.variable a.replies.now (told (said_found 22) c.before.before.before.before.before.before.unknown_variable.ensures c.before.before.before.enum_told.given.1) (told (said_found 12) c.before.before.before.before.before.first-bad-byte.ensures c.before.second.given.1)
 
 returns-3 : tie.Need-returns-3
 returns-3 c =
     let a = c.before.before.before.before.before.before.before.args in
-    lent_is a.ints a.variable a.replies.now (told (saidFound 22) c.before.before.before.before.before.unknown-variable.ensures c.before.before.enum_told.given.1) (told (saidFound 12) c.before.before.before.before.first-bad-byte.ensures c.enum-told2.given.1)
+    lent_is a.ints a.variable a.replies.now (told (said_found 22) c.before.before.before.before.before.unknown_variable.ensures c.before.before.enum_told.given.1) (told (said_found 12) c.before.before.before.before.first-bad-byte.ensures c.enum-told2.given.1)
 
 pub checked-spec : {M : Type 1} → statement M
 checked-spec =

@@ -1,10 +1,10 @@
 -- `closing::checks::unknown_variable` meets its contract.
-use Rattle.closing.proofs.Checked.{is-unknown, is_known}
+use Rattle.closing.proofs.Checked.{is_unknown, is_known}
 use Rattle.closing.proofs.checks.unknown_variable.Statement.{statement}
 use Rattle.closing.proofs.checks.unknown_variable.Tie as tie
 
 returns : tie.Need-returns
-returns c = is-unknown _ _ c.if1.true
+returns c = is_unknown _ _ c.if1.true
 
 returns-2 : tie.Need-returns-2
 returns-2 c = is_known _ _ c.if1.false

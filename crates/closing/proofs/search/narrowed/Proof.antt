@@ -1,7 +1,7 @@
 -- `closing::search::narrowed` meets its contract.
 use native.Mathlib.Omega.{arith}
 use mir.Facts.{to_z-of_z}
-use Rattle.closing.proofs.Ranged.{low_fits, high_fits, asked-small, near_fits, left-yes, left-no}
+use Rattle.closing.proofs.Ranged.{low_fits, high_fits, asked-small, near_fits, left_yes, left_no}
 use Rattle.closing.proofs.search.narrowed.Statement.{statement}
 use Rattle.closing.proofs.search.narrowed.Tie as tie
 
@@ -11,7 +11,7 @@ returns c =
     let b = s.args.range in
     let low = low_fits b (asked-small b s.args.h s.requires) in
     let h = s.ranges.h in
-    simp to_z-of_z (left-yes b s.args.h s.requires s.args.reply c.before.if1.true)
+    simp to_z-of_z (left_yes b s.args.h s.requires s.args.reply c.before.if1.true)
 
 add-t5 : tie.Need-overflow-add-t5
 add-t5 c =
@@ -26,7 +26,7 @@ returns-2 c =
     let high = high_fits b (asked-small b s.args.h s.requires) in
     let h = s.ranges.h in
     let n = near_fits b s.args.h s.requires 1 (omega arith) in
-    simp to_z-of_z (left-no b s.args.h s.requires s.args.reply c.before.if1.false)
+    simp to_z-of_z (left_no b s.args.h s.requires s.args.reply c.before.if1.false)
 
 pub narrowed-spec : {M : Type 1} → statement M
 narrowed-spec = tie.close (tie.spec returns add-t5 returns-2)

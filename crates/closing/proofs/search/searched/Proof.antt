@@ -6,9 +6,9 @@ use mir.Val.{SFits}
 use mir.Facts.{to_z-of_z}
 use borrow.Author.Rules.{rules}
 use Rattle.laws.specs.Whole.{whole}
-use Rattle.slots.specs.Variables.{lower-fits, upper_fits}
+use Rattle.slots.specs.Variables.{lower_fits, upper_fits}
 use Rattle.closing.specs.Ranges.{Going}
-use Rattle.closing.proofs.Going.{begins, asks, goes_on, ends, leaves-over}
+use Rattle.closing.proofs.Going.{begins, asks, goes_on, ends, leaves_over}
 use Rattle.closing.proofs.search.searched.Statement.{statement}
 use Rattle.closing.proofs.search.searched.Tie as tie
 
@@ -21,7 +21,7 @@ decreases-loop replies hour₀ i₀ hour i = length replies - i
 loop-holds : tie.Need-loop-init invariant-loop decreases-loop
 loop-holds c =
     let s = c.before.before in
-    let low = lower-fits s.args.range s.requires in
+    let low = lower_fits s.args.range s.requires in
     let high = upper_fits s.args.range s.requires in
     let g = s.requires in
     simp to_z-of_z (begins s.args.replies.now s.args.range _ (record { least = g.lowest; from = omega (whole, g.ordered); to = omega (whole, g.ordered); most = g.highest }))
@@ -35,9 +35,9 @@ sub-t12 c = search rules
 returns : tie.Need-returns invariant-loop decreases-loop
 returns c =
     let s = c.before.before.before.before.before in
-    let low = lower-fits s.args.range s.requires in
+    let low = lower_fits s.args.range s.requires in
     let high = upper_fits s.args.range s.requires in
-    let e = leaves-over c.before.before.loop.invariant c.before.loop-test.true c.match.keys2 in
+    let e = leaves_over c.before.before.loop.invariant c.before.loop-test.true c.match.keys2 in
     simp to_z-of_z at e
 
 shared-slice-read-narrowed : tie.Need-shared-slice-read-narrowed invariant-loop decreases-loop
@@ -72,7 +72,7 @@ loop-again c =
 returns-2 : tie.Need-returns-2 invariant-loop decreases-loop
 returns-2 c =
     let s = c.before.before.before.before in
-    let low = lower-fits s.args.range s.requires in
+    let low = lower_fits s.args.range s.requires in
     let high = upper_fits s.args.range s.requires in
     let e = ends c.before.loop.invariant c.loop-test.false in
     simp to_z-of_z at e

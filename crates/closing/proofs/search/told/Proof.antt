@@ -8,8 +8,8 @@ use borrow.Author.Rules.{rules}
 use Rattle.definitions.specs.Result.{done}
 use Rattle.definitions.specs.Closing.{halfway}
 use Rattle.laws.specs.Whole.{whole, back}
-use Rattle.laws.specs.Halving.{tells-open, tells_none, tells-found}
-use Rattle.slots.specs.Variables.{boundsRead}
+use Rattle.laws.specs.Halving.{tells_open, tells_none, tells_found}
+use Rattle.slots.specs.Variables.{bounds_read}
 use Rattle.closing.proofs.Ranged.{low_fits, high_fits}
 use Rattle.closing.proofs.search.told.Statement.{statement}
 use Rattle.closing.proofs.search.told.Tie as tie
@@ -25,8 +25,8 @@ returns c =
     let high = high_fits b s.requires in
     let f : SFits w32 c.before.half.result = record { sfits = c.before.half.type-inv } in
     let w : b.lower <ℤ b.upper = omega (whole, back low, back high, c.before.before.if1.true) in
-    let e : c.before.half.result ≡ halfway (boundsRead b) = c.before.half.ensures in
-    simp to_z-of_z (rw e (ap done (sym (tells-open (boundsRead b) w))))
+    let e : c.before.half.result ≡ halfway (bounds_read b) = c.before.half.ensures in
+    simp to_z-of_z (rw e (ap done (sym (tells_open (bounds_read b) w))))
 
 returns-2 : tie.Need-returns-2
 returns-2 c =
@@ -35,7 +35,7 @@ returns-2 c =
     let low = low_fits b s.requires in
     let high = high_fits b s.requires in
     let w : b.upper <ℤ b.lower = omega (whole, back low, back high, c.if2.true) in
-    ap done (sym (tells_none (boundsRead b) w))
+    ap done (sym (tells_none (bounds_read b) w))
 
 returns-3 : tie.Need-returns-3
 returns-3 c =
@@ -44,7 +44,7 @@ returns-3 c =
     let low = low_fits b s.requires in
     let high = high_fits b s.requires in
     let w : b.lower ≡ b.upper = omega (whole, back low, back high, c.before.if2.false, c.before.before.before.before.if1.false) in
-    simp to_z-of_z (ap done (sym (tells-found (boundsRead b) w)))
+    simp to_z-of_z (ap done (sym (tells_found (bounds_read b) w)))
 
 pub told-spec : {M : Type 1} → statement M
 told-spec = tie.close (tie.spec half-requires returns returns-2 returns-3)

@@ -1,6 +1,6 @@
 -- `decode::axioms::holds_from` meets its contract.
 use mathlib.Core.Path.{sym, ◌∙◌}
-use Rattle.decode.specs.Axioms.{rises-on, rises-off}
+use Rattle.decode.specs.Axioms.{rises-on, rises_off}
 use borrow.Author.Rules.{rules}
 use Rattle.decode.proofs.axioms.holds_from.Statement.{statement}
 use Rattle.decode.proofs.axioms.holds_from.Tie as tie
@@ -20,7 +20,7 @@ returns c =
 
 returns-2 : tie.Need-returns-2
 returns-2 c =
-    sym (rises-off _ _ (sym c.before.is-on.ensures ∙ c.if1.false))
+    sym (rises_off _ _ (sym c.before.is-on.ensures ∙ c.if1.false))
 
 pub holds-from-spec : {M : Type 1} → statement M
 holds-from-spec = tie.close (tie.spec is-on-requires add-is-on is-on-requires-2 returns returns-2)

@@ -10,14 +10,14 @@ use lib.ListN.{length}
 use Rattle.definitions.specs.Board.{Board}
 use Rattle.definitions.specs.Encoding.{width, axioms}
 use Rattle.definitions.specs.Encoding as Encoding
-use Rattle.laws.specs.Boards.{boardOf}
-use Rattle.laws.specs.Axioms.{axiomsFrom, axioms-all, axioms-none}
-use Rattle.slots.specs.Variables.{bounds-same, first-none, first_more}
-use Rattle.opening.specs.Headers.{ints-is, bools-is, counts-small, recorded}
+use Rattle.laws.specs.Boards.{board_of}
+use Rattle.laws.specs.Axioms.{axioms_from, axioms-all, axioms_none}
+use Rattle.slots.specs.Variables.{bounds_same, first_none, first_more}
+use Rattle.opening.specs.Headers.{ints_is, bools_is, counts_small, recorded}
 use Rattle.decode.specs.Given.{short, inside, ordered, within}
 use Rattle.decode.specs.Truth.{tests}
-use Rattle.decode.specs.Goes.{Goes, goes-start, goes_end}
-use Rattle.decode.specs.Axioms.{axiomTests, axiom-holds, axiom-fails, axiom-room, axioms-over, axioms-first, axioms-fit}
+use Rattle.decode.specs.Goes.{Goes, goes_start, goes_end}
+use Rattle.decode.specs.Axioms.{axiom_tests, axiom_holds, axiom_fails, axiom_room, axioms-over, axioms-first, axioms_fit}
 use Rattle.decode.proofs.axioms.search_axioms.Statement.{statement}
 use Rattle.decode.proofs.axioms.search_axioms.Tie as tie
 
@@ -26,18 +26,18 @@ abbrev all : Board → List ℕ → List Bool
 all B model = tests B model (flatten (axioms B))
 
 abbrev from : Board → List ℕ → ℕ → List Bool
-from B model x = tests B model (axiomsFrom B x)
+from B model x = tests B model (axioms_from B x)
 
 abbrev invariant-loop : tie.invariant-loop
 invariant-loop bytes model header x first number₀ width k₀ number k =
-    let B = boardOf bytes in (k ≤ width + 1) × Goes 0 (all B model) number (axiomTests model first width k ++ from B model (x + 1))
+    let B = board_of bytes in (k ≤ width + 1) × Goes 0 (all B model) number (axiom_tests model first width k ++ from B model (x + 1))
 
 abbrev decreases-loop : tie.decreases-loop
 decreases-loop bytes model header x first number₀ width k₀ number k = width + 1 - k
 
 abbrev invariant-search : tie.invariant-search
 invariant-search bytes model header x₀ first₀ number₀ x first number =
-    let B = boardOf bytes in (x ≤ header.ints) × (first ≡ Encoding.first B x) × Goes 0 (all B model) number (from B model x)
+    let B = board_of bytes in (x ≤ header.ints) × (first ≡ Encoding.first B x) × Goes 0 (all B model) number (from B model x)
 
 abbrev decreases-search : tie.decreases-search
 decreases-search bytes model header x₀ first₀ number₀ x first number = header.ints - x
@@ -48,7 +48,7 @@ module _ (c : tie.After-width-of invariant-loop decreases-loop invariant-search 
   start = c.before.before.before.before.before.before.before.before
 
   abbrev B : Board
-  B = boardOf start.args.bytes.now
+  B = board_of start.args.bytes.now
 
   abbrev model : List ℕ
   model = start.args.model.now
@@ -68,25 +68,25 @@ module _ (c : tie.After-width-of invariant-loop decreases-loop invariant-search 
   room : (1 ≤ first) × (2 ≤ c.width_of_lem.result) × (first + c.width_of_lem.result ≤ length model + 1) × (length model < 2147483648)
   room = omega (arith, within start.pre x (omega arith) c.before.bounds_of.ensures, numbered, c.width_of_lem.ensures, short start.pre)
 
-  here : from B model x ≡ axiomTests model first c.width_of_lem.result 0 ++ from B model (x + 1)
+  here : from B model x ≡ axiom_tests model first c.width_of_lem.result 0 ++ from B model (x + 1)
   here =
       axioms-first B model x known (ordered start.pre x (omega arith) c.before.bounds_of.ensures)
-      ∙ ap₂ (λ f w. axiomTests model f w 0 ++ from B model (x + 1)) (sym numbered) (sym (c.width_of_lem.ensures ∙ ap width (bounds-same B x _ c.before.bounds_of.ensures)))
+      ∙ ap₂ (λ f w. axiom_tests model f w 0 ++ from B model (x + 1)) (sym numbered) (sym (c.width_of_lem.ensures ∙ ap width (bounds_same B x _ c.before.bounds_of.ensures)))
 
   onward : first + c.width_of_lem.result ≡ Encoding.first B (x + 1)
   onward = omega (arith, first_more B x _ known c.before.bounds_of.ensures, c.width_of_lem.ensures, numbered)
 
 add-first : tie.Need-overflow-add-first invariant-loop decreases-loop invariant-search decreases-search
-add-first c = omega (arith, counts-small c.before.before.before.requires.opened)
+add-first c = omega (arith, counts_small c.before.before.before.requires.opened)
 
 search-holds : tie.Need-search-init invariant-loop decreases-loop invariant-search decreases-search
 search-holds c =
     let s = c.before.before.before in
-    let board = boardOf s.args.bytes.now in
-    (omega arith, rw (bools-is s.requires.opened) (sym (first-none board)), rw (axioms-all board) (goes-start 0 _))
+    let board = board_of s.args.bytes.now in
+    (omega arith, rw (bools_is s.requires.opened) (sym (first_none board)), rw (axioms-all board) (goes_start 0 _))
 
 bounds-of-requires : tie.Need-bounds-of-requires invariant-loop decreases-loop invariant-search decreases-search
-bounds-of-requires c κs = let o = c.before.before.before.before.before.before.requires.opened in (o.opens, omega (arith, ints-is o))
+bounds-of-requires c κs = let o = c.before.before.before.before.before.before.requires.opened in (o.opens, omega (arith, ints_is o))
 
 width-of-requires : tie.Need-width-of-requires invariant-loop decreases-loop invariant-search decreases-search
 width-of-requires c κs = c.bounds_of.ensures.good
@@ -105,14 +105,14 @@ add-k c = omega (arith, room c.before.before.before.before)
 
 add-number : tie.Need-overflow-add-number invariant-loop decreases-loop invariant-search decreases-search
 add-number c =
-    let s = c.before.before.before.before in omega (arith, axiom-room _ _ _ _ _ c.before.before.before.loop.invariant.1 c.before.before.loop-test.true, axioms-fit _ (model s) (recorded (start s).requires.opened))
+    let s = c.before.before.before.before in omega (arith, axiom_room _ _ _ _ _ c.before.before.before.loop.invariant.1 c.before.before.loop-test.true, axioms_fit _ (model s) (recorded (start s).requires.opened))
 
 loop-less : tie.Need-loop-smaller invariant-loop decreases-loop invariant-search decreases-search
 loop-less c = omega arith
 
 loop-again : tie.Need-loop-preserved invariant-loop decreases-loop invariant-search decreases-search
 loop-again c =
-    (omega arith, axiom-holds _ _ _ _ _ c.before.before.before.loop.invariant.1 c.before.before.loop-test.true (sym c.before.axiom-holds.ensures ∙ not-false _ c.if2.false))
+    (omega arith, axiom_holds _ _ _ _ _ c.before.before.before.loop.invariant.1 c.before.before.loop-test.true (sym c.before.axiom-holds.ensures ∙ not-false _ c.if2.false))
 
 add-x : tie.Need-overflow-add-x invariant-loop decreases-loop invariant-search decreases-search
 add-x c = omega arith
@@ -129,11 +129,11 @@ search-again c = (omega arith, onward c.before.before, axioms-over _ _ _ _ _ c.b
 returns : tie.Need-returns invariant-loop decreases-loop invariant-search decreases-search
 returns c =
     let s = c.before.before.before.before.before.before in
-    let board = boardOf s.args.bytes.now in
-    goes_end c.before.before.search.invariant.2 (ap (tests board s.args.model.now) (axioms-none board _ (omega (arith, ints-is s.requires.opened))))
+    let board = board_of s.args.bytes.now in
+    goes_end c.before.before.search.invariant.2 (ap (tests board s.args.model.now) (axioms_none board _ (omega (arith, ints_is s.requires.opened))))
 
 returns-2 : tie.Need-returns-2 invariant-loop decreases-loop invariant-search decreases-search
-returns-2 c = axiom-fails _ _ _ _ _ c.before.before.before.loop.invariant.1 c.before.before.loop-test.true (sym c.before.axiom-holds.ensures ∙ not-true _ c.if2.true)
+returns-2 c = axiom_fails _ _ _ _ _ c.before.before.before.loop.invariant.1 c.before.before.loop-test.true (sym c.before.axiom-holds.ensures ∙ not-true _ c.if2.true)
 
 pub search-axioms-spec : {M : Type 1} → statement M
 search-axioms-spec =

@@ -5,19 +5,19 @@ use Prim.Native.Nat.{◌+◌, ◌≤◌}
 use native.Mathlib.Omega.{arith}
 use lib.ListN.{length}
 use Rattle.definitions.specs.Board.{Board}
-use Rattle.laws.specs.Again.{literalsAt}
-use Rattle.laws.specs.Boards.{boardOf}
-use Rattle.laws.specs.Pieces.{lineFrom}
-use Rattle.opening.specs.Headers.{ints-is}
-use Rattle.decode.specs.Given.{selectors-are, short}
-use Rattle.decode.specs.Truth.{selectorNumber, trueClause}
-use Rattle.decode.specs.Lines.{number_in, Reading, none_left, one_left, literal-numbered, literal-true, literal-false}
+use Rattle.laws.specs.Again.{literals_at}
+use Rattle.laws.specs.Boards.{board_of}
+use Rattle.laws.specs.Pieces.{line_from}
+use Rattle.opening.specs.Headers.{ints_is}
+use Rattle.decode.specs.Given.{selectors_are, short}
+use Rattle.decode.specs.Truth.{selector_number, true_clause}
+use Rattle.decode.specs.Lines.{number_in, Reading, none_left, one_left, literal_numbered, literal_true, literal_false}
 use Rattle.decode.proofs.lines.line_holds.Statement.{statement}
 use Rattle.decode.proofs.lines.line_holds.Tie as tie
 
 abbrev invariant-loop : tie.invariant-loop
 invariant-loop bytes firsts rules model n at selector selectors j₀ place₀ left₀ j place left =
-    Reading (boardOf bytes) model rules (trueClause (boardOf bytes) model (lineFrom selector (literalsAt rules n at).value)) j left place
+    Reading (board_of bytes) model rules (true_clause (board_of bytes) model (line_from selector (literals_at rules n at).value)) j left place
 
 abbrev decreases-loop : tie.decreases-loop
 decreases-loop bytes firsts rules model n at selector selectors j₀ place₀ left₀ j place left = left
@@ -28,13 +28,13 @@ module _ (r : tie.After-literal-again invariant-loop decreases-loop) where
   s = r.before.before.before.before.before.before.before.before
 
   abbrev B : Board
-  B = boardOf s.args.bytes.now
+  B = board_of s.args.bytes.now
 
-  selector-is : r.before.before.before.first-in.result + r.before.before.loop.j ≡ selectorNumber B r.before.before.loop.j
-  selector-is = ap (λ n. n + r.before.before.loop.j) (r.before.before.before.first-in.ensures ∙ s.pre.1 s.args.header.ints (omega (arith, ints-is s.pre.0.opened)) ∙ selectors-are s.pre.0.opened)
+  selector-is : r.before.before.before.first-in.result + r.before.before.loop.j ≡ selector_number B r.before.before.loop.j
+  selector-is = ap (λ n. n + r.before.before.loop.j) (r.before.before.before.first-in.ensures ∙ s.pre.1 s.args.header.ints (omega (arith, ints_is s.pre.0.opened)) ∙ selectors_are s.pre.0.opened)
 
-  numbered : (1 ≤ number_in (selectorNumber B r.before.before.loop.j) r.literal-again.result.literal) × (number_in (selectorNumber B r.before.before.loop.j) r.literal-again.result.literal ≤ length s.args.model.now) × (number_in r.before.before.loop.j r.literal-again.result.literal ≤ length s.args.model.now)
-  numbered = literal-numbered r.before.before.loop.inv r.before.loop-test.taken r.literal-again.ensures s.pre.0.long
+  numbered : (1 ≤ number_in (selector_number B r.before.before.loop.j) r.literal-again.result.literal) × (number_in (selector_number B r.before.before.loop.j) r.literal-again.result.literal ≤ length s.args.model.now) × (number_in r.before.before.loop.j r.literal-again.result.literal ≤ length s.args.model.now)
+  numbered = literal_numbered r.before.before.loop.inv r.before.loop-test.taken r.literal-again.ensures s.pre.0.long
 
 first-in-requires : tie.Need-first-in-requires invariant-loop decreases-loop
 first-in-requires c κs = search rules
@@ -56,7 +56,7 @@ literal-holds-requires c κs = rw (selector-is c) ((numbered c).0, (numbered c).
 returns : tie.Need-returns invariant-loop decreases-loop
 returns c =
     let r = c.before.before in
-    literal-true r.before.before.loop.invariant r.before.loop-test.true r.literal-again.ensures (rw (selector-is r) at (sym c.before.literal-holds.ensures ∙ c.if1.true))
+    literal_true r.before.before.loop.invariant r.before.loop-test.true r.literal-again.ensures (rw (selector-is r) at (sym c.before.literal-holds.ensures ∙ c.if1.true))
 
 selector-after-requires : tie.Need-selector-after-requires invariant-loop decreases-loop
 selector-after-requires c κs = let r = c.before.before in omega (arith, (numbered r).2, short (s r).requires.0)
@@ -70,7 +70,7 @@ loop-less c = omega arith
 loop-again : tie.Need-loop-preserved invariant-loop decreases-loop
 loop-again c =
     let r = c.before.before.before in
-    rw c.selector-after.ensures (literal-false r.before.before.loop.invariant r.before.loop-test.true r.literal-again.ensures (rw (selector-is r) at (sym c.before.before.literal-holds.ensures ∙ c.before.if1.false)))
+    rw c.selector-after.ensures (literal_false r.before.before.loop.invariant r.before.loop-test.true r.literal-again.ensures (rw (selector-is r) at (sym c.before.before.literal-holds.ensures ∙ c.before.if1.false)))
 
 returns-2 : tie.Need-returns-2 invariant-loop decreases-loop
 returns-2 c = none_left c.before.loop.invariant c.loop-test.false

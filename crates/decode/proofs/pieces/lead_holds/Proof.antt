@@ -6,11 +6,11 @@ use native.Mathlib.Omega.{arith}
 use lib.ListN.{length}
 use Rattle.definitions.specs.Board.{Board}
 use Rattle.definitions.specs.Meaning.{on}
-use Rattle.laws.specs.Boards.{boardOf}
-use Rattle.opening.specs.Headers.{ints-is}
-use Rattle.decode.specs.Given.{selectors-are, short}
-use Rattle.decode.specs.Truth.{selectorNumber}
-use Rattle.decode.specs.Tails.{negated-true, selector-numbered}
+use Rattle.laws.specs.Boards.{board_of}
+use Rattle.opening.specs.Headers.{ints_is}
+use Rattle.decode.specs.Given.{selectors_are, short}
+use Rattle.decode.specs.Truth.{selector_number}
+use Rattle.decode.specs.Tails.{negated_true, selector_numbered}
 use borrow.Author.Rules.{rules}
 use Rattle.decode.proofs.pieces.lead_holds.Statement.{statement}
 use Rattle.decode.proofs.pieces.lead_holds.Tie as tie
@@ -18,13 +18,13 @@ use Rattle.decode.proofs.pieces.lead_holds.Tie as tie
 -- the first selector's number was found: that of this piece's
 module _ (c : tie.After-first-in) where
   abbrev B : Board
-  B = boardOf c.before.before.before.before.before.before.before.before.args.bytes.now
+  B = board_of c.before.before.before.before.before.before.before.before.args.bytes.now
 
-  number_is : c.first-in.result + c.before.before.piece2.given.0.0 ≡ selectorNumber B c.before.before.piece2.given.0.0
-  number_is = ap (λ n. n + c.before.before.piece2.given.0.0) (c.first-in.ensures ∙ c.before.before.before.before.before.before.before.before.requires.1 c.before.before.before.before.before.before.before.before.args.header.ints (omega (arith, ints-is c.before.before.before.before.before.before.before.before.requires.0.opened)) ∙ selectors-are c.before.before.before.before.before.before.before.before.requires.0.opened)
+  number_is : c.first-in.result + c.before.before.piece2.given.0.0 ≡ selector_number B c.before.before.piece2.given.0.0
+  number_is = ap (λ n. n + c.before.before.piece2.given.0.0) (c.first-in.ensures ∙ c.before.before.before.before.before.before.before.before.requires.1 c.before.before.before.before.before.before.before.before.args.header.ints (omega (arith, ints_is c.before.before.before.before.before.before.before.before.requires.0.opened)) ∙ selectors_are c.before.before.before.before.before.before.before.before.requires.0.opened)
 
   numbered : (1 ≤ c.first-in.result + c.before.before.piece2.given.0.0) × (c.first-in.result + c.before.before.piece2.given.0.0 ≤ length c.before.before.before.before.before.before.before.before.args.model.now)
-  numbered = rw number_is (selector-numbered B c.before.before.before.before.before.before.before.before.args.model.now c.before.before.piece2.given.0.0 c.before.before.before.before.before.before.before.before.requires.0.long (rw c.before.before.piece2.given.1 at c.before.before.before.before.before.before.before.before.requires.3).1.0)
+  numbered = rw number_is (selector_numbered B c.before.before.before.before.before.before.before.before.args.model.now c.before.before.piece2.given.0.0 c.before.before.before.before.before.before.before.before.requires.0.long (rw c.before.before.piece2.given.1 at c.before.before.before.before.before.before.before.before.requires.3).1.0)
 
 enum-known-piece : tie.Need-enum-known-piece
 enum-known-piece c = search rules
@@ -62,7 +62,7 @@ returns-3 : tie.Need-returns-3
 returns-3 c =
     let s = c.before.before.before.before.before.before.before.before.before in
     let f = c.before in
-    rw c.before.before.before.piece2.given.1 (ap not (c.is-on.ensures ∙ ap (on s.args.model.now) (number_is f)) ∙ sym (negated-true (B f) s.args.model.now c.before.before.before.piece2.given.0.0))
+    rw c.before.before.before.piece2.given.1 (ap not (c.is-on.ensures ∙ ap (on s.args.model.now) (number_is f)) ∙ sym (negated_true (B f) s.args.model.now c.before.before.before.piece2.given.0.0))
 
 pub lead-holds-spec : {M : Type 1} → statement M
 lead-holds-spec =

@@ -5,31 +5,31 @@ use mathlib.Core.Bool.{Bool, false}
 use lib.ListN.{length}
 use mir.Facts.{to_z-of_z}
 use Rattle.definitions.specs.Board.{Board}
-use Rattle.laws.specs.Boards.{boardOf}
+use Rattle.laws.specs.Boards.{board_of}
 use Rattle.laws.specs.Fits.{good-constant}
 use Rattle.laws.specs.Reread.{context_of, Stands}
 use Rattle.laws.specs.Pieces as laws
 use Rattle.rules.specs.declared.Piece.{Piece}
-use Rattle.rules.specs.Cursors.{Held, saidPiece}
-use Rattle.decode.specs.Truth.{trueClause}
-use Rattle.decode.specs.Tails.{leadOf}
-use Rattle.decode.specs.Sums.{Shown, shown-lead, shown-line, shown-sum, stands-among}
+use Rattle.rules.specs.Cursors.{Held, said_piece}
+use Rattle.decode.specs.Truth.{true_clause}
+use Rattle.decode.specs.Tails.{lead_of}
+use Rattle.decode.specs.Sums.{Shown, shown_lead, shown-line, shown-sum, stands_among}
 use Rattle.decode.proofs.pieces.piece_holds.Statement.{statement}
 use Rattle.decode.proofs.pieces.piece_holds.Tie as tie
 
 -- what is known of the piece
 module _ (s : tie.Start) where
   abbrev B : Board
-  B = boardOf s.args.bytes.now
+  B = board_of s.args.bytes.now
 
   abbrev said : Piece → laws.Piece
-  said p = saidPiece s.args.rules.now p
+  said p = said_piece s.args.rules.now p
 
   abbrev held : (p : Piece) → s.args.piece ≡ p → Held (context_of B) s.args.rules.now p
   held p e = subst (Held (context_of B) s.args.rules.now) e s.pre.4
 
-  abbrev false-lead : (p : Piece) → s.args.piece ≡ p → trueClause B s.args.model.now (leadOf (said s.args.piece)) ≡ false → trueClause B s.args.model.now (leadOf (said p)) ≡ false
-  false-lead p e = subst (λ z. trueClause B s.args.model.now (leadOf (said z)) ≡ false) e
+  abbrev false-lead : (p : Piece) → s.args.piece ≡ p → true_clause B s.args.model.now (lead_of (said s.args.piece)) ≡ false → true_clause B s.args.model.now (lead_of (said p)) ≡ false
+  false-lead p e = subst (λ z. true_clause B s.args.model.now (lead_of (said z)) ≡ false) e
 
   shown : (p : Piece) → s.args.piece ≡ p → (r : Bool) → Shown B s.args.model.now (said p) r → Shown B s.args.model.now (said s.args.piece) r
   shown p e r = subst (λ z. Shown B s.args.model.now (said z) r) (sym e)
@@ -53,7 +53,7 @@ lead-holds-requires : tie.Need-lead-holds-requires
 lead-holds-requires c κs = let s = c.before.before.before.before in (s.requires.0, s.requires.1, s.requires.4, s.requires.5)
 
 returns : tie.Need-returns
-returns c = shown-lead _ _ _ (sym c.before.lead-holds.ensures ∙ c.if1.true)
+returns c = shown_lead _ _ _ (sym c.before.lead-holds.ensures ∙ c.if1.true)
 
 enum_told : tie.Need-enum-told
 enum_told c = search rules
@@ -66,7 +66,7 @@ compares-requires c κs =
     let p = c.before in
     let h = lone p in
     let f = good-constant h.good in
-    simp to_z-of_z ((s p).requires.3.near, stands-among (s p).requires.3.long h)
+    simp to_z-of_z ((s p).requires.3.near, stands_among (s p).requires.3.long h)
 
 enum-known-piece-2 : tie.Need-enum-known-piece-2
 enum-known-piece-2 c = search rules
@@ -76,7 +76,7 @@ compares-requires-2 c κs =
     let p = c.before in
     let h = led p in
     let f = good-constant h.good in
-    simp to_z-of_z ((s' p).requires.3.near, stands-among (s' p).requires.3.long h)
+    simp to_z-of_z ((s' p).requires.3.near, stands_among (s' p).requires.3.long h)
 
 returns-2 : tie.Need-returns-2
 returns-2 c =

@@ -7,33 +7,33 @@ use Rattle.definitions.specs.Board.{Board, bounds_of}
 use Rattle.definitions.specs.Board as board
 use Rattle.definitions.specs.Encoding.{least}
 use Rattle.laws.specs.Whole.{whole, back}
-use Rattle.laws.specs.Boards.{boardOf}
-use Rattle.laws.specs.Reread.{comparisonAt}
-use Rattle.slots.specs.Ready.{ReadyFor, to-ready, is-ready}
-use Rattle.walk.specs.Comparisons.{shows-least}
-use Rattle.decode.specs.Tails.{below-tails, above-tails}
+use Rattle.laws.specs.Boards.{board_of}
+use Rattle.laws.specs.Reread.{comparison_at}
+use Rattle.slots.specs.Ready.{ReadyFor, to_ready, is_ready}
+use Rattle.walk.specs.Comparisons.{shows_least}
+use Rattle.decode.specs.Tails.{below_tails, above_tails}
 use Rattle.decode.proofs.pieces.tails_at.Statement.{statement}
 use Rattle.decode.proofs.pieces.tails_at.Tie as tie
 
 -- the comparison was made ready and its least sum found
 module _ (c : tie.After-least) where
   abbrev B : Board
-  B = boardOf c.before.before.before.before.before.args.bytes.now
+  B = board_of c.before.before.before.before.before.args.bytes.now
 
   abbrev q : board.Comparison
-  q = comparisonAt c.before.before.before.before.before.args.rules.now c.before.before.before.before.before.args.place c.before.before.before.before.before.args.constant
+  q = comparison_at c.before.before.before.before.before.args.rules.now c.before.before.before.before.before.args.place c.before.before.before.before.before.args.constant
 
   made-ready : ReadyFor B q c.before.ready.result
-  made-ready = let s = c.before.before.before.before.before in is-ready _ s.requires.0 s.args.firsts.now s.requires.1 s.requires.2 c.before.ready.ensures
+  made-ready = let s = c.before.before.before.before.before in is_ready _ s.requires.0 s.args.firsts.now s.requires.1 s.requires.2 c.before.ready.ensures
 
   least-is : c.least.result ≡ least (bounds_of B) q.terms
-  least-is = c.least.ensures ∙ shows-least B q _ made-ready.shows
+  least-is = c.least.ensures ∙ shows_least B q _ made-ready.shows
 
   least_fits : SFits w32 c.least.result
   least_fits = record { sfits = c.least.type-inv }
 
 ready-requires : tie.Need-ready-requires
-ready-requires c κs = let s = c.before.before.before in to-ready _ s.requires.0 s.args.firsts.now s.requires.1 s.requires.2
+ready-requires c κs = let s = c.before.before.before in to_ready _ s.requires.0 s.args.firsts.now s.requires.1 s.requires.2
 
 least-requires : tie.Need-least-requires
 least-requires c κs = c.ready.ensures.fair
@@ -44,12 +44,12 @@ single-requires c κs = search rules
 returns : tie.Need-returns
 returns c =
     let l = c.before.before in
-    λ lead. below-tails (B l) lead (q l) _ (omega (whole, least-is l, back c.before.before.before.before.before.before.before.ranges.constant, back (least_fits l))) c.single.ensures
+    λ lead. below_tails (B l) lead (q l) _ (omega (whole, least-is l, back c.before.before.before.before.before.before.before.ranges.constant, back (least_fits l))) c.single.ensures
 
 returns-2 : tie.Need-returns-2
 returns-2 c =
     let l = c.before in
-    λ lead. above-tails (B l) lead (q l) _ (omega (whole, least-is l, back c.before.before.before.before.before.before.ranges.constant, back (least_fits l))) (made-ready l)
+    λ lead. above_tails (B l) lead (q l) _ (omega (whole, least-is l, back c.before.before.before.before.before.before.ranges.constant, back (least_fits l))) (made-ready l)
 
 pub tails-at-spec : {M : Type 1} → statement M
 tails-at-spec =

@@ -4,18 +4,18 @@ use mathlib.Core.List.{[], ◌∷◌}
 use lib.ListN.{length}
 use mir.Facts.{to_z-of_z}
 use Rattle.definitions.specs.Encoding.{minus, selector}
-use Rattle.laws.specs.Boards.{boardOf}
+use Rattle.laws.specs.Boards.{board_of}
 use Rattle.laws.specs.Fits.{good-constant}
 use Rattle.laws.specs.Reread.{Stands}
-use Rattle.decode.specs.Tails.{line-tails}
+use Rattle.decode.specs.Tails.{line_tails}
 use Rattle.decode.proofs.pieces.tails_of.Statement.{statement}
 use Rattle.decode.proofs.pieces.tails_of.Tie as tie
 
 -- the comparison of the piece: alone, and under a selector
-lone : (c : tie.After-piece) → Stands (length (boardOf c.before.before.before.before.before.args.bytes.now).bounds) c.before.before.before.before.before.args.rules.now c.piece.given.0.0 c.piece.given.0.1.0
+lone : (c : tie.After-piece) → Stands (length (board_of c.before.before.before.before.before.args.bytes.now).bounds) c.before.before.before.before.before.args.rules.now c.piece.given.0.0 c.piece.given.0.1.0
 lone c = rw c.piece.given.1 at c.before.before.before.before.before.requires.2
 
-led : (c : tie.After-piece2) → Stands (length (boardOf c.before.before.before.before.before.args.bytes.now).bounds) c.before.before.before.before.before.args.rules.now c.piece2.given.0.1.0 c.piece2.given.0.1.1.0
+led : (c : tie.After-piece2) → Stands (length (board_of c.before.before.before.before.before.args.bytes.now).bounds) c.before.before.before.before.before.args.rules.now c.piece2.given.0.1.0 c.piece2.given.0.1.1.0
 led c = rw c.piece2.given.1 at c.before.before.before.before.before.requires.2
 
 enum_told : tie.Need-enum-told
@@ -43,7 +43,7 @@ tails-at-requires-2 c κs =
     let f = good-constant h.good in simp to_z-of_z (s.requires.0, s.requires.1, h)
 
 returns : tie.Need-returns
-returns c = rw c.before.enum_told.given.1 (line-tails (boardOf c.before.before.before.before.before.before.args.bytes.now) _ _ _ c.single.ensures)
+returns c = rw c.before.enum_told.given.1 (line_tails (board_of c.before.before.before.before.before.before.args.bytes.now) _ _ _ c.single.ensures)
 
 returns-2 : tie.Need-returns-2
 returns-2 c =

@@ -9,15 +9,15 @@ use lib.IntN.{ℤ}
 use Rattle.definitions.specs.Tools.{All}
 use Rattle.laws.specs.Mentions.{InList}
 use Rattle.walk.specs.declared.Run.{Run}
-use Rattle.walk.specs.Rows.{frontOf, inRun, in_row, Ready, ReadyRun, rowClauses, row-some}
-use Rattle.decode.specs.Truth.{trueTail}
-use Rattle.decode.specs.Goes.{goes-start, goes_one, goes-stop, goes_end}
-use Rattle.decode.specs.Rows.{run-held, front-numbered}
+use Rattle.walk.specs.Rows.{front_of, in_run, in_row, Ready, ReadyRun, row_clauses, row_some}
+use Rattle.decode.specs.Truth.{true_tail}
+use Rattle.decode.specs.Goes.{goes_start, goes_one, goes_stop, goes_end}
+use Rattle.decode.specs.Rows.{run-held, front_numbered}
 use Rattle.decode.proofs.rows.search_row.Statement.{statement}
 use Rattle.decode.proofs.rows.search_row.Tie as tie
 
 abbrev clauses : tie.Start → List (List ℤ)
-clauses s = rowClauses s.args.tails s.args.tuple
+clauses s = row_clauses s.args.tails s.args.tuple
 
 row-at-requires : tie.Need-row-at-requires
 row-at-requires c κs = search rules
@@ -31,7 +31,7 @@ module _ (c : tie.After-front) where
   s = c.before.before.before.before
 
   abbrev literals : List ℤ
-  literals = frontOf c.front.given.0.0
+  literals = front_of c.front.given.0.0
 
   single : clauses s ≡ literals ∷ []
   single = sym (subst (λ r. in_row r ≡ clauses s) c.front.given.1 c.before.before.row_at.ensures.1)
@@ -58,19 +58,19 @@ module _ (c : tie.After-run) where
   ready : ReadyRun run
   ready = subst Ready c.run.given.1 c.before.before.row_at.ensures.0
 
-  same : clauses a ≡ inRun run
+  same : clauses a ≡ in_run run
   same = sym (subst (λ r. in_row r ≡ clauses a) c.run.given.1 c.before.before.row_at.ensures.1)
 
-  some : 0 < length (inRun run)
-  some = omega (arith, ap length same, row-some a.args.tails a.args.tuple)
+  some : 0 < length (in_run run)
+  some = omega (arith, ap length same, row_some a.args.tails a.args.tuple)
 
-  numbered : All (All (InList (length a.args.model.now))) (inRun run)
+  numbered : All (All (InList (length a.args.model.now))) (in_run run)
   numbered = subst (All (All (InList (length a.args.model.now)))) same a.pre.2
 
 front-holds-requires-2 : tie.Need-front-holds-requires-2
 front-holds-requires-2 c κs =
     let r = c.before in
-    (front-numbered (run r) (length (a r).args.model.now) (some r) (numbered r), (a r).requires.3)
+    (front_numbered (run r) (length (a r).args.model.now) (some r) (numbered r), (a r).requires.3)
 
 cast-t15 : tie.Need-overflow-cast-t15
 cast-t15 c = search rules
@@ -86,14 +86,14 @@ search-run-requires c κs =
 returns : tie.Need-returns
 returns c =
     let r = c.before.before.before in
-    let test = trueTail (s r).args.model.now (literals r) in
-    rw (single r) (goes_end (goes_one (goes-start (s r).args.number (test ∷ [])) _ _ refl (sym c.before.front-holds.ensures ∙ c.if1.true)) refl)
+    let test = true_tail (s r).args.model.now (literals r) in
+    rw (single r) (goes_end (goes_one (goes_start (s r).args.number (test ∷ [])) _ _ refl (sym c.before.front-holds.ensures ∙ c.if1.true)) refl)
 
 returns-2 : tie.Need-returns-2
 returns-2 c =
     let r = c.before.before.before in
-    let test = trueTail (s r).args.model.now (literals r) in
-    rw (single r) (goes-stop (goes-start (s r).args.number (test ∷ [])) _ _ refl (sym c.before.front-holds.ensures ∙ c.if1.false))
+    let test = true_tail (s r).args.model.now (literals r) in
+    rw (single r) (goes_stop (goes_start (s r).args.number (test ∷ [])) _ _ refl (sym c.before.front-holds.ensures ∙ c.if1.false))
 
 returns-3 : tie.Need-returns-3
 returns-3 c =

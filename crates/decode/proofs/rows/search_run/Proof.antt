@@ -11,30 +11,30 @@ use mir.Syntax.{w32}
 use mir.Val.{SFits}
 use mir.Facts.{to_z-of_z}
 use Rattle.definitions.specs.Tools.{All}
-use Rattle.laws.specs.Whole.{abs-fits}
+use Rattle.laws.specs.Whole.{abs_fits}
 use Rattle.laws.specs.Lists.{append-all}
 use Rattle.laws.specs.Mentions.{InList}
 use Rattle.walk.specs.declared.Run.{Run}
-use Rattle.walk.specs.Rows.{frontOf, firstIn, inRun, ReadyRun, run-first, run_none}
-use Rattle.decode.specs.Truth.{trueTail}
-use Rattle.decode.specs.Goes.{Goes, goes-start, goes_one, goes-stop, goes_end}
-use Rattle.decode.specs.Rows.{fixed-open}
+use Rattle.walk.specs.Rows.{front_of, first_in, in_run, ReadyRun, run-first, run_none}
+use Rattle.decode.specs.Truth.{true_tail}
+use Rattle.decode.specs.Goes.{Goes, goes_start, goes_one, goes_stop, goes_end}
+use Rattle.decode.specs.Rows.{fixed_open}
 use Rattle.decode.proofs.rows.search_run.Statement.{statement}
 use Rattle.decode.proofs.rows.search_run.Tie as tie
 
 -- the tests of a run's clauses
 abbrev tests : List ℕ → Run → List Bool
-tests model run = map (trueTail model) (inRun run)
+tests model run = map (true_tail model) (in_run run)
 
 abbrev invariant-loop : tie.invariant-loop
 invariant-loop model number at₀ rest₀ at rest =
-    Goes number (tests model rest₀) at (tests model rest) × ReadyRun rest × (trueTail model (frontOf rest.front) ≡ false) × All (All (InList (length model))) (inRun rest)
+    Goes number (tests model rest₀) at (tests model rest) × ReadyRun rest × (true_tail model (front_of rest.front) ≡ false) × All (All (InList (length model))) (in_run rest)
 
 abbrev decreases-loop : tie.decreases-loop
-decreases-loop model number at₀ rest₀ at rest = length (inRun rest)
+decreases-loop model number at₀ rest₀ at rest = length (in_run rest)
 
 loop-holds : tie.Need-loop-init invariant-loop decreases-loop
-loop-holds c = let p = c.before.requires in (goes-start _ _, p.0, p.1, p.2)
+loop-holds c = let p = c.before.requires in (goes_start _ _, p.0, p.1, p.2)
 
 -- the first clause, and what is behind it
 module _ (c : tie.After-z invariant-loop decreases-loop) where
@@ -53,43 +53,43 @@ module _ (c : tie.After-z invariant-loop decreases-loop) where
   abbrev pair : List ℤ
   pair = run.y.literal ∷ run.z.literal ∷ []
 
-  next : inRun run ≡ firstIn run ∷ drop 1 (inRun run)
+  next : in_run run ≡ first_in run ∷ drop 1 (in_run run)
   next = run-first run c.before.before.if1.true
 
-  more : tests model run ≡ trueTail model (firstIn run) ∷ map (trueTail model) (drop 1 (inRun run))
-  more = ap (map (trueTail model)) next
+  more : tests model run ≡ true_tail model (first_in run) ∷ map (true_tail model) (drop 1 (in_run run))
+  more = ap (map (true_tail model)) next
 
-  numbered : All (All (InList (length model))) (firstIn run ∷ drop 1 (inRun run))
+  numbered : All (All (InList (length model))) (first_in run ∷ drop 1 (in_run run))
   numbered = subst (All (All (InList (length model)))) next l.loop.inv.3
 
   y-fits : SFits w32 run.y.literal
-  y-fits = abs-fits (omega (arith, l.loop.inv.1.rising.near))
+  y-fits = abs_fits (omega (arith, l.loop.inv.1.rising.near))
 
   z-fits : SFits w32 run.z.literal
-  z-fits = abs-fits (omega (arith, l.loop.inv.1.falling.near))
+  z-fits = abs_fits (omega (arith, l.loop.inv.1.falling.near))
 
 pair-holds-requires : tie.Need-pair-holds-requires invariant-loop decreases-loop
 pair-holds-requires c κs =
     let b = c.before.before in
-    rw (to_z-of_z (y-fits b), to_z-of_z (z-fits b)) ((append-all (InList (length (model b))) (frontOf (run b).front) (pair b) (numbered b).0).1, (s b).requires.3)
+    rw (to_z-of_z (y-fits b), to_z-of_z (z-fits b)) ((append-all (InList (length (model b))) (front_of (run b).front) (pair b) (numbered b).0).1, (s b).requires.3)
 
 -- the last two literals tell of the first clause
 module _ (c : tie.After-pair-holds invariant-loop decreases-loop) where
   abbrev b : tie.After-z invariant-loop decreases-loop
   b = c.before.before.before
 
-  told : c.pair-holds.result ≡ trueTail (model b) (firstIn (run b))
-  told = (rw (to_z-of_z (y-fits b), to_z-of_z (z-fits b)) at c.pair-holds.ensures) ∙ sym (fixed-open (model b) (frontOf (run b).front) (l b).loop.inv.2 (pair b))
+  told : c.pair-holds.result ≡ true_tail (model b) (first_in (run b))
+  told = (rw (to_z-of_z (y-fits b), to_z-of_z (z-fits b)) at c.pair-holds.ensures) ∙ sym (fixed_open (model b) (front_of (run b).front) (l b).loop.inv.2 (pair b))
 
 returns : tie.Need-returns invariant-loop decreases-loop
 returns c =
     let p = c.before in
-    goes-stop (l (b p)).loop.inv.0 _ _ (more (b p)) (sym (told p) ∙ not-true _ c.if2.true)
+    goes_stop (l (b p)).loop.inv.0 _ _ (more (b p)) (sym (told p) ∙ not-true _ c.if2.true)
 
 add_at : tie.Need-overflow-add-at invariant-loop decreases-loop
 add_at c =
     let r = b c.before in
-    omega (arith, (l r).loop.inv.0.count, ap length (more r), (s r).pre.4, length-map (inRun (s r).args.run) (trueTail (model r)))
+    omega (arith, (l r).loop.inv.0.count, ap length (more r), (s r).pre.4, length-map (in_run (s r).args.run) (true_tail (model r)))
 
 onward-requires : tie.Need-onward-requires invariant-loop decreases-loop
 onward-requires c κs = let r = b c.before in ((l r).loop.inv.1, r.before.before.if1.taken)
@@ -107,7 +107,7 @@ loop-again c =
 returns-2 : tie.Need-returns-2 invariant-loop decreases-loop
 returns-2 c =
     let k = c.before.before in
-    goes_end k.loop.invariant.0 (ap (map (trueTail k.before.before.args.model.now)) (run_none k.loop.rest (omega (arith, c.if1.false))))
+    goes_end k.loop.invariant.0 (ap (map (true_tail k.before.before.args.model.now)) (run_none k.loop.rest (omega (arith, c.if1.false))))
 
 pub search-run-spec : {M : Type 1} → statement M
 search-run-spec =

@@ -4,30 +4,30 @@ use mathlib.Core.Path.{◌∙◌}
 use native.Mathlib.Omega.{arith}
 use Rattle.definitions.specs.Board.{Board}
 use Rattle.definitions.specs.Encoding.{clauses}
-use Rattle.laws.specs.Boards.{boardOf}
-use Rattle.opening.specs.Headers.{admitted, recorded, ints-is, bools-is, counts-small, rules-inside}
+use Rattle.laws.specs.Boards.{board_of}
+use Rattle.opening.specs.Headers.{admitted, recorded, ints_is, bools_is, counts_small, rules_inside}
 use Rattle.measure.proofs.Numbers.{known}
 use Rattle.decode.specs.Truth.{tests}
-use Rattle.decode.specs.Goes.{Goes, goes-start, goes-part, goes-fails}
-use Rattle.decode.specs.Sums.{Told, axioms-told, values-in, near_none}
-use Rattle.decode.specs.Passes.{ruleTests, clauses-split, clauses-fit}
+use Rattle.decode.specs.Goes.{Goes, goes_start, goes_part, goes_fails}
+use Rattle.decode.specs.Sums.{Told, axioms_told, values_in, near_none}
+use Rattle.decode.specs.Passes.{rule_tests, clauses_split, clauses_fit}
 use Rattle.decode.proofs.search.search_clauses.Statement.{statement}
 use Rattle.decode.proofs.search.search_clauses.Tie as tie
 
 module _ (c : tie.Start) where
   abbrev B : Board
-  B = boardOf c.args.bytes.now
+  B = board_of c.args.bytes.now
 
 -- the axioms hold: the rules are left, and the order variables tell the values
 module _ (c : tie.After-number2) where
   abbrev s : tie.Start
   s = c.before.before.before.before.before
 
-  rules-left : Goes 0 (tests (B s) s.args.model.now (clauses (B s))) c.number2.given.0.0 (ruleTests (B s) s.args.model.now)
-  rules-left = goes-part (goes-start 0 _) _ _ (clauses-split (B s) s.args.model.now) _ c.before.before.search-axioms.ensures c.number2.given.1
+  rules-left : Goes 0 (tests (B s) s.args.model.now (clauses (B s))) c.number2.given.0.0 (rule_tests (B s) s.args.model.now)
+  rules-left = goes_part (goes_start 0 _) _ _ (clauses_split (B s) s.args.model.now) _ c.before.before.search-axioms.ensures c.number2.given.1
 
   told : Told (B s) s.args.model.now
-  told = axioms-told (B s) s.args.model.now (admitted s.pre.opened) (rw c.number2.given.1 at c.before.before.search-axioms.ensures).0
+  told = axioms_told (B s) s.args.model.now (admitted s.pre.opened) (rw c.number2.given.1 at c.before.before.search-axioms.ensures).0
 
 search-axioms-requires : tie.Need-search-axioms-requires
 search-axioms-requires c κs = c.before.before.requires
@@ -42,13 +42,13 @@ slice-aggregate-put-firsts : tie.Need-slice-aggregate-put-firsts
 slice-aggregate-put-firsts c = search rules
 
 put-firsts-requires : tie.Need-put-firsts-requires
-put-firsts-requires c κs = let o = (s c.before.before).pre.opened in (o.opens, bools-is o, ints-is o, omega (arith, counts-small o))
+put-firsts-requires c κs = let o = (s c.before.before).pre.opened in (o.opens, bools_is o, ints_is o, omega (arith, counts_small o))
 
 slice-aggregate-write-values : tie.Need-slice-aggregate-write-values
 slice-aggregate-write-values c = search rules
 
 write-values-requires : tie.Need-write-values-requires
-write-values-requires c κs = let h = (s c.before.before.before.before.before).pre in (h, omega (arith, counts-small h.opened))
+write-values-requires c κs = let h = (s c.before.before.before.before.before).pre in (h, omega (arith, counts_small h.opened))
 
 slice-aggregate-search-rules : tie.Need-slice-aggregate-search-rules
 slice-aggregate-search-rules c = search rules
@@ -57,10 +57,10 @@ slice-aggregate-search-rules-2 : tie.Need-slice-aggregate-search-rules-2
 slice-aggregate-search-rules-2 c = search rules
 
 sub-search-rules : tie.Need-overflow-sub-search-rules
-sub-search-rules c = rules-inside (s c.before.before.before.before.before.before.before.before.before).pre.opened
+sub-search-rules c = rules_inside (s c.before.before.before.before.before.before.before.before.before).pre.opened
 
 part-search-rules-start : tie.Need-slice-bounds-search-rules-start
-part-search-rules-start c = let h = rules-inside (s c.before.before.before.before.before.before.before.before.before).pre.opened in search rules
+part-search-rules-start c = let h = rules_inside (s c.before.before.before.before.before.before.before.before.before).pre.opened in search rules
 
 part-search-rules-end : tie.Need-slice-bounds-search-rules-end
 part-search-rules-end c = search rules
@@ -69,13 +69,13 @@ search-rules-requires : tie.Need-search-rules-requires
 search-rules-requires c κs =
     let n = c.before.before.before.before.before.before.before.before.before.before in
     let o = (s n).requires.opened in
-    let v = values-in (B (s n)) (s n).args.model.now (admitted o) (told n) _ _ (near_none 1024) (omega (arith, ints-is o, counts-small o)) c.before.before.before.before.write-values.ensures in
-    ((s n).requires, c.before.before.before.before.before.before.before.put-firsts.ensures, told n, v, known o, omega (arith, (rules-left n).count, clauses-fit (B (s n)) (s n).args.model.now (recorded o)))
+    let v = values_in (B (s n)) (s n).args.model.now (admitted o) (told n) _ _ (near_none 1024) (omega (arith, ints_is o, counts_small o)) c.before.before.before.before.write-values.ensures in
+    ((s n).requires, c.before.before.before.before.before.before.before.put-firsts.ensures, told n, v, known o, omega (arith, (rules-left n).count, clauses_fit (B (s n)) (s n).args.model.now (recorded o)))
 
 returns : tie.Need-returns
 returns c =
     let s = c.before.before.before.before.before.before in
-    goes-fails (goes-start 0 _) _ _ (clauses-split (B s) s.args.model.now) _ c.before.before.before.search-axioms.ensures c.before.number.given.1
+    goes_fails (goes_start 0 _) _ _ (clauses_split (B s) s.args.model.now) _ c.before.before.before.search-axioms.ensures c.before.number.given.1
 
 returns-2 : tie.Need-returns-2
 returns-2 c = c.search-rules.ensures ∙ (rules-left c.before.before.before.before.before.before.before.before.before.before.before).same

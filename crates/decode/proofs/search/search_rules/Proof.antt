@@ -4,31 +4,31 @@ use native.Mathlib.Omega.{arith}
 use lib.ListN.{length}
 use Rattle.definitions.specs.Board.{Board}
 use Rattle.definitions.specs.Reading.{Context}
-use Rattle.laws.specs.Boards.{boardOf}
+use Rattle.laws.specs.Boards.{board_of}
 use Rattle.laws.specs.Reread.{context_of}
 use Rattle.rules.specs.Cursors.{Came, Meets, meets, ends, todo}
-use Rattle.walk.specs.Comparisons.{toCome}
-use Rattle.opening.specs.Headers.{clauses-is}
+use Rattle.walk.specs.Comparisons.{to_come}
+use Rattle.opening.specs.Headers.{clauses_is}
 use Rattle.decode.specs.Given.{short}
-use Rattle.decode.specs.Passes.{Passing, Walks, passing-start, passing-end, sound-next, passed-room, walks-start, walks-end, walks_at, walks_next, walks_less, walks-numbered, walks-stop, walks-room}
+use Rattle.decode.specs.Passes.{Passing, Walks, passing-start, passing-end, sound_next, passed_room, walks_start, walks_end, walks_at, walks_next, walks_less, walks_numbered, walks_stop, walks_room}
 use Rattle.decode.proofs.search.search_rules.Statement.{statement}
 use Rattle.decode.proofs.search.search_rules.Tie as tie
 
 abbrev invariant-loop : tie.invariant-loop
-invariant-loop bytes firsts values rules model header from number₀ behind held tails here₀ number here = Walks (boardOf bytes) model rules from number tails here behind
+invariant-loop bytes firsts values rules model header from number₀ behind held tails here₀ number here = Walks (board_of bytes) model rules from number tails here behind
 
 abbrev decreases-loop : tie.decreases-loop
-decreases-loop bytes firsts values rules model header from number₀ behind held tails here₀ number here = length (toCome tails here)
+decreases-loop bytes firsts values rules model header from number₀ behind held tails here₀ number here = length (to_come tails here)
 
 abbrev invariant-search : tie.invariant-search
-invariant-search bytes firsts values rules model header from number₀ cursor₀ number cursor = Passing (boardOf bytes) model rules from number cursor
+invariant-search bytes firsts values rules model header from number₀ cursor₀ number cursor = Passing (board_of bytes) model rules from number cursor
 
 abbrev decreases-search : tie.decreases-search
 decreases-search bytes firsts values rules model header from number₀ cursor₀ number cursor = todo cursor
 
 module _ (s : tie.Start invariant-loop decreases-loop invariant-search decreases-search) where
   abbrev B : Board
-  B = boardOf s.args.bytes.now
+  B = board_of s.args.bytes.now
 
   abbrev ctx : Context
   ctx = context_of B
@@ -67,7 +67,7 @@ start-requires : tie.Need-start-requires invariant-loop decreases-loop invariant
 start-requires c κs = search rules
 
 search-holds : tie.Need-search-init invariant-loop decreases-loop invariant-search decreases-search
-search-holds c = let s = c.before.before.before.before.before in rw c.start.ensures (passing-start s.requires.4 (clauses-is s.requires.0.opened) s.args.model.now s.args.from)
+search-holds c = let s = c.before.before.before.before.before in rw c.start.ensures (passing-start s.requires.4 (clauses_is s.requires.0.opened) s.args.model.now s.args.from)
 
 next-piece-requires : tie.Need-next-piece-requires invariant-loop decreases-loop invariant-search decreases-search
 next-piece-requires c κs = (_, c.search.invariant.readable)
@@ -79,7 +79,7 @@ enum_told : tie.Need-enum-told invariant-loop decreases-loop invariant-search de
 enum_told c = search rules
 
 piece-holds-requires : tie.Need-piece-holds-requires invariant-loop decreases-loop invariant-search decreases-search
-piece-holds-requires c κs = let p = c.before in let s = started p in (s.pre.0, s.pre.1, s.pre.2, s.pre.3, (met p).held, (sound-next (passing p) _ (met p).comes).0)
+piece-holds-requires c κs = let p = c.before in let s = started p in (s.pre.0, s.pre.1, s.pre.2, s.pre.3, (met p).held, (sound_next (passing p) _ (met p).comes).0)
 
 tails-of-requires : tie.Need-tails-of-requires invariant-loop decreases-loop invariant-search decreases-search
 tails-of-requires c κs = let p = c.before.before in let s = started p in (s.pre.0.opened.opens, s.pre.1, (met p).held)
@@ -88,13 +88,13 @@ passed-requires : tie.Need-passed-requires invariant-loop decreases-loop invaria
 passed-requires c κs = (c.tails-of.ensures.fair, c.tails-of.ensures.reached)
 
 add-number : tie.Need-overflow-add-number invariant-loop decreases-loop invariant-search decreases-search
-add-number c = let p = c.before.before.before.before in omega (arith, c.passed.ensures, passed-room (passing p) _ (met p).comes _ _ c.before.before.piece-holds.ensures c.before.tails-of.ensures, (started p).requires.5)
+add-number c = let p = c.before.before.before.before in omega (arith, c.passed.ensures, passed_room (passing p) _ (met p).comes _ _ c.before.before.piece-holds.ensures c.before.tails-of.ensures, (started p).requires.5)
 
 walked-requires : tie.Need-walked-requires invariant-loop decreases-loop invariant-search decreases-search
 walked-requires c κs = c.before.tails-of.ensures.fair
 
 loop-holds : tie.Need-loop-init invariant-loop decreases-loop invariant-search decreases-search
-loop-holds c = let p = c.before.before.before.before.before in walks-start (passing p) _ (met p).comes _ _ _ _ (started p).requires.0.long c.before.before.before.piece-holds.ensures c.before.before.tails-of.ensures c.before.passed.ensures c.walked.ensures
+loop-holds c = let p = c.before.before.before.before.before in walks_start (passing p) _ (met p).comes _ _ _ _ (started p).requires.0.long c.before.before.before.piece-holds.ensures c.before.before.tails-of.ensures c.before.passed.ensures c.walked.ensures
 
 enum-known-here : tie.Need-enum-known-here invariant-loop decreases-loop invariant-search decreases-search
 enum-known-here c = search rules
@@ -106,7 +106,7 @@ after-row-requires : tie.Need-after-row-requires invariant-loop decreases-loop i
 after-row-requires c κs = let h = c.before in walks_at (walks h) h.here.given.1
 
 search-row-requires : tie.Need-search-row-requires invariant-loop decreases-loop invariant-search decreases-search
-search-row-requires c κs = let h = c.before.before in let w = walks h in let s = started (piece h) in (h.before.before.before.before.before.tails-of.ensures.fair, walks_at w h.here.given.1, walks-numbered w h.here.given.1 _ c.after-row.ensures, short s.pre.0, omega (arith, walks-room w h.here.given.1 _ c.after-row.ensures, s.pre.5))
+search-row-requires c κs = let h = c.before.before in let w = walks h in let s = started (piece h) in (h.before.before.before.before.before.tails-of.ensures.fair, walks_at w h.here.given.1, walks_numbered w h.here.given.1 _ c.after-row.ensures, short s.pre.0, omega (arith, walks_room w h.here.given.1 _ c.after-row.ensures, s.pre.5))
 
 enum-known-failing : tie.Need-enum-known-failing invariant-loop decreases-loop invariant-search decreases-search
 enum-known-failing c = search rules
@@ -124,13 +124,13 @@ search-less : tie.Need-search-smaller invariant-loop decreases-loop invariant-se
 search-less c = (met c.before.before.before.before.before.before.before.before).onward.less
 
 search-again : tie.Need-search-preserved invariant-loop decreases-loop invariant-search decreases-search
-search-again c = let p = c.before.before.before.before.before.before.before.before in walks-end c.before.before.loop.invariant c.enum-told2.given.1 (sound-next (passing p) _ (met p).comes).1 (met p).onward.sound
+search-again c = let p = c.before.before.before.before.before.before.before.before in walks_end c.before.before.loop.invariant c.enum-told2.given.1 (sound_next (passing p) _ (met p).comes).1 (met p).onward.sound
 
 returns : tie.Need-returns invariant-loop decreases-loop invariant-search decreases-search
 returns c = let n = c.before.before in let s = begun n in passing-end n.before.search.invariant (ends (ctx s) s.args.rules.now n.before.search.cursor (came n) c.enum_told.given.1)
 
 returns-2 : tie.Need-returns-2 invariant-loop decreases-loop invariant-search decreases-search
-returns-2 c = let h = c.before.before.before.before.before.before in walks-stop (walks h) h.here.given.1 _ c.before.before.before.before.after-row.ensures c.before.before.before.search-row.ensures c.before.failing.given.1
+returns-2 c = let h = c.before.before.before.before.before.before in walks_stop (walks h) h.here.given.1 _ c.before.before.before.before.after-row.ensures c.before.before.before.search-row.ensures c.before.failing.given.1
 
 pub search-rules-spec : {M : Type 1} → statement M
 search-rules-spec =

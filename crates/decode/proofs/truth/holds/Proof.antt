@@ -9,8 +9,8 @@ use mir.Syntax.{w32}
 use mir.Val.{SFits}
 use mir.Facts.{to_z-of_z, Fits-nat_abs}
 use Rattle.definitions.specs.Meaning.{on}
-use Rattle.laws.specs.Whole.{whole, back, abs-fits, abs_neg, zero-sub, sub-law}
-use Rattle.decode.specs.Truth.{true-above, true_below}
+use Rattle.laws.specs.Whole.{whole, back, abs_fits, abs_neg, zero-sub, sub_law}
+use Rattle.decode.specs.Truth.{true_above, true_below}
 use Rattle.decode.proofs.truth.holds.Statement.{statement}
 use Rattle.decode.proofs.truth.holds.Tie as tie
 
@@ -20,7 +20,7 @@ module _ (c : tie.Start) where
   size_same = ap nat_abs (zero-sub c.args.literal) ∙ abs_neg c.args.literal
 
   turned : SFits w32 (pos 0 -ℤ c.args.literal)
-  turned = abs-fits (omega (arith, size_same, c.requires))
+  turned = abs_fits (omega (arith, size_same, c.requires))
 
 sub-is-on : tie.Need-overflow-sub-is-on
 sub-is-on c = let f = c.before.before.ranges.literal in simp to_z-of_z (turned c.before.before)
@@ -30,7 +30,7 @@ cast-is-on c =
     let z = c.before.before.args.literal in
     let f = c.before.before.ranges.literal in
     let g = turned c.before.before in
-    simp to_z-of_z (yes_non_neg {z = pos 0 -ℤ z} (omega (whole, back f, sub-law (pos 0) z)), Fits-nat_abs tt g)
+    simp to_z-of_z (yes_non_neg {z = pos 0 -ℤ z} (omega (whole, back f, sub_law (pos 0) z)), Fits-nat_abs tt g)
 
 is-on-requires : tie.Need-is-on-requires
 is-on-requires c κs =
@@ -60,7 +60,7 @@ returns-2 c =
     let m = c.before.before.before.args.model.now in
     let z = c.before.before.before.args.literal in
     let f = c.before.before.before.ranges.literal in
-    (simp to_z-of_z at c.is-on2.ensures) ∙ sym (true-above m z (omega (whole, back f)))
+    (simp to_z-of_z at c.is-on2.ensures) ∙ sym (true_above m z (omega (whole, back f)))
 
 pub holds-spec : {M : Type 1} → statement M
 holds-spec =

@@ -9,32 +9,32 @@ use mir.Val.{SFits, to_z}
 use mir.Facts.{to_z-of_z, to_z_pos}
 use Rattle.definitions.specs.Board.{Bounds}
 use Rattle.definitions.specs.Encoding as Encoding
-use Rattle.laws.specs.Whole.{whole, sfits, add-law}
+use Rattle.laws.specs.Whole.{whole, sfits, add_law}
 use Rattle.laws.specs.Fits.{width-least, width-most}
-use Rattle.slots.specs.Variables.{boundsRead, lower-fits, upper_fits}
-use Rattle.decode.specs.Values.{valueAfter, valueFrom, value-hit, value-miss, value-last}
+use Rattle.slots.specs.Variables.{bounds_read, lower_fits, upper_fits}
+use Rattle.decode.specs.Values.{value_after, value_from, value_hit, value_miss, value-last}
 use Rattle.decode.proofs.values.value_of.Statement.{statement}
 use Rattle.decode.proofs.values.value_of.Tie as tie
 
 abbrev invariant-loop : tie.invariant-loop
 invariant-loop model first bounds width k₀ k =
-    (k + 2 ≤ width) × (width ≡ Encoding.width (boundsRead bounds)) × (valueAfter model first (boundsRead bounds) k ≡ valueFrom model first (boundsRead bounds))
+    (k + 2 ≤ width) × (width ≡ Encoding.width (bounds_read bounds)) × (value_after model first (bounds_read bounds) k ≡ value_from model first (bounds_read bounds))
 
 abbrev decreases-loop : tie.decreases-loop
 decreases-loop model first bounds width k₀ k = width - k
 
 abbrev b : tie.Start invariant-loop decreases-loop → Bounds
-b c = boundsRead c.args.bounds
+b c = bounds_read c.args.bounds
 
 -- the value at offset k is a 32-bit number
 module _ (c : tie.At-loop invariant-loop decreases-loop) where
   small : c.loop.k < 8193
   small = omega (arith, width-most (b c.before.before.before) c.before.before.before.requires.0)
 
-  value-fits : SFits w32 ((b c.before.before.before).lo +ℤ pos c.loop.k)
-  value-fits =
+  value_fits : SFits w32 ((b c.before.before.before).lo +ℤ pos c.loop.k)
+  value_fits =
       let g = c.before.before.before.requires.0 in
-      sfits (omega (whole, g.lowest, g.ordered, g.highest, add-law (b c.before.before.before).lo (pos c.loop.k), small))
+      sfits (omega (whole, g.lowest, g.ordered, g.highest, add_law (b c.before.before.before).lo (pos c.loop.k), small))
 
 width-of-requires : tie.Need-width-of-requires invariant-loop decreases-loop
 width-of-requires c κs = c.before.requires.0
@@ -65,18 +65,18 @@ add-result : tie.Need-overflow-add-result invariant-loop decreases-loop
 add-result c =
     let s = c.before.before.before.before.before.before.before.before in
     let here = c.before.before.before.before.before.loop in
-    let f = lower-fits s.args.bounds s.requires.0 in
+    let f = lower_fits s.args.bounds s.requires.0 in
     let e : to_z w32 here.k ≡ pos here.k = to_z_pos w32 (omega (arith, small c.before.before.before.before.before)) in
-    simp (to_z-of_z, e) (value-fits c.before.before.before.before.before)
+    simp (to_z-of_z, e) (value_fits c.before.before.before.before.before)
 
 returns : tie.Need-returns invariant-loop decreases-loop
 returns c =
     let here = c.before.before.before.before.before.loop in
     let s = c.before.before.before.before.before.before.before.before in
-    let f = lower-fits c.before.before.before.before.before.before.before.before.args.bounds c.before.before.before.before.before.before.before.before.requires.0 in
+    let f = lower_fits c.before.before.before.before.before.before.before.before.args.bounds c.before.before.before.before.before.before.before.before.requires.0 in
     let e : to_z w32 here.k ≡ pos here.k = to_z_pos w32 (omega (arith, small c.before.before.before.before.before)) in
-    let q = value-fits c.before.before.before.before.before in
-    simp (to_z-of_z, e) (sym (value-hit s.args.model.now s.args.first (b s) here.k (omega arith) (sym c.before.before.before.is-on.ensures ∙ c.before.before.if1.true)) ∙ here.invariant.2)
+    let q = value_fits c.before.before.before.before.before in
+    simp (to_z-of_z, e) (sym (value_hit s.args.model.now s.args.first (b s) here.k (omega arith) (sym c.before.before.before.is-on.ensures ∙ c.before.before.if1.true)) ∙ here.invariant.2)
 
 add-k : tie.Need-overflow-add-k invariant-loop decreases-loop
 add-k c = omega (arith, small c.before.before.before)
@@ -88,7 +88,7 @@ loop-again : tie.Need-loop-preserved invariant-loop decreases-loop
 loop-again c =
     let here = c.before.before.before.loop in
     let s = c.before.before.before.before.before.before in
-    (omega arith, here.invariant.1, sym (value-miss s.args.model.now s.args.first (b s) here.k (omega arith) (sym c.before.is-on.ensures ∙ c.if1.false)) ∙ here.invariant.2)
+    (omega arith, here.invariant.1, sym (value_miss s.args.model.now s.args.first (b s) here.k (omega arith) (sym c.before.is-on.ensures ∙ c.if1.false)) ∙ here.invariant.2)
 
 returns-2 : tie.Need-returns-2 invariant-loop decreases-loop
 returns-2 c =

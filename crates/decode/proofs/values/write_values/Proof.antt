@@ -14,31 +14,31 @@ use Rattle.definitions.specs.Board.{Board}
 use Rattle.definitions.specs.Encoding.{width}
 use Rattle.definitions.specs.Encoding as Encoding
 use Rattle.definitions.specs.Meaning.{values_of}
-use Rattle.laws.specs.Boards.{boardOf}
+use Rattle.laws.specs.Boards.{board_of}
 use Rattle.laws.specs.Written.{written, written_none, written-take}
-use Rattle.slots.specs.Variables.{boundsRead, bounds-same, first-none, first_more}
-use Rattle.opening.specs.Headers.{ints-is, bools-is, counts-small}
+use Rattle.slots.specs.Variables.{bounds_read, bounds_same, first_none, first_more}
+use Rattle.opening.specs.Headers.{ints_is, bools_is, counts_small}
 use Rattle.decode.specs.Given.{short, inside, ordered, within}
-use Rattle.decode.specs.Values.{value-is, values_length, values-at}
+use Rattle.decode.specs.Values.{value_is, values_length, values_at}
 use Rattle.decode.proofs.values.write_values.Statement.{statement}
 use Rattle.decode.proofs.values.write_values.Tie as tie
 
 abbrev invariant-loop : tie.invariant-loop
 invariant-loop bytes model header values₀ x₀ first₀ values x first =
-    (x ≤ header.ints) × (length values ≡ length values₀) × (first ≡ Encoding.first (boardOf bytes) x) × (values ≡ written (take x (values_of (boardOf bytes) model)) values₀)
+    (x ≤ header.ints) × (length values ≡ length values₀) × (first ≡ Encoding.first (board_of bytes) x) × (values ≡ written (take x (values_of (board_of bytes) model)) values₀)
 
 abbrev decreases-loop : tie.decreases-loop
 decreases-loop bytes model header values₀ x₀ first₀ values x first = header.ints - x
 
 module _ (c : tie.Start invariant-loop decreases-loop) where
   abbrev B : Board
-  B = boardOf c.args.bytes.now
+  B = board_of c.args.bytes.now
 
   abbrev all : List ℤ
   all = values_of B c.args.model.now
 
-  how-many : (length all ≡ c.args.header.ints) × (length all ≤ length c.args.values.now)
-  how-many = omega (arith, values_length B c.args.model.now, ints-is c.requires.0.opened, c.requires.1)
+  how_many_lem : (length all ≡ c.args.header.ints) × (length all ≤ length c.args.values.now)
+  how_many_lem = omega (arith, values_length B c.args.model.now, ints_is c.requires.0.opened, c.requires.1)
 
 -- the bounds of variable x were read
 module _ (c : tie.After-bounds-of invariant-loop decreases-loop) where
@@ -48,22 +48,22 @@ module _ (c : tie.After-bounds-of invariant-loop decreases-loop) where
   there : x < length (B c.before.before.before.before.before.before.before).bounds
   there = inside c.before.before.before.before.before.before.before.requires.0 x c.before.if1.true c.bounds_of.ensures
 
-  room : (1 ≤ c.before.before.before.loop.first) × (c.before.before.before.loop.first + width (boundsRead c.bounds_of.result) ≤ length c.before.before.before.before.before.before.before.args.model.now + 1) × (length c.before.before.before.before.before.before.before.args.model.now < 2147483648)
+  room : (1 ≤ c.before.before.before.loop.first) × (c.before.before.before.loop.first + width (bounds_read c.bounds_of.result) ≤ length c.before.before.before.before.before.before.before.args.model.now + 1) × (length c.before.before.before.before.before.before.before.args.model.now < 2147483648)
   room =
       let w = within c.before.before.before.before.before.before.before.requires.0 x c.before.if1.true c.bounds_of.ensures in
       rw c.before.before.before.loop.invariant.2 (w.0, w.1, short c.before.before.before.before.before.before.before.requires.0)
 
 add-first : tie.Need-overflow-add-first invariant-loop decreases-loop
-add-first c = omega (arith, counts-small c.before.before.before.requires.0.opened)
+add-first c = omega (arith, counts_small c.before.before.before.requires.0.opened)
 
 loop-holds : tie.Need-loop-init invariant-loop decreases-loop
 loop-holds c =
-    (omega arith, refl, rw (bools-is c.before.before.before.requires.0.opened) (sym (first-none (B c.before.before.before))), written_none _)
+    (omega arith, refl, rw (bools_is c.before.before.before.requires.0.opened) (sym (first_none (B c.before.before.before))), written_none _)
 
 bounds-of-requires : tie.Need-bounds-of-requires invariant-loop decreases-loop
 bounds-of-requires c κs =
     let s = c.before.before.before.before.before.before in
-    (s.requires.0.opened.opens, omega (arith, ints-is s.requires.0.opened))
+    (s.requires.0.opened.opens, omega (arith, ints_is s.requires.0.opened))
 
 value-of-requires : tie.Need-value-of-requires invariant-loop decreases-loop
 value-of-requires c κs = let r = room (c) in (c.bounds_of.ensures.good, r.0, r.1, r.2)
@@ -96,13 +96,13 @@ loop-again c =
     let v = c.before.before in
     let m = s.args.model.now in
     let r : SFits w32 c.before.value_of_lem.result = record { sfits = c.before.value_of_lem.type-inv } in
-    let e = rw (here.invariant.2, bounds-same (B s) (x v) _ c.before.before.bounds_of.ensures) at c.before.value_of_lem.ensures in (
+    let e = rw (here.invariant.2, bounds_same (B s) (x v) _ c.before.before.bounds_of.ensures) at c.before.value_of_lem.ensures in (
       omega arith,
       simp length-set here.invariant.1,
       omega (arith, first_more (B s) (x v) _ (there v) c.before.before.bounds_of.ensures, c.width_of_lem.ensures),
-      ap (set here.values (x v)) (to_z-of_z r ∙ e ∙ value-is (B s) m (x v) (ordered c.before.before.before.before.before.before.before.before.before.requires.0 (x v) c.before.before.before.if1.true c.before.before.bounds_of.ensures) ∙ sym (values-at (B s) m (x v) (pos 0) (there v)))
+      ap (set here.values (x v)) (to_z-of_z r ∙ e ∙ value_is (B s) m (x v) (ordered c.before.before.before.before.before.before.before.before.before.requires.0 (x v) c.before.before.before.if1.true c.before.before.bounds_of.ensures) ∙ sym (values_at (B s) m (x v) (pos 0) (there v)))
           ∙ ap (λ z. set z (x v) (get_or (all s) (x v) (pos 0))) here.invariant.3
-          ∙ written-take (pos 0) (all s) s.args.values.now (x v) (omega (arith, how-many s)) (omega (arith, how-many s)),
+          ∙ written-take (pos 0) (all s) s.args.values.now (x v) (omega (arith, how_many_lem s)) (omega (arith, how_many_lem s)),
     )
 
 same_length : tie.Need-same-length invariant-loop decreases-loop
@@ -112,7 +112,7 @@ returns : tie.Need-returns invariant-loop decreases-loop
 returns c =
     let here = c.before.before.loop in
     let s = c.before.before.before.before.before.before in
-    let e : take here.x (all s) ≡ all s = take_all here.x (all s) (omega (arith, how-many s)) in
+    let e : take here.x (all s) ≡ all s = take_all here.x (all s) (omega (arith, how_many_lem s)) in
     here.invariant.3 ∙ ap (λ z. written z s.args.values.now) e
 
 pub write-values-spec : {M : Type 1} → statement M

@@ -5,7 +5,7 @@ use native.Mathlib.Omega.{arith}
 use lib.ListN.{length}
 use Rattle.definitions.specs.Dimacs.{ascii}
 use Rattle.laws.specs.Written.{rest-length}
-use Rattle.laws.specs.Filling.{Filling, begun, room-before, room, last}
+use Rattle.laws.specs.Filling.{Filling, begun, room_before, room, last}
 use Rattle.text.specs.Lines.{line, line-length}
 use Rattle.text.specs.Entries.{entries}
 use Rattle.dimacs.specs.Shown.{cnf, cnf-length}
@@ -45,7 +45,7 @@ add-result : tie.Need-overflow-add-result
 add-result c =
     let h = c.before.before.before.before.before.before in
     let e = c.before.before.put_entries in
-    let k : h.put-text-line.result + e.result ≤ length h.before.before.before.before.args.out.now = omega (arith, room-before (head-put h), e.ensures.0) in
+    let k : h.put-text-line.result + e.result ≤ length h.before.before.before.before.args.out.now = omega (arith, room_before (head-put h), e.ensures.0) in
     search rules
 
 same_length : tie.Need-same-length

@@ -3,10 +3,10 @@ use borrow.Author.Rules.{rules}
 use native.Mathlib.Omega.{arith}
 use lib.ListN.{replicate}
 use lib.IntN.{pos}
-use Rattle.definitions.specs.Answers.{saidSizing}
+use Rattle.definitions.specs.Answers.{said_sizing}
 use Rattle.definitions.specs.Dimacs.{shown}
 use Rattle.text.specs.Puts.{retold}
-use Rattle.dimacs.specs.Shown.{listed-fits, put-counts, printed-is}
+use Rattle.dimacs.specs.Shown.{listed_fits, put_counts, printed_is}
 use Rattle.dimacs.proofs.printing.put_printed.Statement.{statement}
 use Rattle.dimacs.proofs.printing.put_printed.Tie as tie
 
@@ -23,15 +23,15 @@ put-shown-requires : tie.Need-put-shown-requires
 put-shown-requires c κs =
     let z = c.before.before.before.compile in
     let s = c.before.before.before.before.before.before in
-    (omega (arith, listed-fits s.args.bytes.now (replicate 16384 (pos 0)) z.result z.ensures.0, z.auto.1.0), omega (arith, z.auto.1.0))
+    (omega (arith, listed_fits s.args.bytes.now (replicate 16384 (pos 0)) z.result z.ensures.0, z.auto.1.0), omega (arith, z.auto.1.0))
 
 returns : tie.Need-returns
 returns c =
     let z = c.before.before.before.before.compile in
     let s = c.before.before.before.before.before.before.before in
     let p = c.put-shown in (
-      put-counts (shown (saidSizing z.result) z.new.1.0) s.args.out.now p.result _ p.ensures,
-      retold _ _ _ _ _ (printed-is s.args.bytes.now z.result z.new.1.0 z.ensures.0 z.ensures.1) p.ensures,
+      put_counts (shown (said_sizing z.result) z.new.1.0) s.args.out.now p.result _ p.ensures,
+      retold _ _ _ _ _ (printed_is s.args.bytes.now z.result z.new.1.0 z.ensures.0 z.ensures.1) p.ensures,
     )
 
 pub put-printed-spec : {M : Type 1} → statement M

@@ -4,10 +4,10 @@ use mathlib.Core.Path.{◌≡◌, sym, ap, ◌∙◌}
 use native.Mathlib.Omega.{arith}
 use lib.ListN.{length, take}
 use lib.Seq.{length-take-le}
-use Rattle.definitions.specs.Answers.{saidSizing}
+use Rattle.definitions.specs.Answers.{said_sizing}
 use Rattle.definitions.specs.Dimacs.{shown}
 use Rattle.text.specs.Puts.{retold}
-use Rattle.dimacs.specs.Shown.{listed, shown-done, shown-refused}
+use Rattle.dimacs.specs.Shown.{listed, shown_done, shown_refused}
 use Rattle.dimacs.proofs.printing.put_shown.Statement.{statement}
 use Rattle.dimacs.proofs.printing.put_shown.Tie as tie
 
@@ -42,7 +42,7 @@ returns c =
     let list = c.before.before.before.before.before.before.before.before.before.args.list.now in
     let a = c.before.before.before.before.before.before.answer in
     let v = a.given.0 in
-    retold _ _ _ _ _ (shown-done v.0 v.1.0 v.1.1.0 list ∙ sym (ap (λ z. shown (saidSizing z) list) a.given.1)) c.before.before.put-cnf.ensures
+    retold _ _ _ _ _ (shown_done v.0 v.1.0 v.1.1.0 list ∙ sym (ap (λ z. shown (said_sizing z) list) a.given.1)) c.before.before.put-cnf.ensures
 
 same-length-2 : tie.Need-same-length-2
 same-length-2 c = search rules
@@ -51,7 +51,7 @@ returns-2 : tie.Need-returns-2
 returns-2 c =
     let list = c.before.before.before.before.before.before.before.before.args.list.now in
     let a = c.before.before.before.before.before.answer2 in
-    retold _ _ _ _ _ (shown-refused a.given.0.0 list ∙ sym (ap (λ z. shown (saidSizing z) list) a.given.1)) c.before.before.put-refusal.ensures
+    retold _ _ _ _ _ (shown_refused a.given.0.0 list ∙ sym (ap (λ z. shown (said_sizing z) list) a.given.1)) c.before.before.put-refusal.ensures
 
 pub put-shown-spec : {M : Type 1} → statement M
 put-shown-spec =

@@ -5,14 +5,14 @@ use native.Mathlib.Omega.{arith}
 use lib.ListN.{length, take, length-set}
 use borrow.Author.Rules.{rules}
 use Rattle.laws.specs.Written.{written, written_none}
-use Rattle.image.specs.Parts.{booleanBytes, boolean-at, booleans-length}
-use Rattle.image.proofs.Entries.{put, all-put}
+use Rattle.image.specs.Parts.{boolean_bytes, boolean-at, booleans_length}
+use Rattle.image.proofs.Entries.{put, all_put}
 use Rattle.image.proofs.parts.put_booleans.Statement.{statement}
 use Rattle.image.proofs.parts.put_booleans.Tie as tie
 
 abbrev invariant-loop : tie.invariant-loop
 invariant-loop booleans model₀ i₀ model i =
-    (i ≤ length booleans) × (length model ≡ length model₀) × (model ≡ written (take i (booleanBytes booleans)) model₀)
+    (i ≤ length booleans) × (length model ≡ length model₀) × (model ≡ written (take i (boolean_bytes booleans)) model₀)
 
 abbrev decreases-loop : tie.decreases-loop
 decreases-loop booleans model₀ i₀ model i = length booleans - i
@@ -39,14 +39,14 @@ loop-less c = search rules
 loop-again : tie.Need-loop-preserved invariant-loop decreases-loop
 loop-again c =
     let start = c.before.before.before.before.before.before in
-    (omega arith, rw length-set c.before.before.before.loop.invariant.1, put (booleanBytes start.args.booleans.now) _ _ _ c.before.before.before.loop.invariant.2 _ (c.bit.ensures ∙ sym (boolean-at start.args.booleans.now c.before.before.before.loop.i c.before.before.loop-test.true)) (omega (arith, booleans-length start.args.booleans.now)) (omega (arith, start.requires)))
+    (omega arith, rw length-set c.before.before.before.loop.invariant.1, put (boolean_bytes start.args.booleans.now) _ _ _ c.before.before.before.loop.invariant.2 _ (c.bit.ensures ∙ sym (boolean-at start.args.booleans.now c.before.before.before.loop.i c.before.before.loop-test.true)) (omega (arith, booleans_length start.args.booleans.now)) (omega (arith, start.requires)))
 
 same_length : tie.Need-same-length invariant-loop decreases-loop
 same_length c = search rules
 
 returns : tie.Need-returns invariant-loop decreases-loop
 returns c =
-    (omega arith, all-put (booleanBytes c.before.before.before.before.args.booleans.now) _ _ c.before.loop.i c.before.loop.invariant.2 (omega (arith, booleans-length c.before.before.before.before.args.booleans.now)))
+    (omega arith, all_put (boolean_bytes c.before.before.before.before.args.booleans.now) _ _ c.before.loop.i c.before.loop.invariant.2 (omega (arith, booleans_length c.before.before.before.before.args.booleans.now)))
 
 pub put-booleans-spec : {M : Type 1} → statement M
 put-booleans-spec =

@@ -7,31 +7,31 @@ use mir.Syntax.{w32}
 use mir.Val.{to_z, of_z}
 use mir.Facts.{to_z-of_z}
 use lib.Signed.{le_z}
-use Rattle.laws.specs.Whole.{abs-fits}
-use Rattle.image.proofs.Numbers.{below-fits, sum_fits, number_is}
+use Rattle.laws.specs.Whole.{abs_fits}
+use Rattle.image.proofs.Numbers.{below_fits, sum_fits, number_is}
 use borrow.Author.Rules.{rules}
 use Rattle.laws.specs.Written.{written, written_none}
-use Rattle.image.specs.Parts.{bit, orderFrom, order-at, orders-length}
-use Rattle.image.proofs.Entries.{put, all-put}
+use Rattle.image.specs.Parts.{bit, order_from, order_at, orders-length}
+use Rattle.image.proofs.Entries.{put, all_put}
 use Rattle.image.proofs.parts.put_orders.Statement.{statement}
 use Rattle.image.proofs.parts.put_orders.Tie as tie
 
 abbrev invariant-loop : tie.invariant-loop
 invariant-loop value lower width model₀ first i₀ model i =
-    (i ≤ width) × (length model ≡ length model₀) × (model ≡ written (take i (orderFrom (to_z w32 value) (to_z w32 lower) width)) model₀)
+    (i ≤ width) × (length model ≡ length model₀) × (model ≡ written (take i (order_from (to_z w32 value) (to_z w32 lower) width)) model₀)
 
 abbrev decreases-loop : tie.decreases-loop
 decreases-loop value lower width model₀ first i₀ model i = width - i
 
 sub-first : tie.Need-overflow-sub-first invariant-loop decreases-loop
 sub-first c =
-    below-fits (to_z w32 (of_z w32 c.before.args.lower)) (rw (to_z-of_z c.before.ranges.lower) c.before.requires.0)
+    below_fits (to_z w32 (of_z w32 c.before.args.lower)) (rw (to_z-of_z c.before.ranges.lower) c.before.requires.0)
 
 loop-holds : tie.Need-loop-init invariant-loop decreases-loop
 loop-holds c = (omega arith, refl, written_none _)
 
 cast-bit : tie.Need-overflow-cast-bit invariant-loop decreases-loop
-cast-bit c = abs-fits (omega (arith, c.before.before.before.requires.1))
+cast-bit c = abs_fits (omega (arith, c.before.before.before.requires.1))
 
 add-bit : tie.Need-overflow-add-bit invariant-loop decreases-loop
 add-bit c =
@@ -54,7 +54,7 @@ loop-less c = search rules
 loop-again : tie.Need-loop-preserved invariant-loop decreases-loop
 loop-again c =
     let start = c.before.before.before.before in
-    (omega arith, rw length-set c.before.before.loop.invariant.1, put (orderFrom (to_z w32 (of_z w32 start.args.value)) (to_z w32 (of_z w32 start.args.lower)) start.args.width) _ _ _ c.before.before.loop.invariant.2 _ (c.bit.ensures ∙ ap (λ z. bit (le_z (to_z w32 (of_z w32 start.args.value)) z)) (number_is (to_z w32 (of_z w32 start.args.lower)) (rw (to_z-of_z start.ranges.lower) start.requires.0) c.before.before.loop.i (omega (arith, start.requires.1))) ∙ sym (order-at (to_z w32 (of_z w32 start.args.value)) (to_z w32 (of_z w32 start.args.lower)) start.args.width c.before.before.loop.i c.before.loop-test.true)) (omega (arith, orders-length (to_z w32 (of_z w32 start.args.value)) (to_z w32 (of_z w32 start.args.lower)) start.args.width)) (omega (arith, start.requires.2)))
+    (omega arith, rw length-set c.before.before.loop.invariant.1, put (order_from (to_z w32 (of_z w32 start.args.value)) (to_z w32 (of_z w32 start.args.lower)) start.args.width) _ _ _ c.before.before.loop.invariant.2 _ (c.bit.ensures ∙ ap (λ z. bit (le_z (to_z w32 (of_z w32 start.args.value)) z)) (number_is (to_z w32 (of_z w32 start.args.lower)) (rw (to_z-of_z start.ranges.lower) start.requires.0) c.before.before.loop.i (omega (arith, start.requires.1))) ∙ sym (order_at (to_z w32 (of_z w32 start.args.value)) (to_z w32 (of_z w32 start.args.lower)) start.args.width c.before.before.loop.i c.before.loop-test.true)) (omega (arith, orders-length (to_z w32 (of_z w32 start.args.value)) (to_z w32 (of_z w32 start.args.lower)) start.args.width)) (omega (arith, start.requires.2)))
 
 same_length : tie.Need-same-length invariant-loop decreases-loop
 same_length c = search rules
@@ -62,7 +62,7 @@ same_length c = search rules
 returns : tie.Need-returns invariant-loop decreases-loop
 returns c =
     let start = c.before.before.before in
-    (omega arith, rw (to_z-of_z start.ranges.value, to_z-of_z start.ranges.lower) at (all-put (orderFrom (to_z w32 (of_z w32 start.args.value)) (to_z w32 (of_z w32 start.args.lower)) start.args.width) _ _ c.before.loop.i c.before.loop.invariant.2 (omega (arith, orders-length (to_z w32 (of_z w32 start.args.value)) (to_z w32 (of_z w32 start.args.lower)) start.args.width))))
+    (omega arith, rw (to_z-of_z start.ranges.value, to_z-of_z start.ranges.lower) at (all_put (order_from (to_z w32 (of_z w32 start.args.value)) (to_z w32 (of_z w32 start.args.lower)) start.args.width) _ _ c.before.loop.i c.before.loop.invariant.2 (omega (arith, orders-length (to_z w32 (of_z w32 start.args.value)) (to_z w32 (of_z w32 start.args.lower)) start.args.width))))
 
 pub put-orders-spec : {M : Type 1} → statement M
 put-orders-spec =

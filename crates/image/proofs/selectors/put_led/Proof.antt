@@ -14,7 +14,7 @@ use Rattle.rules.specs.declared.Piece.{Piece}
 use Rattle.rules.specs.Cursors.{Held, at_start, todo, Meets, meets, ends}
 use Rattle.image.specs.Parts.{bit}
 use Rattle.image.specs.Selectors.{Passing}
-use Rattle.image.proofs.Selections.{the-next, onto, coming, coming-length, bytes_of, bytes-met, none-coming}
+use Rattle.image.proofs.Selections.{the_next, onto, coming, coming-length, bytes_of, bytes_met, none_coming}
 use Rattle.image.proofs.selectors.put_led.Statement.{statement}
 use Rattle.image.proofs.selectors.put_led.Tie as tie
 
@@ -41,7 +41,7 @@ module _ (q : tie.After-piece invariant-loop decreases-loop) where
   onward = onto q.before.before.before.loop.inv.0 met.onward
 
   bytes : {p : Piece} → q.piece.given.0.0 ≡ p → coming (a s) s.args.rules.now q.before.before.before.loop.cursor ≡ bytes_of (a s) s.args.rules.now p ++ coming (a s) s.args.rules.now q.piece.given.0.1.0
-  bytes e = bytes-met (a s) s.args.rules.now _ met ∙ ap (λ p. bytes_of (a s) s.args.rules.now p ++ coming (a s) s.args.rules.now q.piece.given.0.1.0) e
+  bytes e = bytes_met (a s) s.args.rules.now _ met ∙ ap (λ p. bytes_of (a s) s.args.rules.now p ++ coming (a s) s.args.rules.now q.piece.given.0.1.0) e
 
 -- a comparison under its selector
 module _ (p : tie.After-piece2 invariant-loop decreases-loop) where
@@ -75,7 +75,7 @@ returns : tie.Need-returns invariant-loop decreases-loop
 returns c =
     let l = c.before.before.before.loop in
     let s = c.before.before.before.before.before.before.before in
-    let e = ended l.invariant.1 (none-coming (a s) _ _ (ends _ _ _ (c.before.before.next-piece.ensures _ l.invariant.0.sound) c.enum_told.given.1)) in
+    let e = ended l.invariant.1 (none_coming (a s) _ _ (ends _ _ _ (c.before.before.next-piece.ensures _ l.invariant.0.sound) c.enum_told.given.1)) in
     (e.0 ∙ coming-length (a s) s.args.rules.now (at_start s.args.clauses), e.1)
 
 enum-known-piece-2 : tie.Need-enum-known-piece-2 invariant-loop decreases-loop
@@ -106,7 +106,7 @@ loop-again : tie.Need-loop-preserved invariant-loop decreases-loop
 loop-again c =
     let p = c.before.before.before in
     let f = good-constant (stands p).well-formed in
-    (onward (q p), one (q p).before.before.before.loop.invariant.1 _ _ (the-next (bytes (q p) p.piece2.given.1) (c.bit.ensures ∙ ap bit (rw (to_z-of_z f) at c.before.compares.ensures))))
+    (onward (q p), one (q p).before.before.before.loop.invariant.1 _ _ (the_next (bytes (q p) p.piece2.given.1) (c.bit.ensures ∙ ap bit (rw (to_z-of_z f) at c.before.compares.ensures))))
 
 enum-told-2 : tie.Need-enum-told-2 invariant-loop decreases-loop
 enum-told-2 c = search rules

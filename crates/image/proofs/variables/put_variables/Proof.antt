@@ -7,21 +7,21 @@ use native.Mathlib.Omega.{arith}
 use lib.ListN.{length, get_or}
 use lib.IntN.{pos}
 use mir.Facts.{to_z-of_z}
-use Rattle.reader.proofs.Tests.{bound-fits}
+use Rattle.reader.proofs.Tests.{bound_fits}
 use Rattle.definitions.specs.Meaning.{assigned}
 use Rattle.laws.specs.Fits.{width-most}
-use Rattle.laws.specs.Boards.{boardOf}
+use Rattle.laws.specs.Boards.{board_of}
 use Rattle.laws.specs.Written.{rest-length}
 use Rattle.laws.specs.Filling.{Filling, begin, room, room_for, part, ended}
-use Rattle.slots.specs.Variables.{lower-fits}
-use Rattle.image.specs.Parts.{orderFrom, orders-length}
-use Rattle.image.specs.Variables.{ordersFrom, orders-end, orders-next, lower-small}
+use Rattle.slots.specs.Variables.{lower_fits}
+use Rattle.image.specs.Parts.{order_from, orders-length}
+use Rattle.image.specs.Variables.{orders_from, orders-end, orders_next, lower_small}
 use Rattle.image.proofs.variables.put_variables.Statement.{statement}
 use Rattle.image.proofs.variables.put_variables.Tie as tie
 
 abbrev invariant-loop : tie.invariant-loop
 invariant-loop bytes values model₀ x₀ at₀ model x at =
-    Filling (ordersFrom (boardOf bytes) (assigned values []) 0) (ordersFrom (boardOf bytes) (assigned values []) x) model₀ model at × (x ≤ length values)
+    Filling (orders_from (board_of bytes) (assigned values []) 0) (orders_from (board_of bytes) (assigned values []) x) model₀ model at × (x ≤ length values)
 
 abbrev decreases-loop : tie.decreases-loop
 decreases-loop bytes values model₀ x₀ at₀ model x at = length values - x
@@ -61,17 +61,17 @@ put-orders-requires c κs =
     let start = c.before.before.before.before.before.before.before.before.before in
     let b = c.before.before.before.before.bounds_of.result in
     let w = c.before.before.before.width_of_lem.result in
-    let f = orderFrom (get_or start.args.values.now c.before.before.before.before.before.before.loop.x (pos 0)) b.lower w in
-    let next = orders-next (boardOf start.args.bytes.now) start.args.values.now c.before.before.before.before.before.before.loop.x (omega (arith, c.before.before.before.before.before.loop-test.true, start.requires.1)) b w c.before.before.before.before.bounds_of.ensures c.before.before.before.width_of_lem.ensures in
-    (rw (to_z-of_z (lower-fits b c.before.before.before.before.bounds_of.ensures.good)) (lower-small b c.before.before.before.before.bounds_of.ensures.good), omega (arith, c.before.before.before.width_of_lem.ensures, width-most _ c.before.before.before.before.bounds_of.ensures.good), omega (arith, rest-length c.before.before.before.before.before.before.loop.model c.before.before.before.before.before.before.loop.at, room_for c.before.before.before.before.before.before.loop.invariant.0 f _ next, orders-length (get_or start.args.values.now c.before.before.before.before.before.before.loop.x (pos 0)) b.lower w))
+    let f = order_from (get_or start.args.values.now c.before.before.before.before.before.before.loop.x (pos 0)) b.lower w in
+    let next = orders_next (board_of start.args.bytes.now) start.args.values.now c.before.before.before.before.before.before.loop.x (omega (arith, c.before.before.before.before.before.loop-test.true, start.requires.1)) b w c.before.before.before.before.bounds_of.ensures c.before.before.before.width_of_lem.ensures in
+    (rw (to_z-of_z (lower_fits b c.before.before.before.before.bounds_of.ensures.good)) (lower_small b c.before.before.before.before.bounds_of.ensures.good), omega (arith, c.before.before.before.width_of_lem.ensures, width-most _ c.before.before.before.before.bounds_of.ensures.good), omega (arith, rest-length c.before.before.before.before.before.before.loop.model c.before.before.before.before.before.before.loop.at, room_for c.before.before.before.before.before.before.loop.invariant.0 f _ next, orders-length (get_or start.args.values.now c.before.before.before.before.before.before.loop.x (pos 0)) b.lower w))
 
 add_at : tie.Need-overflow-add-at invariant-loop decreases-loop
 add_at c =
     let start = c.before.before.before.before.before.before.before.before.before.before.before.before in
     let b = c.before.before.before.before.before.before.before.bounds_of.result in
     let w = c.before.before.before.before.before.before.width_of_lem.result in
-    let f = orderFrom (get_or start.args.values.now c.before.before.before.before.before.before.before.before.before.loop.x (pos 0)) b.lower w in
-    let next = orders-next (boardOf start.args.bytes.now) start.args.values.now c.before.before.before.before.before.before.before.before.before.loop.x (omega (arith, c.before.before.before.before.before.before.before.before.loop-test.true, start.requires.1)) b w c.before.before.before.before.before.before.before.bounds_of.ensures c.before.before.before.before.before.before.width_of_lem.ensures in
+    let f = order_from (get_or start.args.values.now c.before.before.before.before.before.before.before.before.before.loop.x (pos 0)) b.lower w in
+    let next = orders_next (board_of start.args.bytes.now) start.args.values.now c.before.before.before.before.before.before.before.before.before.loop.x (omega (arith, c.before.before.before.before.before.before.before.before.loop-test.true, start.requires.1)) b w c.before.before.before.before.before.before.before.bounds_of.ensures c.before.before.before.before.before.before.width_of_lem.ensures in
     let h : c.before.before.before.before.before.before.before.before.before.loop.at + c.before.before.put-orders.result ≤ length start.args.model.now = omega (arith, c.before.before.put-orders.ensures.0, c.before.before.before.before.before.before.before.before.before.loop.invariant.0.long, room_for c.before.before.before.before.before.before.before.before.before.loop.invariant.0 f _ next, orders-length (get_or start.args.values.now c.before.before.before.before.before.before.before.before.before.loop.x (pos 0)) b.lower w) in
     search rules
 
@@ -86,16 +86,16 @@ loop-again c =
     let start = c.before.before.before.before.before.before.before.before.before.before.before.before in
     let b = c.before.before.before.before.before.before.before.bounds_of.result in
     let w = c.before.before.before.before.before.before.width_of_lem.result in
-    let f = orderFrom (get_or start.args.values.now c.before.before.before.before.before.before.before.before.before.loop.x (pos 0)) b.lower w in
-    let next = orders-next (boardOf start.args.bytes.now) start.args.values.now c.before.before.before.before.before.before.before.before.before.loop.x (omega (arith, c.before.before.before.before.before.before.before.before.loop-test.true, start.requires.1)) b w c.before.before.before.before.before.before.before.bounds_of.ensures c.before.before.before.before.before.before.width_of_lem.ensures in
-    (part c.before.before.before.before.before.before.before.before.before.loop.invariant.0 f _ next _ _ (omega (arith, c.before.before.put-orders.ensures.0, orders-length (get_or start.args.values.now c.before.before.before.before.before.before.before.before.before.loop.x (pos 0)) b.lower w)) (rw (to_z-of_z (lower-fits b c.before.before.before.before.before.before.before.bounds_of.ensures.good), to_z-of_z (bound-fits _ c.before.before.before.before.before.put-orders-arg.given)) at c.before.before.put-orders.ensures.1), omega (arith, c.before.before.before.before.before.before.before.before.loop-test.true))
+    let f = order_from (get_or start.args.values.now c.before.before.before.before.before.before.before.before.before.loop.x (pos 0)) b.lower w in
+    let next = orders_next (board_of start.args.bytes.now) start.args.values.now c.before.before.before.before.before.before.before.before.before.loop.x (omega (arith, c.before.before.before.before.before.before.before.before.loop-test.true, start.requires.1)) b w c.before.before.before.before.before.before.before.bounds_of.ensures c.before.before.before.before.before.before.width_of_lem.ensures in
+    (part c.before.before.before.before.before.before.before.before.before.loop.invariant.0 f _ next _ _ (omega (arith, c.before.before.put-orders.ensures.0, orders-length (get_or start.args.values.now c.before.before.before.before.before.before.before.before.before.loop.x (pos 0)) b.lower w)) (rw (to_z-of_z (lower_fits b c.before.before.before.before.before.before.before.bounds_of.ensures.good), to_z-of_z (bound_fits _ c.before.before.before.before.before.put-orders-arg.given)) at c.before.before.put-orders.ensures.1), omega (arith, c.before.before.before.before.before.before.before.before.loop-test.true))
 
 same_length : tie.Need-same-length invariant-loop decreases-loop
 same_length c = c.before.loop.invariant.0.long
 
 returns : tie.Need-returns invariant-loop decreases-loop
 returns c =
-    ended c.before.loop.invariant.0 (orders-end (boardOf c.before.before.before.before.args.bytes.now) _ c.before.loop.x (omega (arith, c.loop-test.false, c.before.before.before.before.requires.1)))
+    ended c.before.loop.invariant.0 (orders-end (board_of c.before.before.before.before.args.bytes.now) _ c.before.loop.x (omega (arith, c.loop-test.false, c.before.before.before.before.requires.1)))
 
 pub put-variables-spec : {M : Type 1} → statement M
 put-variables-spec =

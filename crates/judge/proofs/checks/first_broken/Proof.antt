@@ -1,16 +1,16 @@
 -- `judge::checks::first_broken` meets its contract: the rules are the tail of the record.
 use native.Mathlib.Omega.{arith}
 use borrow.Author.Rules.{rules}
-use Rattle.opening.specs.Headers.{rules-inside}
-use Rattle.judge.proofs.Checked.{suiting, rules-are}
+use Rattle.opening.specs.Headers.{rules_inside}
+use Rattle.judge.proofs.Checked.{suiting, rules_are}
 use Rattle.judge.proofs.checks.first_broken.Statement.{statement}
 use Rattle.judge.proofs.checks.first_broken.Tie as tie
 
 sub-first-failing : tie.Need-overflow-sub-first-failing
-sub-first-failing c = rules-inside c.before.before.requires.0.opened
+sub-first-failing c = rules_inside c.before.before.requires.0.opened
 
 part-first-failing-start : tie.Need-slice-bounds-first-failing-start
-part-first-failing-start c = omega (arith, rules-inside c.before.before.requires.0.opened)
+part-first-failing-start c = omega (arith, rules_inside c.before.before.requires.0.opened)
 
 part-first-failing-end : tie.Need-slice-bounds-first-failing-end
 part-first-failing-end c = search rules
@@ -19,7 +19,7 @@ first-failing-requires : tie.Need-first-failing-requires
 first-failing-requires c κs = let p = c.before.before.before.requires in suiting _ _ _ _ p.0 p.1
 
 returns : tie.Need-returns
-returns c = rw (rules-are _ _ _ _ c.before.before.before.before.requires.0) at c.first-failing.ensures
+returns c = rw (rules_are _ _ _ _ c.before.before.before.before.requires.0) at c.first-failing.ensures
 
 pub first-broken-spec : {M : Type 1} → statement M
 first-broken-spec =

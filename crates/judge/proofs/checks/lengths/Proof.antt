@@ -1,14 +1,14 @@
 -- `judge::checks::lengths` meets its contract.
-use Rattle.judge.proofs.Judged.{values-wrong, booleans-wrong, both_long}
+use Rattle.judge.proofs.Judged.{values_wrong, booleans_wrong, both_long}
 use Rattle.judge.proofs.checks.lengths.Statement.{statement}
 use Rattle.judge.proofs.checks.lengths.Tie as tie
 
 returns : tie.Need-returns
 returns c =
-    values-wrong _ _ c.before.args.booleans.now c.if1.true
+    values_wrong _ _ c.before.args.booleans.now c.if1.true
 
 returns-2 : tie.Need-returns-2
-returns-2 c = booleans-wrong _ _ _ c.before.if1.false c.if2.true
+returns-2 c = booleans_wrong _ _ _ c.before.if1.false c.if2.true
 
 returns-3 : tie.Need-returns-3
 returns-3 c = both_long _ _ _ c.before.if1.false c.if2.false

@@ -6,18 +6,18 @@ use Prim.Native.Nat.{◌-◌}
 use borrow.Author.Rules.{rules}
 use Rattle.definitions.specs.Tools.{any}
 use Rattle.definitions.specs.Result.{done}
-use Rattle.definitions.specs.Reading.{times, readLiteral}
+use Rattle.definitions.specs.Reading.{times, read_literal}
 use Rattle.definitions.specs.Meaning.{Assignment, assigned, holds}
-use Rattle.laws.specs.Again.{literalsAt}
+use Rattle.laws.specs.Again.{literals_at}
 use Rattle.judge.specs.Suited.{Suiting}
-use Rattle.judge.proofs.Passing.{none-holds, there, known, others, first_holds}
+use Rattle.judge.proofs.Passing.{none_holds, there, known, others, first_holds}
 use Rattle.judge.proofs.clauses.any_holds.Statement.{statement}
 use Rattle.judge.proofs.clauses.any_holds.Tie as tie
 
 abbrev invariant-loop : tie.invariant-loop
 invariant-loop rules values booleans n at place₀ left₀ place left =
-    Suiting values booleans (λ ctx. times left (readLiteral ctx) rules place ≡ done (literalsAt rules left place))
-    × (any (holds (assigned values booleans)) (literalsAt rules n at).value ≡ any (holds (assigned values booleans)) (literalsAt rules left place).value)
+    Suiting values booleans (λ ctx. times left (read_literal ctx) rules place ≡ done (literals_at rules left place))
+    × (any (holds (assigned values booleans)) (literals_at rules n at).value ≡ any (holds (assigned values booleans)) (literals_at rules left place).value)
 
 abbrev decreases-loop : tie.decreases-loop
 decreases-loop rules values booleans n at place₀ left₀ place left = left
@@ -33,8 +33,8 @@ module _ (h : tie.After-holds invariant-loop decreases-loop) where
   abbrev a : Assignment
   a = assigned s.args.values.now s.args.booleans.now
 
-  decided : {b : Bool} → h.holds.result ≡ b → any (holds a) (literalsAt s.args.rules.now s.args.n s.args.at).value
-      ≡ (b || any (holds a) (literalsAt s.args.rules.now (r.before.before.loop.left - 1) r.literal-again.result.next).value)
+  decided : {b : Bool} → h.holds.result ≡ b → any (holds a) (literals_at s.args.rules.now s.args.n s.args.at).value
+      ≡ (b || any (holds a) (literals_at s.args.rules.now (r.before.before.loop.left - 1) r.literal-again.result.next).value)
   decided e = r.before.before.loop.inv.1 ∙ first_holds r.before.loop-test.taken r.before.before.loop.inv.0 r.literal-again.ensures a (sym e ∙ h.holds.ensures)
 
 loop-holds : tie.Need-loop-init invariant-loop decreases-loop
@@ -61,7 +61,7 @@ loop-again c =
     (others l.before.loop-test.taken l.before.before.loop.inv.0 l.literal-again.ensures, decided c.before c.if1.false)
 
 returns-2 : tie.Need-returns-2 invariant-loop decreases-loop
-returns-2 c = sym (c.before.loop.invariant.1 ∙ none-holds _ _ c.before.loop.left c.before.loop.place (omega arith))
+returns-2 c = sym (c.before.loop.invariant.1 ∙ none_holds _ _ c.before.loop.left c.before.loop.place (omega arith))
 
 pub any-holds-spec : {M : Type 1} → statement M
 any-holds-spec =

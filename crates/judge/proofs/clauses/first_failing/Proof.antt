@@ -4,7 +4,7 @@ use native.Mathlib.Omega.{arith}
 use borrow.Author.Rules.{rules}
 use Rattle.rules.specs.Cursors.{todo, Meets, meets, ends}
 use Rattle.judge.proofs.Bounded.{denied}
-use Rattle.judge.proofs.Passing.{Seeking, seek-start, piece-suits, number-most, seek-fails, seek-on, seek-none}
+use Rattle.judge.proofs.Passing.{Seeking, seek-start, piece_suits, number-most, seek_fails, seek-on, seek_none}
 use Rattle.judge.proofs.clauses.first_failing.Statement.{statement}
 use Rattle.judge.proofs.clauses.first_failing.Tie as tie
 
@@ -43,13 +43,13 @@ enum_told c = search rules
 returns : tie.Need-returns invariant-loop decreases-loop
 returns c =
     let l = c.before.before.before.loop in
-    seek-none l.invariant (ends _ _ _ (c.before.before.next-piece.ensures _ l.invariant.suiting.such) c.enum_told.given.1)
+    seek_none l.invariant (ends _ _ _ (c.before.before.next-piece.ensures _ l.invariant.suiting.such) c.enum_told.given.1)
 
 piece-holds-requires : tie.Need-piece-holds-requires invariant-loop decreases-loop
-piece-holds-requires c κs = let p = c.before in piece-suits (seeking p) (met p)
+piece-holds-requires c κs = let p = c.before in piece_suits (seeking p) (met p)
 
 returns-2 : tie.Need-returns-2 invariant-loop decreases-loop
-returns-2 c = let p = c.before.before.before in seek-fails (seeking p) (met p) (sym (denied c.if1.true) ∙ c.before.piece-holds.ensures)
+returns-2 c = let p = c.before.before.before in seek_fails (seeking p) (met p) (sym (denied c.if1.true) ∙ c.before.piece-holds.ensures)
 
 clauses-in-requires : tie.Need-clauses-in-requires invariant-loop decreases-loop
 clauses-in-requires c κs = search rules

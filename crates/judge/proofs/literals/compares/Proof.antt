@@ -7,15 +7,15 @@ use Rattle.judge.specs.Suited.{product}
 use mir.Facts.{to_z-of_z}
 use borrow.Author.Rules.{rules}
 use Rattle.definitions.specs.Meaning.{assigned, compares}
-use Rattle.laws.specs.Reread.{termsAt}
+use Rattle.laws.specs.Reread.{terms_at}
 use Rattle.slots.specs.Terms.{term_of, term-good}
-use Rattle.judge.proofs.Sums.{Summed, sum-none, sum_is, total-fits, sum_more}
+use Rattle.judge.proofs.Sums.{Summed, sum_none, sum_is, total_fits, sum_more}
 use Rattle.judge.proofs.literals.compares.Statement.{statement}
 use Rattle.judge.proofs.literals.compares.Tie as tie
 
 abbrev invariant-loop : tie.invariant-loop
 invariant-loop rules values place constant n terms sum₀ i₀ sum i =
-    (i ≤ n) × (n ≡ length (termsAt rules place)) × Summed values (termsAt rules place) i sum
+    (i ≤ n) × (n ≡ length (terms_at rules place)) × Summed values (terms_at rules place) i sum
 
 abbrev decreases-loop : tie.decreases-loop
 decreases-loop rules values place constant n terms sum₀ i₀ sum i = i
@@ -25,7 +25,7 @@ terms-at-requires c κs = c.before.requires.1.terms
 
 loop-holds : tie.Need-loop-init invariant-loop decreases-loop
 loop-holds c =
-    (omega arith, c.before.terms-at.ensures.counted, sum-none _ c.before.before.before.requires.0 _ c.before.before.before.requires.1.good.few _ c.before.terms-at.ensures.counted)
+    (omega arith, c.before.terms-at.ensures.counted, sum_none _ c.before.before.before.requires.0 _ c.before.before.before.requires.1.good.few _ c.before.terms-at.ensures.counted)
 
 sub-i : tie.Need-overflow-sub-i invariant-loop decreases-loop
 sub-i c = search rules
@@ -42,7 +42,7 @@ value-of-requires c κs =
 
 add-sum : tie.Need-overflow-add-sum invariant-loop decreases-loop
 add-sum c =
-    total-fits _ c.before.before.before.before.before.before.before.requires.0 _ c.before.before.before.before.before.before.before.requires.1.good.few c.before.before.before.before.before.before.before.requires.1.good.terms _ _ _ _ (omega arith) (omega (arith, c.before.before.before.loop.invariant.1)) c.before.before.before.loop.invariant.2 _ (c.value_of_lem.ensures ∙ ap (product c.before.before.before.before.before.before.before.args.values.now) (term_of _ _ _ _ c.before.before.before.before.before.terms-at.ensures (omega arith)))
+    total_fits _ c.before.before.before.before.before.before.before.requires.0 _ c.before.before.before.before.before.before.before.requires.1.good.few c.before.before.before.before.before.before.before.requires.1.good.terms _ _ _ _ (omega arith) (omega (arith, c.before.before.before.loop.invariant.1)) c.before.before.before.loop.invariant.2 _ (c.value_of_lem.ensures ∙ ap (product c.before.before.before.before.before.before.before.args.values.now) (term_of _ _ _ _ c.before.before.before.before.before.terms-at.ensures (omega arith)))
 
 loop-less : tie.Need-loop-smaller invariant-loop decreases-loop
 loop-less c = search rules

@@ -1,8 +1,8 @@
 -- `judge::literals::value_of` meets its contract: nothing overflows.
 use borrow.Author.Rules.{rules}
 use mir.Facts.{to_z-of_z}
-use Rattle.slots.specs.Terms.{termRead, coefficient-fits}
-use Rattle.judge.proofs.Sums.{value-fits, product-fits}
+use Rattle.slots.specs.Terms.{term_read, coefficient_fits}
+use Rattle.judge.proofs.Sums.{value_fits, product_fits}
 use Rattle.judge.proofs.literals.value_of.Statement.{statement}
 use Rattle.judge.proofs.literals.value_of.Tie as tie
 
@@ -17,14 +17,14 @@ mul-result-2 c =
     let s = c.before.before.before in
     let t = s.args.term in
     let v = s.args.values.now in
-    rw (to_z-of_z (coefficient-fits _ t s.requires.1), to_z-of_z (value-fits v s.requires.0 t.variable)) (product-fits v s.requires.0 (termRead t) s.requires.1)
+    rw (to_z-of_z (coefficient_fits _ t s.requires.1), to_z-of_z (value_fits v s.requires.0 t.variable)) (product_fits v s.requires.0 (term_read t) s.requires.1)
 
 returns : tie.Need-returns
 returns c =
     let s = c.before.before.before in
     let t = s.args.term in
     let v = s.args.values.now in
-    rw (to_z-of_z (coefficient-fits _ t s.requires.1), to_z-of_z (value-fits v s.requires.0 t.variable), to_z-of_z (product-fits v s.requires.0 (termRead t) s.requires.1))
+    rw (to_z-of_z (coefficient_fits _ t s.requires.1), to_z-of_z (value_fits v s.requires.0 t.variable), to_z-of_z (product_fits v s.requires.0 (term_read t) s.requires.1))
 
 pub value-of-spec : {M : Type 1} → statement M
 value-of-spec = tie.close (tie.spec mul-result shared-slice-copy-out-result mul-result-2 returns)

@@ -5,13 +5,13 @@ use Prim.Native.Nat.{◌-◌}
 use native.Mathlib.Omega.{arith}
 use lib.ListN.{length, drop}
 use mir.Facts.{to_z-of_z}
-use Rattle.slots.specs.Variables.{lower-fits, upper_fits}
-use Rattle.reader.proofs.Tests.{bound-fits}
+use Rattle.slots.specs.Variables.{lower_fits, upper_fits}
+use Rattle.reader.proofs.Tests.{bound_fits}
 use borrow.Author.Rules.{rules}
 use Rattle.definitions.specs.Board.{variables}
 use Rattle.definitions.specs.Result.{each}
-use Rattle.definitions.specs.Meaning.{assigned, inBounds}
-use Rattle.laws.specs.Boards.{boardOf}
+use Rattle.definitions.specs.Meaning.{assigned, in_bounds}
+use Rattle.laws.specs.Boards.{board_of}
 use Rattle.laws.specs.Search.{seek, seek-end}
 use Rattle.judge.proofs.Bounded.{variables-count, outside, inside}
 use Rattle.judge.proofs.values.first_outside.Statement.{statement}
@@ -19,7 +19,7 @@ use Rattle.judge.proofs.values.first_outside.Tie as tie
 
 abbrev invariant-loop : tie.invariant-loop
 invariant-loop bytes values x₀ x =
-    seek 14 (inBounds (boardOf bytes) (assigned values [])) x (drop x (variables (boardOf bytes))) ≡ each 14 0 (map (inBounds (boardOf bytes) (assigned values [])) (variables (boardOf bytes)))
+    seek 14 (in_bounds (board_of bytes) (assigned values [])) x (drop x (variables (board_of bytes))) ≡ each 14 0 (map (in_bounds (board_of bytes) (assigned values [])) (variables (board_of bytes)))
 
 abbrev decreases-loop : tie.decreases-loop
 decreases-loop bytes values x₀ x = length values - x
@@ -42,7 +42,7 @@ is-within-requires c κs = search rules
 
 returns : tie.Need-returns invariant-loop decreases-loop
 returns c =
-    sym (outside _ _ _ _ (omega (arith, c.before.before.before.before.before.before.before.before.before.requires.1)) c.before.before.before.before.before.bounds_of.ensures _ (rw (to_z-of_z (lower-fits c.before.before.before.before.before.bounds_of.result c.before.before.before.before.before.bounds_of.ensures.good), to_z-of_z (upper_fits c.before.before.before.before.before.bounds_of.result c.before.before.before.before.before.bounds_of.ensures.good), to_z-of_z (bound-fits _ c.before.before.before.before.is-within-arg.given)) at c.before.is_within.ensures) c.if1.true) ∙ c.before.before.before.before.before.before.before.loop.invariant
+    sym (outside _ _ _ _ (omega (arith, c.before.before.before.before.before.before.before.before.before.requires.1)) c.before.before.before.before.before.bounds_of.ensures _ (rw (to_z-of_z (lower_fits c.before.before.before.before.before.bounds_of.result c.before.before.before.before.before.bounds_of.ensures.good), to_z-of_z (upper_fits c.before.before.before.before.before.bounds_of.result c.before.before.before.before.before.bounds_of.ensures.good), to_z-of_z (bound_fits _ c.before.before.before.before.is-within-arg.given)) at c.before.is_within.ensures) c.if1.true) ∙ c.before.before.before.before.before.before.before.loop.invariant
 
 add-x : tie.Need-overflow-add-x invariant-loop decreases-loop
 add-x c = search rules
@@ -52,11 +52,11 @@ loop-less c = search rules
 
 loop-again : tie.Need-loop-preserved invariant-loop decreases-loop
 loop-again c =
-    sym (inside _ _ _ _ (omega (arith, c.before.before.before.before.before.before.before.before.before.requires.1)) c.before.before.before.before.before.bounds_of.ensures _ (rw (to_z-of_z (lower-fits c.before.before.before.before.before.bounds_of.result c.before.before.before.before.before.bounds_of.ensures.good), to_z-of_z (upper_fits c.before.before.before.before.before.bounds_of.result c.before.before.before.before.before.bounds_of.ensures.good), to_z-of_z (bound-fits _ c.before.before.before.before.is-within-arg.given)) at c.before.is_within.ensures) c.if1.false) ∙ c.before.before.before.before.before.before.before.loop.invariant
+    sym (inside _ _ _ _ (omega (arith, c.before.before.before.before.before.before.before.before.before.requires.1)) c.before.before.before.before.before.bounds_of.ensures _ (rw (to_z-of_z (lower_fits c.before.before.before.before.before.bounds_of.result c.before.before.before.before.before.bounds_of.ensures.good), to_z-of_z (upper_fits c.before.before.before.before.before.bounds_of.result c.before.before.before.before.before.bounds_of.ensures.good), to_z-of_z (bound_fits _ c.before.before.before.before.is-within-arg.given)) at c.before.is_within.ensures) c.if1.false) ∙ c.before.before.before.before.before.before.before.loop.invariant
 
 returns-2 : tie.Need-returns-2 invariant-loop decreases-loop
 returns-2 c =
-    sym (seek-end 14 (inBounds (boardOf c.before.before.before.args.bytes.now) (assigned c.before.before.before.args.values.now [])) (variables (boardOf c.before.before.before.args.bytes.now)) c.before.loop.x (omega (arith, variables-count (boardOf c.before.before.before.args.bytes.now), c.before.before.before.requires.1))) ∙ c.before.loop.invariant
+    sym (seek-end 14 (in_bounds (board_of c.before.before.before.args.bytes.now) (assigned c.before.before.before.args.values.now [])) (variables (board_of c.before.before.before.args.bytes.now)) c.before.loop.x (omega (arith, variables-count (board_of c.before.before.before.args.bytes.now), c.before.before.before.requires.1))) ∙ c.before.loop.invariant
 
 pub first-outside-spec : {M : Type 1} → statement M
 first-outside-spec =

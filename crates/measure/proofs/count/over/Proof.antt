@@ -7,7 +7,7 @@ use Rattle.measure.specs.Places.{over}
 use lib.Signed.{◌≤ℤ◌, yes_non_neg, pos-nat_abs}
 use mir.Facts.{to_z-of_z, Fits-nat_abs}
 use Rattle.laws.specs.Whole.{whole}
-use Rattle.measure.proofs.Tuples.{over-near, over-is}
+use Rattle.measure.proofs.Tuples.{over_near, over_is}
 use Rattle.measure.proofs.count.over.Statement.{statement}
 use Rattle.measure.proofs.count.over.Tie as tie
 
@@ -20,14 +20,14 @@ cast-result c =
 add-result : tie.Need-overflow-add-result
 add-result c =
     let f = c.ranges.t in
-    simp to_z-of_z (omega (arith, ap nat_abs c.requires.1, over-near c.args.c c.requires.0 c.requires.2))
+    simp to_z-of_z (omega (arith, ap nat_abs c.requires.1, over_near c.args.c c.requires.0 c.requires.2))
 
 returns : tie.Need-returns
 returns c =
     let f = c.ranges.t in
     let s : pos 0 ≤ℤ c.args.t = omega (whole, c.requires.1, c.requires.2) in
-    let e : nat_abs c.args.t + 1 ≡ over c.args.c = over-is c.args.c c.requires.0 c.requires.2 _ (pos-nat_abs c.args.t (yes_non_neg s) ∙ c.requires.1) in
-    simp to_z-of_z (e, omega (arith, e, ap nat_abs c.requires.1, over-near c.args.c c.requires.0 c.requires.2))
+    let e : nat_abs c.args.t + 1 ≡ over c.args.c = over_is c.args.c c.requires.0 c.requires.2 _ (pos-nat_abs c.args.t (yes_non_neg s) ∙ c.requires.1) in
+    simp to_z-of_z (e, omega (arith, e, ap nat_abs c.requires.1, over_near c.args.c c.requires.0 c.requires.2))
 
 pub over-spec : {M : Type 1} → statement M
 over-spec = tie.close (tie.spec cast-result add-result returns)

@@ -3,7 +3,7 @@ use mathlib.Core.Path.{sym}
 use native.Mathlib.Nat.{mul-le-mul}
 use native.Mathlib.Omega.{arith}
 use Prim.Native.Nat.{◌+◌, ◌≤◌, ◌^◌}
-use Rattle.laws.specs.Counting.{tri-is, tri-fits}
+use Rattle.laws.specs.Counting.{tri_is, tri_fits}
 use borrow.Author.Rules.{rules}
 use Rattle.measure.proofs.count.triangle.Statement.{statement}
 use Rattle.measure.proofs.count.triangle.Tie as tie
@@ -17,7 +17,7 @@ mul-result c =
 
 returns : tie.Need-returns
 returns c =
-    (sym (tri-is c.args.u), rw (← tri-is c.args.u) (tri-fits c.args.u c.requires))
+    (sym (tri_is c.args.u), rw (← tri_is c.args.u) (tri_fits c.args.u c.requires))
 
 pub triangle-spec : {M : Type 1} → statement M
 triangle-spec = tie.close (tie.spec add-result mul-result returns)

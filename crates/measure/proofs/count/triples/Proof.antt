@@ -1,6 +1,6 @@
 -- `measure::count::triples` meets its contract.
 use native.Mathlib.Omega.{arith}
-use Rattle.measure.proofs.Formula.{no-fewer, triples-are}
+use Rattle.measure.proofs.Formula.{no_fewer, triples_are}
 use borrow.Author.Rules.{rules}
 use Rattle.measure.proofs.count.triples.Statement.{statement}
 use Rattle.measure.proofs.count.triples.Tie as tie
@@ -64,11 +64,11 @@ add-fewer-3 c = search rules
 
 sub-result : tie.Need-overflow-sub-result
 sub-result c =
-    omega (arith, no-fewer c.before.before.before.before.before.before.before.before.args.u c.before.before.before.before.before.before.before.before.args.a c.before.before.before.before.before.before.before.before.args.b c.before.before.before.before.before.before.before.before.args.c c.before.before.before.before.before.before.before.before.requires.sum c.before.before.before.before.before.before.before.before.requires.first.0 c.before.before.before.before.before.before.before.before.requires.second.0 c.before.before.before.before.before.before.before.before.requires.third.0)
+    omega (arith, no_fewer c.before.before.before.before.before.before.before.before.args.u c.before.before.before.before.before.before.before.before.args.a c.before.before.before.before.before.before.before.before.args.b c.before.before.before.before.before.before.before.before.args.c c.before.before.before.before.before.before.before.before.requires.sum c.before.before.before.before.before.before.before.before.requires.first.0 c.before.before.before.before.before.before.before.before.requires.second.0 c.before.before.before.before.before.before.before.before.requires.third.0)
 
 returns : tie.Need-returns
 returns c =
-    omega (arith, triples-are c.before.before.before.before.before.before.before.before.args.u c.before.before.before.before.before.before.before.before.args.a c.before.before.before.before.before.before.before.before.args.b c.before.before.before.before.before.before.before.before.args.c)
+    omega (arith, triples_are c.before.before.before.before.before.before.before.before.args.u c.before.before.before.before.before.before.before.before.args.a c.before.before.before.before.before.before.before.before.args.b c.before.before.before.before.before.before.before.before.args.c)
 
 pub triples-spec : {M : Type 1} → statement M
 triples-spec =

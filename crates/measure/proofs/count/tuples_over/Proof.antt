@@ -2,7 +2,7 @@
 use mathlib.Core.Path.{sym, ◌∙◌}
 use native.Mathlib.Omega.{arith}
 use mir.Facts.{to_z-of_z}
-use Rattle.measure.proofs.Tuples.{wide-some, over-some, tuples-are}
+use Rattle.measure.proofs.Tuples.{wide_some, over_some, tuples_are}
 use borrow.Author.Rules.{rules}
 use Rattle.measure.proofs.count.tuples_over.Statement.{statement}
 use Rattle.measure.proofs.count.tuples_over.Tie as tie
@@ -22,16 +22,16 @@ wide-requires-3 c κs = search rules
 triples-requires : tie.Need-triples-requires
 triples-requires c κs =
     record {
-      sum = omega (arith, c.before.before.before.over.ensures.0, over-some c.before.before.before.before.args.c);
+      sum = omega (arith, c.before.before.before.over.ensures.0, over_some c.before.before.before.before.args.c);
       small = c.before.before.before.over.ensures.1;
-      first = (omega (arith, c.before.before.wide.ensures.0, wide-some c.before.before.before.before.args.c 0), c.before.before.wide.ensures.1);
-      second = (omega (arith, c.before.wide2.ensures.0, wide-some c.before.before.before.before.args.c 1), c.before.wide2.ensures.1);
-      third = (omega (arith, c.wide3.ensures.0, wide-some c.before.before.before.before.args.c 2), c.wide3.ensures.1);
+      first = (omega (arith, c.before.before.wide.ensures.0, wide_some c.before.before.before.before.args.c 0), c.before.before.wide.ensures.1);
+      second = (omega (arith, c.before.wide2.ensures.0, wide_some c.before.before.before.before.args.c 1), c.before.wide2.ensures.1);
+      third = (omega (arith, c.wide3.ensures.0, wide_some c.before.before.before.before.args.c 2), c.wide3.ensures.1);
     }
 
 returns : tie.Need-returns
 returns c =
-    rw (c.before.before.before.before.over.ensures.0, c.before.before.before.wide.ensures.0, c.before.before.wide2.ensures.0, c.before.wide3.ensures.0) at c.triples.ensures ∙ sym (tuples-are c.before.before.before.before.before.args.c c.before.before.before.before.before.requires.0 c.before.before.before.before.before.requires.2)
+    rw (c.before.before.before.before.over.ensures.0, c.before.before.before.wide.ensures.0, c.before.before.wide2.ensures.0, c.before.wide3.ensures.0) at c.triples.ensures ∙ sym (tuples_are c.before.before.before.before.before.args.c c.before.before.before.before.before.requires.0 c.before.before.before.before.before.requires.2)
 
 pub tuples-over-spec : {M : Type 1} → statement M
 tuples-over-spec =

@@ -4,9 +4,9 @@ use mir.Syntax.{w32}
 use mir.Val.{SFits}
 use mir.Facts.{to_z-of_z}
 use Rattle.laws.specs.Whole.{whole, back}
-use Rattle.laws.specs.Boards.{opens-admitted}
+use Rattle.laws.specs.Boards.{opens_admitted}
 use Rattle.walk.specs.Comparisons.{below-least, from-least}
-use Rattle.measure.proofs.Shares.{share-below, share-reached, share-fits}
+use Rattle.measure.proofs.Shares.{share_below, share_reached, share_fits}
 use borrow.Author.Rules.{rules}
 use Rattle.measure.proofs.pieces.comparison_share.Statement.{statement}
 use Rattle.measure.proofs.pieces.comparison_share.Tie as tie
@@ -30,7 +30,7 @@ returns c =
     let f = c.before.before.before.before.before.before.ranges.constant in
     let l : SFits w32 c.before.over-least.result = record { sfits = c.before.over-least.type-inv } in
     let r = rw (to_z-of_z f) at c.before.before.ready.ensures in
-    share-below _ (opens-admitted _ c.before.before.before.before.before.before.requires.0) _ c.before.before.before.before.before.before.requires.1.good _ r (below-least c.before.before.ready.result (omega (whole, back l, c.before.over-least.ensures))) _
+    share_below _ (opens_admitted _ c.before.before.before.before.before.before.requires.0) _ c.before.before.before.before.before.before.requires.1.good _ r (below-least c.before.before.ready.result (omega (whole, back l, c.before.over-least.ensures))) _
 
 tuples-over-requires : tie.Need-tuples-over-requires
 tuples-over-requires c κs =
@@ -50,14 +50,14 @@ mul-t17 c =
     let f = c.before.before.before.before.before.before.before.ranges.constant in
     let l : SFits w32 c.before.before.over-least.result = record { sfits = c.before.before.over-least.type-inv } in
     let r = rw (to_z-of_z f) at c.before.before.before.ready.ensures in
-    omega (arith, share-fits _ (opens-admitted _ c.before.before.before.before.before.before.before.requires.0) _ c.before.before.before.before.before.before.before.requires.1.good _ r (from-least c.before.before.before.ready.result (omega (whole, back l, c.before.before.over-least.ensures))) _ _ c.before.before.before.before.before.before.before.requires.2 c.tuples-over.ensures)
+    omega (arith, share_fits _ (opens_admitted _ c.before.before.before.before.before.before.before.requires.0) _ c.before.before.before.before.before.before.before.requires.1.good _ r (from-least c.before.before.before.ready.result (omega (whole, back l, c.before.before.over-least.ensures))) _ _ c.before.before.before.before.before.before.before.requires.2 c.tuples-over.ensures)
 
 returns-2 : tie.Need-returns-2
 returns-2 c =
     let f = c.before.before.before.before.before.before.before.ranges.constant in
     let l : SFits w32 c.before.before.over-least.result = record { sfits = c.before.before.over-least.type-inv } in
     let r = rw (to_z-of_z f) at c.before.before.before.ready.ensures in
-    share-reached _ (opens-admitted _ c.before.before.before.before.before.before.before.requires.0) _ c.before.before.before.before.before.before.before.requires.1.good _ r (from-least c.before.before.before.ready.result (omega (whole, back l, c.before.before.over-least.ensures))) _ _ c.tuples-over.ensures
+    share_reached _ (opens_admitted _ c.before.before.before.before.before.before.before.requires.0) _ c.before.before.before.before.before.before.before.requires.1.good _ r (from-least c.before.before.before.ready.result (omega (whole, back l, c.before.before.over-least.ensures))) _ _ c.tuples-over.ensures
 
 pub comparison-share-spec : {M : Type 1} → statement M
 comparison-share-spec =

@@ -5,7 +5,7 @@ use native.Mathlib.Omega.{arith}
 use mir.Facts.{to_z-of_z}
 use Rattle.definitions.specs.Encoding.{selector, minus}
 use Rattle.laws.specs.Fits.{good-constant}
-use Rattle.measure.proofs.Shares.{line-fits, line-share}
+use Rattle.measure.proofs.Shares.{line_fits, line_share}
 use borrow.Author.Rules.{rules}
 use Rattle.measure.proofs.pieces.share_of.Statement.{statement}
 use Rattle.measure.proofs.pieces.share_of.Tie as tie
@@ -15,7 +15,7 @@ enum-known-piece c = search rules
 
 add-t11 : tie.Need-overflow-add-t11
 add-t11 c =
-    line-fits _ _ _ _ _ (rw c.before.piece.given.1 at c.before.before.before.before.before.requires.2)
+    line_fits _ _ _ _ _ (rw c.before.piece.given.1 at c.before.before.before.before.before.requires.2)
 
 enum-known-piece-2 : tie.Need-enum-known-piece-2
 enum-known-piece-2 c = search rules
@@ -35,7 +35,7 @@ comparison-share-requires-2 c κs =
 
 returns : tie.Need-returns
 returns c =
-    rw c.before.piece.given.1 (line-share _ _ _ _ _)
+    rw c.before.piece.given.1 (line_share _ _ _ _ _)
 
 returns-2 : tie.Need-returns-2
 returns-2 c =

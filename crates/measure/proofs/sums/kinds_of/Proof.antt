@@ -1,8 +1,8 @@
 -- `measure::sums::kinds_of` meets its contract.
 use borrow.Author.Rules.{rules}
 use native.Mathlib.Omega.{arith}
-use Rattle.opening.specs.Headers.{ints-is, bools-is, recorded}
-use Rattle.measure.proofs.Numbers.{first-is, axioms-fit, kinds-are}
+use Rattle.opening.specs.Headers.{ints_is, bools_is, recorded}
+use Rattle.measure.proofs.Numbers.{first_is, axioms_fit, kinds_are}
 use Rattle.measure.proofs.sums.kinds_of.Statement.{statement}
 use Rattle.measure.proofs.sums.kinds_of.Tie as tie
 
@@ -10,7 +10,7 @@ tail-share-requires : tie.Need-tail-share-requires
 tail-share-requires c κs = search rules
 
 first-number-requires : tie.Need-first-number-requires
-first-number-requires c κs = let o = c.before.before.requires in (o.opens, bools-is o, omega (arith, ints-is o))
+first-number-requires c κs = let o = c.before.before.requires in (o.opens, bools_is o, omega (arith, ints_is o))
 
 cast-widths : tie.Need-overflow-cast-widths
 cast-widths c = search rules
@@ -18,19 +18,19 @@ cast-widths c = search rules
 sub-widths : tie.Need-overflow-sub-widths
 sub-widths c =
     let s = c.before.before.before in
-    omega (arith, first-is _ (recorded s.requires) _ s.requires.header _ c.before.tail-share.ensures _ c.first-number.ensures)
+    omega (arith, first_is _ (recorded s.requires) _ s.requires.header _ c.before.tail-share.ensures _ c.first-number.ensures)
 
 sub-widths-2 : tie.Need-overflow-sub-widths-2
 sub-widths-2 c =
     let f = c.before in
     let s = f.before.before.before in
-    omega (arith, first-is _ (recorded s.requires) _ s.requires.header _ f.before.tail-share.ensures _ f.first-number.ensures)
+    omega (arith, first_is _ (recorded s.requires) _ s.requires.header _ f.before.tail-share.ensures _ f.first-number.ensures)
 
 add-t7 : tie.Need-overflow-add-t7
 add-t7 c =
     let f = c.before.before in
     let s = f.before.before.before in
-    omega (arith, axioms-fit _ (recorded s.requires) _ s.requires.header _ f.before.tail-share.ensures _ f.first-number.ensures)
+    omega (arith, axioms_fit _ (recorded s.requires) _ s.requires.header _ f.before.tail-share.ensures _ f.first-number.ensures)
 
 mul-t8 : tie.Need-overflow-mul-t8
 mul-t8 c = search rules
@@ -39,13 +39,13 @@ add-t9 : tie.Need-overflow-add-t9
 add-t9 c =
     let f = c.before.before.before in
     let s = f.before.before.before in
-    omega (arith, axioms-fit _ (recorded s.requires) _ s.requires.header _ f.before.tail-share.ensures _ f.first-number.ensures)
+    omega (arith, axioms_fit _ (recorded s.requires) _ s.requires.header _ f.before.tail-share.ensures _ f.first-number.ensures)
 
 returns : tie.Need-returns
 returns c =
     let f = c.before.before.before in
     let s = f.before.before.before in
-    kinds-are _ (recorded s.requires) _ s.requires.header _ f.before.tail-share.ensures _ f.first-number.ensures
+    kinds_are _ (recorded s.requires) _ s.requires.header _ f.before.tail-share.ensures _ f.first-number.ensures
 
 pub kinds-of-spec : {M : Type 1} → statement M
 kinds-of-spec =

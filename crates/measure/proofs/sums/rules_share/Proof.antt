@@ -2,19 +2,19 @@
 use borrow.Author.Rules.{rules}
 use mathlib.Core.List.{◌∷◌}
 use Rattle.definitions.specs.Board.{bounds_of}
-use Rattle.laws.specs.Boards.{boardOf, opens-recorded}
+use Rattle.laws.specs.Boards.{board_of, opens_recorded}
 use Rattle.laws.specs.Reread.{context_of}
-use Rattle.laws.specs.Pieces.{piecesFrom}
-use Rattle.rules.specs.Cursors.{saidPiece, Sound, comingAt, todo, Meets, meets, ends}
+use Rattle.laws.specs.Pieces.{pieces_from}
+use Rattle.rules.specs.Cursors.{said_piece, Sound, coming_at, todo, Meets, meets, ends}
 use Rattle.rules.specs.Known.{starts, all-coming}
 use Rattle.measure.specs.Shares.{Adding}
-use Rattle.measure.proofs.Shares.{none-added, still-adding, adding-more, next_fits, plus-fits}
+use Rattle.measure.proofs.Shares.{none_added, still_adding, adding-more, next_fits, plus_fits}
 use Rattle.measure.proofs.sums.rules_share.Statement.{statement}
 use Rattle.measure.proofs.sums.rules_share.Tie as tie
 
 abbrev invariant-loop : tie.invariant-loop
 invariant-loop bytes clauses rules total₀ cursor₀ total cursor =
-    Sound (context_of (boardOf bytes)) rules cursor × Adding (bounds_of (boardOf bytes)) (piecesFrom 0 (boardOf bytes).clauses) (comingAt rules cursor) total
+    Sound (context_of (board_of bytes)) rules cursor × Adding (bounds_of (board_of bytes)) (pieces_from 0 (board_of bytes).clauses) (coming_at rules cursor) total
 
 abbrev decreases-loop : tie.decreases-loop
 decreases-loop bytes clauses rules total₀ cursor₀ total cursor = todo cursor
@@ -24,17 +24,17 @@ module _ (p : tie.After-piece invariant-loop decreases-loop) where
   abbrev s : tie.Start invariant-loop decreases-loop
   s = p.before.before.before.before.before.before.before
 
-  met : Meets (context_of (boardOf s.args.bytes.now)) s.args.rules.now p.before.before.before.loop.cursor p.piece.given.0.0 p.piece.given.0.1.0
+  met : Meets (context_of (board_of s.args.bytes.now)) s.args.rules.now p.before.before.before.loop.cursor p.piece.given.0.0 p.piece.given.0.1.0
   met = meets _ _ _ (p.before.before.next-piece.ensures _ p.before.before.before.loop.inv.0) p.piece.given.1
 
-  adding : Adding (bounds_of (boardOf s.args.bytes.now)) (piecesFrom 0 (boardOf s.args.bytes.now).clauses) (saidPiece s.args.rules.now p.piece.given.0.0 ∷ comingAt s.args.rules.now p.piece.given.0.1.0) p.before.before.before.loop.total
-  adding = still-adding _ _ met.comes p.before.before.before.loop.inv.1
+  adding : Adding (bounds_of (board_of s.args.bytes.now)) (pieces_from 0 (board_of s.args.bytes.now).clauses) (said_piece s.args.rules.now p.piece.given.0.0 ∷ coming_at s.args.rules.now p.piece.given.0.1.0) p.before.before.before.loop.total
+  adding = still_adding _ _ met.comes p.before.before.before.loop.inv.1
 
 start-requires : tie.Need-start-requires invariant-loop decreases-loop
 start-requires c κs = search rules
 
 loop-holds : tie.Need-loop-init invariant-loop decreases-loop
-loop-holds c = let p = c.before.before.before.requires in rw c.start.ensures (starts p.0 p.1, none-added _ _ (all-coming p.0 p.1))
+loop-holds c = let p = c.before.before.before.requires in rw c.start.ensures (starts p.0 p.1, none_added _ _ (all-coming p.0 p.1))
 
 next-piece-requires : tie.Need-next-piece-requires invariant-loop decreases-loop
 next-piece-requires c κs = (_, c.loop.invariant.0)
@@ -48,18 +48,18 @@ enum_told c = search rules
 returns : tie.Need-returns invariant-loop decreases-loop
 returns c =
     let l = c.before.before.before.loop in
-    still-adding _ _ (ends _ _ _ (c.before.before.next-piece.ensures _ l.invariant.0) c.enum_told.given.1) l.invariant.1
+    still_adding _ _ (ends _ _ _ (c.before.before.next-piece.ensures _ l.invariant.0) c.enum_told.given.1) l.invariant.1
 
 share-of-requires : tie.Need-share-of-requires invariant-loop decreases-loop
 share-of-requires c κs =
     let p = c.before in
     let o = (s p).requires.0.opens in
-    (o, (met p).held, next_fits _ (opens-recorded _ o) _ _ _ (adding p))
+    (o, (met p).held, next_fits _ (opens_recorded _ o) _ _ _ (adding p))
 
 and-requires : tie.Need-and-requires invariant-loop decreases-loop
 and-requires c κs =
     let p = c.before.before in
-    plus-fits _ (opens-recorded _ (s p).requires.0.opens) _ _ _ (adding p) _ c.share-of.ensures
+    plus_fits _ (opens_recorded _ (s p).requires.0.opens) _ _ _ (adding p) _ c.share-of.ensures
 
 loop-less : tie.Need-loop-smaller invariant-loop decreases-loop
 loop-less c = (met c.before.before.before).onward.less

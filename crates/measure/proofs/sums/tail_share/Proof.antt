@@ -1,22 +1,22 @@
 -- `measure::sums::tail_share` meets its contract.
 use native.Mathlib.Omega.{arith}
 use borrow.Author.Rules.{rules}
-use Rattle.opening.specs.Headers.{clauses-is, rules-inside}
+use Rattle.opening.specs.Headers.{clauses_is, rules_inside}
 use Rattle.measure.proofs.Numbers.{known}
 use Rattle.measure.proofs.sums.tail_share.Statement.{statement}
 use Rattle.measure.proofs.sums.tail_share.Tie as tie
 
 sub-rules-share : tie.Need-overflow-sub-rules-share
-sub-rules-share c = rules-inside c.before.requires
+sub-rules-share c = rules_inside c.before.requires
 
 part-rules-share-start : tie.Need-slice-bounds-rules-share-start
-part-rules-share-start c = omega (arith, rules-inside c.before.requires)
+part-rules-share-start c = omega (arith, rules_inside c.before.requires)
 
 part-rules-share-end : tie.Need-slice-bounds-rules-share-end
 part-rules-share-end c = search rules
 
 rules-share-requires : tie.Need-rules-share-requires
-rules-share-requires c κs = let o = c.before.before.requires in (known o, clauses-is o)
+rules-share-requires c κs = let o = c.before.before.requires in (known o, clauses_is o)
 
 returns : tie.Need-returns
 returns c = search rules

@@ -2,7 +2,7 @@
 use borrow.Author.Rules.{rules}
 use native.Mathlib.Omega.{arith}
 use Rattle.opening.specs.Headers.{recorded}
-use Rattle.measure.proofs.Numbers.{n-fits, m-fits, k-fits, totals-are}
+use Rattle.measure.proofs.Numbers.{n_fits, m_fits, k_fits, totals_are}
 use Rattle.measure.proofs.sums.totals_of.Statement.{statement}
 use Rattle.measure.proofs.sums.totals_of.Tie as tie
 
@@ -13,31 +13,31 @@ add-t6 : tie.Need-overflow-add-t6
 add-t6 c =
     let k = c.before.before.before in
     let s = k.before.before in
-    omega (arith, n-fits _ (recorded s.requires) _ k.kinds-of.ensures)
+    omega (arith, n_fits _ (recorded s.requires) _ k.kinds-of.ensures)
 
 add-t7 : tie.Need-overflow-add-t7
 add-t7 c =
     let k = c.before.before.before.before in
     let s = k.before.before in
-    omega (arith, n-fits _ (recorded s.requires) _ k.kinds-of.ensures)
+    omega (arith, n_fits _ (recorded s.requires) _ k.kinds-of.ensures)
 
 add-t8 : tie.Need-overflow-add-t8
 add-t8 c =
     let k = c.before.before.before.before.before.before in
     let s = k.before.before in
-    omega (arith, m-fits _ (recorded s.requires) _ k.kinds-of.ensures)
+    omega (arith, m_fits _ (recorded s.requires) _ k.kinds-of.ensures)
 
 add-t9 : tie.Need-overflow-add-t9
 add-t9 c =
     let k = c.before.before.before.before.before.before.before.before in
     let s = k.before.before in
-    omega (arith, k-fits _ (recorded s.requires) _ k.kinds-of.ensures)
+    omega (arith, k_fits _ (recorded s.requires) _ k.kinds-of.ensures)
 
 returns : tie.Need-returns
 returns c =
     let k = c.before.before.before.before.before.before.before.before in
     let s = k.before.before in
-    totals-are _ (recorded s.requires) _ k.kinds-of.ensures
+    totals_are _ (recorded s.requires) _ k.kinds-of.ensures
 
 pub totals-of-spec : {M : Type 1} → statement M
 totals-of-spec = tie.close (tie.spec kinds-of-requires add-t6 add-t7 add-t8 add-t9 returns)

@@ -1,10 +1,10 @@
 -- The counts, the table and the clauses, each where the one before it ends.
 use borrow.Author.Rules.{rules}
 use Rattle.fields.proofs.Laws.{told}
-use Rattle.reader.specs.Said.{saidStep}
-use Rattle.opening.specs.Said.{saidCounts}
-use Rattle.opening.specs.Parts.{headerFrom}
-use Rattle.opening.proofs.Opened.{table-inside, counts-got}
+use Rattle.reader.specs.Said.{said_step}
+use Rattle.opening.specs.Said.{said_counts}
+use Rattle.opening.specs.Parts.{header_from}
+use Rattle.opening.proofs.Opened.{table_inside, counts_got}
 use Rattle.opening.proofs.body.header_at.Statement.{statement}
 use Rattle.opening.proofs.body.header_at.Tie as tie
 
@@ -21,9 +21,9 @@ of-counts-requires : tie.Need-of-counts-requires
 of-counts-requires c κs = search rules
 
 returns : tie.Need-returns
-unfolding headerFrom
+unfolding header_from
 returns c =
-    rw (told saidCounts c.before.before.before.counts-at.ensures c.of-counts.ensures)
+    rw (told said_counts c.before.before.before.counts-at.ensures c.of-counts.ensures)
 
 past-table-requires : tie.Need-past-table-requires
 past-table-requires c κs = search rules
@@ -38,9 +38,9 @@ of-step-requires : tie.Need-of-step-requires
 of-step-requires c κs = search rules
 
 returns-2 : tie.Need-returns-2
-unfolding headerFrom
+unfolding header_from
 returns-2 c =
-    rw (told saidCounts c.before.before.before.before.before.before.before.counts-at.ensures c.before.before.before.before.before.counted.given.1, told saidStep c.before.before.before.past-table.ensures c.of-step.ensures)
+    rw (told said_counts c.before.before.before.before.before.before.before.counts-at.ensures c.before.before.before.before.before.counted.given.1, told said_step c.before.before.before.past-table.ensures c.of-step.ensures)
 
 cast-t13 : tie.Need-overflow-cast-t13
 cast-t13 c = search rules
@@ -54,8 +54,8 @@ cast-t15 c = search rules
 past-rules-requires : tie.Need-past-rules-requires
 past-rules-requires c κs =
     let a = c.before.before.before.before.before.before.before.before.before.before.before.before.args in
-    let g = counts-got a.bytes.now a.at (told saidCounts c.before.before.before.before.before.before.before.before.before.before.counts-at.ensures c.before.before.before.before.before.before.before.before.counted.given.1) in
-    (table-inside c.before.before.before.before.before.before.before.before.counted.given.0.0.ints a.bytes.now _ g.inside (told saidStep c.before.before.before.before.before.before.past-table.ensures c.before.before.before.before.passed.given.1), g.few)
+    let g = counts_got a.bytes.now a.at (told said_counts c.before.before.before.before.before.before.before.before.before.before.counts-at.ensures c.before.before.before.before.before.before.before.before.counted.given.1) in
+    (table_inside c.before.before.before.before.before.before.before.before.counted.given.0.0.ints a.bytes.now _ g.inside (told said_step c.before.before.before.before.before.before.past-table.ensures c.before.before.before.before.passed.given.1), g.few)
 
 enum-told-3 : tie.Need-enum-told-3
 enum-told-3 c = search rules
@@ -67,14 +67,14 @@ of-step-requires-2 : tie.Need-of-step-requires-2
 of-step-requires-2 c κs = search rules
 
 returns-3 : tie.Need-returns-3
-unfolding headerFrom
+unfolding header_from
 returns-3 c =
-    rw (told saidCounts c.before.before.before.before.before.before.before.before.before.before.before.before.before.before.counts-at.ensures c.before.before.before.before.before.before.before.before.before.before.before.before.counted.given.1, told saidStep c.before.before.before.before.before.before.before.before.before.before.past-table.ensures c.before.before.before.before.before.before.before.before.passed.given.1, told saidStep c.before.before.before.past-rules.ensures c.of-step2.ensures)
+    rw (told said_counts c.before.before.before.before.before.before.before.before.before.before.before.before.before.before.counts-at.ensures c.before.before.before.before.before.before.before.before.before.before.before.before.counted.given.1, told said_step c.before.before.before.before.before.before.before.before.before.before.past-table.ensures c.before.before.before.before.before.before.before.before.passed.given.1, told said_step c.before.before.before.past-rules.ensures c.of-step2.ensures)
 
 returns-4 : tie.Need-returns-4
-unfolding headerFrom
+unfolding header_from
 returns-4 c =
-    rw (told saidCounts c.before.before.before.before.before.before.before.before.before.before.before.before.before.counts-at.ensures c.before.before.before.before.before.before.before.before.before.before.before.counted.given.1, told saidStep c.before.before.before.before.before.before.before.before.before.past-table.ensures c.before.before.before.before.before.before.before.passed.given.1, told saidStep c.before.before.past-rules.ensures c.enum-told3.given.1)
+    rw (told said_counts c.before.before.before.before.before.before.before.before.before.before.before.before.before.counts-at.ensures c.before.before.before.before.before.before.before.before.before.before.before.counted.given.1, told said_step c.before.before.before.before.before.before.before.before.before.past-table.ensures c.before.before.before.before.before.before.before.passed.given.1, told said_step c.before.before.past-rules.ensures c.enum-told3.given.1)
 
 pub header-at-spec : {M : Type 1} → statement M
 header-at-spec =

@@ -3,8 +3,8 @@ use borrow.Author.Rules.{rules}
 use mathlib.Core.Path.{sym}
 use native.Mathlib.Omega.{arith}
 use Rattle.fields.proofs.Laws.{told}
-use Rattle.reader.specs.Said.{saidStep}
-use Rattle.opening.proofs.Moved.{fault-inside, rules-refused, end-inside, rules-left-over, rules-done}
+use Rattle.reader.specs.Said.{said_step}
+use Rattle.opening.proofs.Moved.{fault_inside, rules_refused, end_inside, rules-left-over, rules_done}
 use Rattle.opening.proofs.body.past_rules.Statement.{statement}
 use Rattle.opening.proofs.body.past_rules.Tie as tie
 
@@ -34,23 +34,23 @@ of-step-requires c κs = search rules
 
 add-t14 : tie.Need-overflow-add-t14
 add-t14 c =
-    omega (arith, fault-inside c.before.before.before.before.before.before.before.before.args.header c.before.before.before.before.before.before.before.before.args.bytes.now c.before.before.before.before.before.before.before.before.requires.0 _ c.before.before.before.before.before.context-of.ensures (told saidStep c.before.before.before.before.past-clauses.ensures c.before.of-step.ensures))
+    omega (arith, fault_inside c.before.before.before.before.before.before.before.before.args.header c.before.before.before.before.before.before.before.before.args.bytes.now c.before.before.before.before.before.before.before.before.requires.0 _ c.before.before.before.before.before.context-of.ensures (told said_step c.before.before.before.before.past-clauses.ensures c.before.of-step.ensures))
 
 returns : tie.Need-returns
 returns c =
-    sym (rules-refused _ _ c.before.before.before.before.before.before.before.before.requires.0 _ c.before.before.before.before.before.context-of.ensures (told saidStep c.before.before.before.before.past-clauses.ensures c.before.of-step.ensures))
+    sym (rules_refused _ _ c.before.before.before.before.before.before.before.before.requires.0 _ c.before.before.before.before.before.context-of.ensures (told said_step c.before.before.before.before.past-clauses.ensures c.before.of-step.ensures))
 
 add-place : tie.Need-overflow-add-place
 add-place c =
-    omega (arith, end-inside c.before.before.before.before.before.before.before.args.header c.before.before.before.before.before.before.before.args.bytes.now c.before.before.before.before.before.before.before.requires.0 _ c.before.before.before.before.context-of.ensures (told saidStep c.before.before.before.past-clauses.ensures c.before.passed.given.1))
+    omega (arith, end_inside c.before.before.before.before.before.before.before.args.header c.before.before.before.before.before.before.before.args.bytes.now c.before.before.before.before.before.before.before.requires.0 _ c.before.before.before.before.context-of.ensures (told said_step c.before.before.before.past-clauses.ensures c.before.passed.given.1))
 
 returns-2 : tie.Need-returns-2
 returns-2 c =
-    sym (rules-left-over _ _ c.before.before.before.before.before.before.before.before.requires.0 _ c.before.before.before.before.before.context-of.ensures (told saidStep c.before.before.before.before.past-clauses.ensures c.before.before.passed.given.1) c.if1.true)
+    sym (rules-left-over _ _ c.before.before.before.before.before.before.before.before.requires.0 _ c.before.before.before.before.before.context-of.ensures (told said_step c.before.before.before.before.past-clauses.ensures c.before.before.passed.given.1) c.if1.true)
 
 returns-3 : tie.Need-returns-3
 returns-3 c =
-    sym (rules-done _ _ c.before.before.before.before.before.before.before.before.requires.0 _ c.before.before.before.before.before.context-of.ensures (told saidStep c.before.before.before.before.past-clauses.ensures c.before.before.passed.given.1) c.if1.false)
+    sym (rules_done _ _ c.before.before.before.before.before.before.before.before.requires.0 _ c.before.before.before.before.before.context-of.ensures (told said_step c.before.before.before.before.past-clauses.ensures c.before.before.passed.given.1) c.if1.false)
 
 pub past-rules-spec : {M : Type 1} → statement M
 past-rules-spec =

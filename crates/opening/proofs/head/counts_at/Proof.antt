@@ -1,8 +1,8 @@
 -- One count after another.
 use borrow.Author.Rules.{rules}
 use Rattle.fields.proofs.Laws.{told}
-use Rattle.reader.specs.Said.{saidNumber}
-use Rattle.opening.specs.Parts.{readCounts}
+use Rattle.reader.specs.Said.{said_number}
+use Rattle.opening.specs.Parts.{read_counts}
 use Rattle.opening.proofs.head.counts_at.Statement.{statement}
 use Rattle.opening.proofs.head.counts_at.Tie as tie
 
@@ -19,9 +19,9 @@ of-number-requires : tie.Need-of-number-requires
 of-number-requires c κs = search rules
 
 returns : tie.Need-returns
-unfolding readCounts
+unfolding read_counts
 returns c =
-    rw (told saidNumber c.before.before.before.count_at.ensures c.of_number.ensures)
+    rw (told said_number c.before.before.before.count_at.ensures c.of_number.ensures)
 
 count-at-requires-2 : tie.Need-count-at-requires-2
 count-at-requires-2 c κs = search rules
@@ -36,9 +36,9 @@ of-number-requires-2 : tie.Need-of-number-requires-2
 of-number-requires-2 c κs = search rules
 
 returns-2 : tie.Need-returns-2
-unfolding readCounts
+unfolding read_counts
 returns-2 c =
-    rw (told saidNumber c.before.before.before.before.before.before.before.count_at.ensures c.before.before.before.before.before.first.given.1, told saidNumber c.before.before.before.count-at2.ensures c.of-number2.ensures)
+    rw (told said_number c.before.before.before.before.before.before.before.count_at.ensures c.before.before.before.before.before.first.given.1, told said_number c.before.before.before.count-at2.ensures c.of-number2.ensures)
 
 count-at-requires-3 : tie.Need-count-at-requires-3
 count-at-requires-3 c κs = search rules
@@ -53,14 +53,14 @@ of-number-requires-3 : tie.Need-of-number-requires-3
 of-number-requires-3 c κs = search rules
 
 returns-3 : tie.Need-returns-3
-unfolding readCounts
+unfolding read_counts
 returns-3 c =
-    rw (told saidNumber c.before.before.before.before.before.before.before.before.before.before.before.count_at.ensures c.before.before.before.before.before.before.before.before.before.first.given.1, told saidNumber c.before.before.before.before.before.before.before.count-at2.ensures c.before.before.before.before.before.second.given.1, told saidNumber c.before.before.before.count-at3.ensures c.of-number3.ensures)
+    rw (told said_number c.before.before.before.before.before.before.before.before.before.before.before.count_at.ensures c.before.before.before.before.before.before.before.before.before.first.given.1, told said_number c.before.before.before.before.before.before.before.count-at2.ensures c.before.before.before.before.before.second.given.1, told said_number c.before.before.before.count-at3.ensures c.of-number3.ensures)
 
 returns-4 : tie.Need-returns-4
-unfolding readCounts
+unfolding read_counts
 returns-4 c =
-    rw (told saidNumber c.before.before.before.before.before.before.before.before.before.before.before.count_at.ensures c.before.before.before.before.before.before.before.before.before.first.given.1, told saidNumber c.before.before.before.before.before.before.before.count-at2.ensures c.before.before.before.before.before.second.given.1, told saidNumber c.before.before.before.count-at3.ensures c.before.third.given.1)
+    rw (told said_number c.before.before.before.before.before.before.before.before.before.before.before.count_at.ensures c.before.before.before.before.before.before.before.before.before.first.given.1, told said_number c.before.before.before.before.before.before.before.count-at2.ensures c.before.before.before.before.before.second.given.1, told said_number c.before.before.before.count-at3.ensures c.before.third.given.1)
 
 pub counts-at-spec : {M : Type 1} → statement M
 counts-at-spec =

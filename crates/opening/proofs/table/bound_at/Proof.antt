@@ -1,7 +1,7 @@
 -- A field with a range.
 use borrow.Author.Rules.{rules}
 use Rattle.definitions.specs.Reading.{bound}
-use Rattle.reader.specs.Parts.{wholeFrom}
+use Rattle.reader.specs.Parts.{whole_from}
 use Rattle.opening.proofs.table.bound_at.Statement.{statement}
 use Rattle.opening.proofs.table.bound_at.Tie as tie
 
@@ -9,7 +9,7 @@ whole-at-requires : tie.Need-whole-at-requires
 whole-at-requires c κs = search rules
 
 returns : tie.Need-returns
-unfolding bound wholeFrom
+unfolding bound whole_from
 returns c = c.whole-at.ensures
 
 pub bound-at-spec : {M : Type 1} → statement M

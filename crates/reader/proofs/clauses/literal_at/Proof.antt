@@ -3,9 +3,9 @@ use borrow.Author.Rules.{rules}
 use mathlib.Core.Path.{ap}
 use Rattle.fields.proofs.Laws.{told}
 use Rattle.reader.specs.declared.Why.{Why}
-use Rattle.reader.specs.Said.{saidNumber}
-use Rattle.reader.proofs.Fields.{number-got}
-use Rattle.reader.proofs.Literals.{literal-is, kind-comparison}
+use Rattle.reader.specs.Said.{said_number}
+use Rattle.reader.proofs.Fields.{number_got}
+use Rattle.reader.proofs.Literals.{literal_is, kind_comparison}
 use Rattle.reader.proofs.clauses.literal_at.Statement.{statement}
 use Rattle.reader.proofs.clauses.literal_at.Tie as tie
 
@@ -23,7 +23,7 @@ of-number-requires c κs = search rules
 
 returns : tie.Need-returns
 returns c =
-    (rw (literal-is, told saidNumber c.before.before.before.number_at.ensures c.of_number.ensures), tt)
+    (rw (literal_is, told said_number c.before.before.before.number_at.ensures c.of_number.ensures), tt)
 
 boolean-at-requires : tie.Need-boolean-at-requires
 boolean-at-requires c κs = search rules
@@ -31,8 +31,8 @@ boolean-at-requires c κs = search rules
 returns-2 : tie.Need-returns-2
 returns-2 c =
     let at = c.before.before.before.before.before.before.before.args.at in
-    let e = told saidNumber c.before.before.before.before.before.number_at.ensures c.before.before.before.read.given.1 in
-    (rw (literal-is, e) c.boolean-at.ensures.0, rw (ap (λ g. g.next) (number-got Why.Literal 0 2 1 _ at e).0) at c.boolean-at.ensures.1)
+    let e = told said_number c.before.before.before.before.before.number_at.ensures c.before.before.before.read.given.1 in
+    (rw (literal_is, e) c.boolean-at.ensures.0, rw (ap (λ g. g.next) (number_got Why.Literal 0 2 1 _ at e).0) at c.boolean-at.ensures.1)
 
 comparison-at-requires : tie.Need-comparison-at-requires
 comparison-at-requires c κs = search rules
@@ -40,8 +40,8 @@ comparison-at-requires c κs = search rules
 returns-3 : tie.Need-returns-3
 returns-3 c =
     let at = c.before.before.before.before.before.before.before.args.at in
-    let e = told saidNumber c.before.before.before.before.before.number_at.ensures c.before.before.before.read.given.1 in
-    (rw (literal-is, e, kind-comparison _ _ _ _ c.before.if1.false) c.comparison-at.ensures.0, rw (ap (λ g. g.next) (number-got Why.Literal 0 2 1 _ at e).0) at c.comparison-at.ensures.1)
+    let e = told said_number c.before.before.before.before.before.number_at.ensures c.before.before.before.read.given.1 in
+    (rw (literal_is, e, kind_comparison _ _ _ _ c.before.if1.false) c.comparison-at.ensures.0, rw (ap (λ g. g.next) (number_got Why.Literal 0 2 1 _ at e).0) at c.comparison-at.ensures.1)
 
 pub literal-at-spec : {M : Type 1} → statement M
 literal-at-spec =

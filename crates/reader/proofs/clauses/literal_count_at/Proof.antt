@@ -1,7 +1,7 @@
 -- A field with a range.
 use borrow.Author.Rules.{rules}
 use Rattle.definitions.specs.Reading.{count}
-use Rattle.reader.specs.Parts.{numberFrom}
+use Rattle.reader.specs.Parts.{number_from}
 use Rattle.reader.proofs.clauses.literal_count_at.Statement.{statement}
 use Rattle.reader.proofs.clauses.literal_count_at.Tie as tie
 
@@ -9,7 +9,7 @@ number-at-requires : tie.Need-number-at-requires
 number-at-requires c κs = search rules
 
 returns : tie.Need-returns
-unfolding count numberFrom
+unfolding count number_from
 returns c = c.number_at.ensures
 
 pub literal-count-at-spec : {M : Type 1} → statement M

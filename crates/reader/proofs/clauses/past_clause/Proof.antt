@@ -1,8 +1,8 @@
 -- The count, then so many literals.
 use borrow.Author.Rules.{rules}
-use Rattle.definitions.specs.Reading.{readClause}
+use Rattle.definitions.specs.Reading.{read_clause}
 use Rattle.fields.proofs.Laws.{told}
-use Rattle.reader.specs.Said.{saidNumber}
+use Rattle.reader.specs.Said.{said_number}
 use Rattle.reader.proofs.clauses.past_clause.Statement.{statement}
 use Rattle.reader.proofs.clauses.past_clause.Tie as tie
 
@@ -19,17 +19,17 @@ of-number-requires : tie.Need-of-number-requires
 of-number-requires c κs = search rules
 
 returns : tie.Need-returns
-unfolding readClause
+unfolding read_clause
 returns c =
-    rw (told saidNumber c.before.before.before.literal-count-at.ensures c.of_number.ensures)
+    rw (told said_number c.before.before.before.literal-count-at.ensures c.of_number.ensures)
 
 past-literals-requires : tie.Need-past-literals-requires
 past-literals-requires c κs = search rules
 
 returns-2 : tie.Need-returns-2
-unfolding readClause
+unfolding read_clause
 returns-2 c =
-    rw (told saidNumber c.before.before.before.before.literal-count-at.ensures c.before.before.read.given.1) c.past-literals.ensures
+    rw (told said_number c.before.before.before.before.literal-count-at.ensures c.before.before.read.given.1) c.past-literals.ensures
 
 pub past-clause-spec : {M : Type 1} → statement M
 past-clause-spec =

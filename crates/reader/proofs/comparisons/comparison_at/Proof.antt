@@ -3,14 +3,14 @@ use borrow.Author.Rules.{rules}
 use mathlib.Core.Path.{refl, ap}
 use native.Mathlib.Omega.{arith}
 use mir.Facts.{to_z-of_z}
-use Rattle.definitions.specs.Reading.{count, readComparison}
+use Rattle.definitions.specs.Reading.{count, read_comparison}
 use Rattle.fields.proofs.Laws.{told}
 use Rattle.reader.specs.declared.Why.{Why}
-use Rattle.reader.specs.Said.{saidNumber, saidWhole, saidStep}
-use Rattle.reader.specs.Parts.{numberFrom}
-use Rattle.reader.proofs.Tests.{bound-fits}
-use Rattle.reader.proofs.Fields.{number-got}
-use Rattle.reader.proofs.Terms.{terms-refused, constant-refused, comparison-done}
+use Rattle.reader.specs.Said.{said_number, said_whole, said_step}
+use Rattle.reader.specs.Parts.{number_from}
+use Rattle.reader.proofs.Tests.{bound_fits}
+use Rattle.reader.proofs.Fields.{number_got}
+use Rattle.reader.proofs.Terms.{terms_refused, constant_refused, comparison_done}
 use Rattle.reader.proofs.comparisons.comparison_at.Statement.{statement}
 use Rattle.reader.proofs.comparisons.comparison_at.Tie as tie
 
@@ -27,16 +27,16 @@ of-number-requires : tie.Need-of-number-requires
 of-number-requires c κs = search rules
 
 returns : tie.Need-returns
-unfolding count readComparison numberFrom
+unfolding count read_comparison number_from
 returns c =
-    (rw (told saidNumber c.before.before.before.number_at.ensures c.of_number.ensures), tt)
+    (rw (told said_number c.before.before.before.number_at.ensures c.of_number.ensures), tt)
 
 cast-past-terms : tie.Need-overflow-cast-past-terms
 cast-past-terms c = search rules
 
 past-terms-requires : tie.Need-past-terms-requires
 past-terms-requires c κs =
-    let g = number-got Why.Count 1 3 1 _ c.before.before.before.before.before.args.place (told saidNumber c.before.before.before.number_at.ensures c.before.count.given.1) in
+    let g = number_got Why.Count 1 3 1 _ c.before.before.before.before.before.args.place (told said_number c.before.before.before.number_at.ensures c.before.count.given.1) in
     omega (arith, ap (λ g. g.next) g.0, g.1)
 
 enum-known-terms : tie.Need-enum-known-terms
@@ -50,7 +50,7 @@ of-step-requires c κs = search rules
 
 returns-2 : tie.Need-returns-2
 returns-2 c =
-    (rw (terms-refused _ _ _ (told saidNumber c.before.before.before.before.before.before.before.number_at.ensures c.before.before.before.before.before.count.given.1) (told saidStep c.before.before.before.past-terms.ensures c.of-step.ensures)), tt)
+    (rw (terms_refused _ _ _ (told said_number c.before.before.before.before.before.before.before.number_at.ensures c.before.before.before.before.before.count.given.1) (told said_step c.before.before.before.past-terms.ensures c.of-step.ensures)), tt)
 
 constant-at-requires : tie.Need-constant-at-requires
 constant-at-requires c κs = search rules
@@ -66,15 +66,15 @@ of-whole-requires c κs = search rules
 
 returns-3 : tie.Need-returns-3
 returns-3 c =
-    let n = told saidNumber c.before.before.before.before.before.before.before.before.before.before.before.number_at.ensures c.before.before.before.before.before.before.before.before.before.count.given.1 in
-    let t = told saidStep c.before.before.before.before.before.before.before.past-terms.ensures c.before.before.before.before.before.terms.given.1 in
-    (rw (constant-refused _ _ _ n t (told saidWhole c.before.before.before.constant-at.ensures c.of-whole.ensures)), tt)
+    let n = told said_number c.before.before.before.before.before.before.before.before.before.before.before.number_at.ensures c.before.before.before.before.before.before.before.before.before.count.given.1 in
+    let t = told said_step c.before.before.before.before.before.before.before.past-terms.ensures c.before.before.before.before.before.terms.given.1 in
+    (rw (constant_refused _ _ _ n t (told said_whole c.before.before.before.constant-at.ensures c.of-whole.ensures)), tt)
 
 returns-4 : tie.Need-returns-4
 returns-4 c =
-    let n = told saidNumber c.before.before.before.before.before.before.before.before.before.before.before.number_at.ensures c.before.before.before.before.before.before.before.before.before.count.given.1 in
-    let t = told saidStep c.before.before.before.before.before.before.before.past-terms.ensures c.before.before.before.before.before.terms.given.1 in
-    (rw (comparison-done _ _ _ n t (told saidWhole c.before.before.before.constant-at.ensures c.before.last.given.1), to_z-of_z (bound-fits c.before.last.given.0.0 c.known-told3.given.0.1)), refl)
+    let n = told said_number c.before.before.before.before.before.before.before.before.before.before.before.number_at.ensures c.before.before.before.before.before.before.before.before.before.count.given.1 in
+    let t = told said_step c.before.before.before.before.before.before.before.past-terms.ensures c.before.before.before.before.before.terms.given.1 in
+    (rw (comparison_done _ _ _ n t (told said_whole c.before.before.before.constant-at.ensures c.before.last.given.1), to_z-of_z (bound_fits c.before.last.given.0.0 c.known-told3.given.0.1)), refl)
 
 pub comparison-at-spec : {M : Type 1} → statement M
 comparison-at-spec =

@@ -7,7 +7,7 @@ use borrow.Author.Tests.{eq-eqb, ne_eqb}
 use lib.Dec.{eqb}
 use Rattle.definitions.specs.Tools.{any}
 use Rattle.reader.specs.Seen.{seen_at}
-use Rattle.reader.proofs.Terms.{seen-turn, seen_none}
+use Rattle.reader.proofs.Terms.{seen_turn, seen_none}
 use Rattle.reader.proofs.comparisons.is_repeated.Statement.{statement}
 use Rattle.reader.proofs.comparisons.is_repeated.Tie as tie
 
@@ -38,14 +38,14 @@ unchecked-requires c κs = search rules
 
 returns : tie.Need-returns invariant-loop decreases-loop
 returns c =
-    sym (c.before.before.before.loop.invariant.1 ∙ rw (seen-turn _ _ _ _ c.before.before.loop-test.true, eq-eqb _ _ (sym c.if1.true ∙ c.before.unchecked.ensures)))
+    sym (c.before.before.before.loop.invariant.1 ∙ rw (seen_turn _ _ _ _ c.before.before.loop-test.true, eq-eqb _ _ (sym c.if1.true ∙ c.before.unchecked.ensures)))
 
 loop-less : tie.Need-loop-smaller invariant-loop decreases-loop
 loop-less c = search rules
 
 loop-again : tie.Need-loop-preserved invariant-loop decreases-loop
 loop-again c =
-    (omega arith, c.before.before.before.loop.invariant.1 ∙ rw (seen-turn _ _ _ _ c.before.before.loop-test.true, ne_eqb _ _ (λ e. c.if1.false (c.before.unchecked.ensures ∙ sym e))))
+    (omega arith, c.before.before.before.loop.invariant.1 ∙ rw (seen_turn _ _ _ _ c.before.before.loop-test.true, ne_eqb _ _ (λ e. c.if1.false (c.before.unchecked.ensures ∙ sym e))))
 
 returns-2 : tie.Need-returns-2 invariant-loop decreases-loop
 returns-2 c =

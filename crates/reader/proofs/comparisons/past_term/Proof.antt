@@ -1,7 +1,7 @@
 -- The coefficient, then the variable.
 use borrow.Author.Rules.{rules}
 use Rattle.fields.proofs.Laws.{told}
-use Rattle.reader.specs.Said.{saidStep}
+use Rattle.reader.specs.Said.{said_step}
 use Rattle.reader.proofs.Terms.{term-past}
 use Rattle.reader.proofs.comparisons.past_term.Statement.{statement}
 use Rattle.reader.proofs.comparisons.past_term.Tie as tie
@@ -23,14 +23,14 @@ enum_told c = search rules
 
 returns : tie.Need-returns
 returns c =
-    rw (c.enum_told.given.1, term-past, told saidStep c.before.before.past-coefficient.ensures c.enum_told.given.1)
+    rw (c.enum_told.given.1, term-past, told said_step c.before.before.past-coefficient.ensures c.enum_told.given.1)
 
 past-variable-requires : tie.Need-past-variable-requires
 past-variable-requires c κs = search rules
 
 returns-2 : tie.Need-returns-2
 returns-2 c =
-    rw (term-past, told saidStep c.before.before.before.before.past-coefficient.ensures c.before.before.step.given.1) c.past-variable.ensures
+    rw (term-past, told said_step c.before.before.before.before.past-coefficient.ensures c.before.before.step.given.1) c.past-variable.ensures
 
 pub past-term-spec : {M : Type 1} → statement M
 past-term-spec =

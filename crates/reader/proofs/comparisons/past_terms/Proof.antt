@@ -3,8 +3,8 @@ use borrow.Author.Rules.{rules}
 use Prim.Native.Nat.{◌-◌}
 use mathlib.Core.Path.{sym}
 use Rattle.fields.proofs.Laws.{told}
-use Rattle.reader.specs.Said.{context_of, saidStep}
-use Rattle.reader.proofs.Terms.{Passing, passing-none, passing-more, passing-stop, passing-all}
+use Rattle.reader.specs.Said.{context_of, said_step}
+use Rattle.reader.proofs.Terms.{Passing, passing_none, passing-more, passing_stop, passing-all}
 use Rattle.reader.proofs.comparisons.past_terms.Statement.{statement}
 use Rattle.reader.proofs.comparisons.past_terms.Tie as tie
 
@@ -15,7 +15,7 @@ abbrev decreases-loop : tie.decreases-loop
 decreases-loop rules known first n place₀ i₀ place i = n - i
 
 loop-holds : tie.Need-loop-init invariant-loop decreases-loop
-loop-holds c = passing-none _ _ _ _ c.before.requires
+loop-holds c = passing_none _ _ _ _ c.before.requires
 
 past-term-requires : tie.Need-past-term-requires invariant-loop decreases-loop
 past-term-requires c κs = search rules
@@ -28,7 +28,7 @@ enum_told c = search rules
 
 returns : tie.Need-returns invariant-loop decreases-loop
 returns c =
-    rw c.enum_told.given.1 (sym (passing-stop _ _ _ _ c.before.before.before.loop-test.true c.before.before.before.before.loop.invariant (told saidStep c.before.before.past-term.ensures c.enum_told.given.1)))
+    rw c.enum_told.given.1 (sym (passing_stop _ _ _ _ c.before.before.before.loop-test.true c.before.before.before.before.loop.invariant (told said_step c.before.before.past-term.ensures c.enum_told.given.1)))
 
 add-i : tie.Need-overflow-add-i invariant-loop decreases-loop
 add-i c = search rules
@@ -38,7 +38,7 @@ loop-less c = search rules
 
 loop-again : tie.Need-loop-preserved invariant-loop decreases-loop
 loop-again c =
-    passing-more _ _ _ _ c.before.before.before.before.loop-test.true c.before.before.before.before.before.loop.invariant (told saidStep c.before.before.before.past-term.ensures c.before.step.given.1)
+    passing-more _ _ _ _ c.before.before.before.before.loop-test.true c.before.before.before.before.before.loop.invariant (told said_step c.before.before.before.past-term.ensures c.before.step.given.1)
 
 returns-2 : tie.Need-returns-2 invariant-loop decreases-loop
 returns-2 c =

@@ -5,19 +5,19 @@ use native.Mathlib.Omega.{arith}
 use mir.Facts.{to_z-of_z}
 use lib.ListN.{length}
 use borrow.Author.Rules.{rules}
-use Rattle.definitions.specs.Board.{isTrue, isFalse}
+use Rattle.definitions.specs.Board.{is_true, is_false}
 use Rattle.definitions.specs.Reading.{big}
-use Rattle.laws.specs.Again.{saidBy, literalAt, literal-said}
+use Rattle.laws.specs.Again.{said_by, literal_at, literal_said}
 use Rattle.reader.proofs.rereading.literal_again.Statement.{statement}
 use Rattle.reader.proofs.rereading.literal_again.Tie as tie
 
 -- what is said where the kind is k
 module _ (s : tie.Start) {k : ℕ} (e : big s.args.rules.now s.args.at 1 ≡ k) where
-  said : literalAt s.args.rules.now s.args.at ≡ saidBy s.args.rules.now s.args.at k
-  said = literal-said s.args.rules.now s.args.at e
+  said : literal_at s.args.rules.now s.args.at ≡ said_by s.args.rules.now s.args.at k
+  said = literal_said s.args.rules.now s.args.at e
 
-  end-inside : (saidBy s.args.rules.now s.args.at k).next ≤ length s.args.rules.now
-  end-inside = omega (arith, s.pre.room, ap (λ g. g.next) said)
+  end_inside : (said_by s.args.rules.now s.args.at k).next ≤ length s.args.rules.now
+  end_inside = omega (arith, s.pre.room, ap (λ g. g.next) said)
 
 -- a Boolean, its negation, a comparison
 boolean : (c : tie.Then1) → let s = c.before.before.before.args in big s.rules.now s.at 1 ≡ 0
@@ -34,34 +34,34 @@ module _ (c : tie.Else2) where
   compared = omega (arith, c.before.before.unchecked.ensures, c.if2.false, c.before.if1.false, s.pre.known)
 
   room : s.args.at + 6 + 3 * big s.args.rules.now (s.args.at + 1) 1 ≤ length s.args.rules.now
-  room = end-inside s compared
+  room = end_inside s compared
 
 unchecked-requires : tie.Need-unchecked-requires
 unchecked-requires c κs = (omega arith, c.before.requires.kind)
 
 add-unchecked : tie.Need-overflow-add-unchecked
-add-unchecked c = let h = end-inside c.before.before.before (boolean c) in search rules
+add-unchecked c = let h = end_inside c.before.before.before (boolean c) in search rules
 
 unchecked-requires-2 : tie.Need-unchecked-requires-2
-unchecked-requires-2 c κs = (omega arith, omega (arith, end-inside c.before.before.before (boolean c)))
+unchecked-requires-2 c κs = (omega arith, omega (arith, end_inside c.before.before.before (boolean c)))
 
 add-t10 : tie.Need-overflow-add-t10
-add-t10 c = let h = end-inside c.before.before.before.before (boolean c.before) in search rules
+add-t10 c = let h = end_inside c.before.before.before.before (boolean c.before) in search rules
 
 returns : tie.Need-returns
-returns c = let e = said c.before.before.before.before (boolean c.before) in record { literal = ap isTrue c.unchecked2.ensures ∙ sym (ap (λ g. g.value) e); next = sym (ap (λ g. g.next) e); terms = tt }
+returns c = let e = said c.before.before.before.before (boolean c.before) in record { literal = ap is_true c.unchecked2.ensures ∙ sym (ap (λ g. g.value) e); next = sym (ap (λ g. g.next) e); terms = tt }
 
 add-unchecked-2 : tie.Need-overflow-add-unchecked-2
-add-unchecked-2 c = let h = end-inside c.before.before.before.before (negated c) in search rules
+add-unchecked-2 c = let h = end_inside c.before.before.before.before (negated c) in search rules
 
 unchecked-requires-3 : tie.Need-unchecked-requires-3
-unchecked-requires-3 c κs = (omega arith, omega (arith, end-inside c.before.before.before.before (negated c)))
+unchecked-requires-3 c κs = (omega arith, omega (arith, end_inside c.before.before.before.before (negated c)))
 
 add-t14 : tie.Need-overflow-add-t14
-add-t14 c = let h = end-inside c.before.before.before.before.before (negated c.before) in search rules
+add-t14 c = let h = end_inside c.before.before.before.before.before (negated c.before) in search rules
 
 returns-2 : tie.Need-returns-2
-returns-2 c = let e = said c.before.before.before.before.before (negated c.before) in record { literal = ap isFalse c.unchecked3.ensures ∙ sym (ap (λ g. g.value) e); next = sym (ap (λ g. g.next) e); terms = tt }
+returns-2 c = let e = said c.before.before.before.before.before (negated c.before) in record { literal = ap is_false c.unchecked3.ensures ∙ sym (ap (λ g. g.value) e); next = sym (ap (λ g. g.next) e); terms = tt }
 
 add-place : tie.Need-overflow-add-place
 add-place c = let h = room c in search rules

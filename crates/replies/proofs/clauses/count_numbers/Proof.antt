@@ -3,9 +3,9 @@ use borrow.Author.Rules.{rules}
 use Prim.Native.Nat.{◌-◌}
 use native.Mathlib.Omega.{arith}
 use lib.ListN.{length}
-use Rattle.replies.specs.Said.{saidNext}
+use Rattle.replies.specs.Said.{said_next}
 use Rattle.replies.specs.Bytes.{told}
-use Rattle.replies.specs.Texts.{Counts, counts-none, counts-more, counts-bad, counts_all, counts-short}
+use Rattle.replies.specs.Texts.{Counts, counts_none, counts_more, counts_bad, counts_all, counts_short}
 use Rattle.replies.proofs.clauses.count_numbers.Statement.{statement}
 use Rattle.replies.proofs.clauses.count_numbers.Tie as tie
 
@@ -16,7 +16,7 @@ abbrev decreases-loop : tie.decreases-loop
 decreases-loop text n m from at₀ numbers₀ clauses₀ at numbers clauses = length text - at
 
 loop-holds : tie.Need-loop-init invariant-loop decreases-loop
-loop-holds c = counts-none _ _ _ _ c.before.requires
+loop-holds c = counts_none _ _ _ _ c.before.requires
 
 next-number-requires : tie.Need-next-number-requires invariant-loop decreases-loop
 next-number-requires c κs = c.loop.invariant.inside
@@ -47,7 +47,7 @@ loop-again c =
     let loop = c.before.before.before.before.before.loop in
     let next-number = c.before.before.before.before.next-number in
     let size = c.before.before.size in
-    let h = rw size.given.1 at next-number.ensures.1 in counts-more _ _ _ _ loop.invariant _ _ _ _ _ (told (saidNext _) next-number.ensures.0 size.given.1) h.0 h.1 c.clauses-after.ensures
+    let h = rw size.given.1 at next-number.ensures.1 in counts_more _ _ _ _ loop.invariant _ _ _ _ _ (told (said_next _) next-number.ensures.0 size.given.1) h.0 h.1 c.clauses-after.ensures
 
 enum-known-end : tie.Need-enum-known-end invariant-loop decreases-loop
 enum-known-end c = search rules
@@ -57,14 +57,14 @@ returns c =
     let loop = c.before.before.before.before.before.loop in
     let next-number = c.before.before.before.before.next-number in
     let end = c.before.before.end in
-    counts_all _ _ _ _ loop.invariant _ (told (saidNext _) next-number.ensures.0 end.given.1) c.if1.true
+    counts_all _ _ _ _ loop.invariant _ (told (said_next _) next-number.ensures.0 end.given.1) c.if1.true
 
 returns-2 : tie.Need-returns-2 invariant-loop decreases-loop
 returns-2 c =
     let loop = c.before.before.before.before.before.loop in
     let next-number = c.before.before.before.before.next-number in
     let end = c.before.before.end in
-    counts-short _ _ _ _ loop.invariant _ (told (saidNext _) next-number.ensures.0 end.given.1) c.if1.false
+    counts_short _ _ _ _ loop.invariant _ (told (said_next _) next-number.ensures.0 end.given.1) c.if1.false
 
 enum-known-d : tie.Need-enum-known-d invariant-loop decreases-loop
 enum-known-d c = search rules
@@ -73,7 +73,7 @@ returns-3 : tie.Need-returns-3 invariant-loop decreases-loop
 returns-3 c =
     let loop = c.before.before.before.before.loop in
     let next-number = c.before.before.before.next-number in
-    counts-bad _ _ _ _ loop.invariant _ (told (saidNext _) next-number.ensures.0 c.before.d.given.1)
+    counts_bad _ _ _ _ loop.invariant _ (told (said_next _) next-number.ensures.0 c.before.d.given.1)
 
 pub count-numbers-spec : {M : Type 1} → statement M
 count-numbers-spec =

@@ -6,8 +6,8 @@ use native.Mathlib.Omega.{arith}
 use lib.ListN.{length, drop}
 use borrow.Author.Tests.{not-true, not-false}
 use Rattle.replies.specs.Parts.{found_from}
-use Rattle.replies.specs.Said.{saidNumeral}
-use Rattle.replies.specs.Bytes.{via, told, found-blank, found-no-room, found_number, found-bad, found-end}
+use Rattle.replies.specs.Said.{said_numeral}
+use Rattle.replies.specs.Bytes.{via, told, found_blank, found_no_room, found_number, found_bad, found_end}
 use Rattle.replies.proofs.clauses.next_number.Statement.{statement}
 use Rattle.replies.proofs.clauses.next_number.Tie as tie
 
@@ -32,7 +32,7 @@ returns c =
     let loop = c.before.before.before.before.before.loop in
     let loop-test = c.before.before.before.before.loop-test in
     let is-blank = c.before.before.is-blank in
-    (sym (found-no-room _ _ loop-test.true _ _ (via is-blank.ensures (not-true _ c.before.if1.true)) (not-true _ c.if2.true)) ∙ loop.invariant.0, tt)
+    (sym (found_no_room _ _ loop-test.true _ _ (via is-blank.ensures (not-true _ c.before.if1.true)) (not-true _ c.if2.true)) ∙ loop.invariant.0, tt)
 
 number-at-requires : tie.Need-number-at-requires invariant-loop decreases-loop
 number-at-requires c κs = search rules
@@ -54,7 +54,7 @@ returns-2 c =
     let if1 = c.before.before.before.before.before.if1 in
     let if2 = c.before.before.before.before.if2 in
     let number_at = c.before.before.before.number_at in
-    (sym (found-bad _ _ loop-test.true _ _ (via is-blank.ensures (not-true _ if1.true)) (not-false _ if2.false) (told (saidNumeral _ _) number_at.ensures.0 c.of-numeral.ensures)) ∙ loop.invariant.0, tt)
+    (sym (found_bad _ _ loop-test.true _ _ (via is-blank.ensures (not-true _ if1.true)) (not-false _ if2.false) (told (said_numeral _ _) number_at.ensures.0 c.of-numeral.ensures)) ∙ loop.invariant.0, tt)
 
 returns-3 : tie.Need-returns-3 invariant-loop decreases-loop
 returns-3 c =
@@ -65,7 +65,7 @@ returns-3 c =
     let if2 = c.before.before.before.before.if2 in
     let number_at = c.before.before.before.number_at in
     let h = rw c.before.read.given.1 at number_at.ensures.1 in
-    (sym (found_number _ _ loop-test.true _ _ (via is-blank.ensures (not-true _ if1.true)) (not-false _ if2.false) (told (saidNumeral _ _) number_at.ensures.0 c.before.read.given.1)) ∙ loop.invariant.0, (omega (arith, h.0, loop.invariant.1), h.1))
+    (sym (found_number _ _ loop-test.true _ _ (via is-blank.ensures (not-true _ if1.true)) (not-false _ if2.false) (told (said_numeral _ _) number_at.ensures.0 c.before.read.given.1)) ∙ loop.invariant.0, (omega (arith, h.0, loop.invariant.1), h.1))
 
 add_at : tie.Need-overflow-add-at invariant-loop decreases-loop
 add_at c = search rules
@@ -77,11 +77,11 @@ loop-again : tie.Need-loop-preserved invariant-loop decreases-loop
 loop-again c =
     let loop = c.before.before.before.before.loop in
     let loop-test = c.before.before.before.loop-test in
-    (sym (found-blank _ _ loop-test.true _ _ (via c.before.is-blank.ensures (not-false _ c.if1.false))) ∙ loop.invariant.0, omega arith, omega arith)
+    (sym (found_blank _ _ loop-test.true _ _ (via c.before.is-blank.ensures (not-false _ c.if1.false))) ∙ loop.invariant.0, omega arith, omega arith)
 
 returns-4 : tie.Need-returns-4 invariant-loop decreases-loop
 returns-4 c =
-    (sym (found-end _ _ c.loop-test.false _ _) ∙ c.before.loop.invariant.0, omega arith)
+    (sym (found_end _ _ c.loop-test.false _ _) ∙ c.before.loop.invariant.0, omega arith)
 
 pub next-number-spec : {M : Type 1} → statement M
 next-number-spec =

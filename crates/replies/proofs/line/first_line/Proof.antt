@@ -1,8 +1,8 @@
 -- `replies::line::first_line` meets its contract.
 use mathlib.Core.Path.{sym, ◌∙◌}
-use Rattle.replies.specs.Said.{saidCount}
+use Rattle.replies.specs.Said.{said_count}
 use Rattle.replies.specs.Bytes.{told}
-use Rattle.replies.specs.Texts.{line-is, line-bad}
+use Rattle.replies.specs.Texts.{line_is, line-bad}
 use borrow.Author.Rules.{rules}
 use Rattle.replies.proofs.line.first_line.Statement.{statement}
 use Rattle.replies.proofs.line.first_line.Tie as tie
@@ -26,7 +26,7 @@ returns : tie.Need-returns
 returns c =
     let args = c.before.before.before.before.before.before.args in
     let word_count = c.before.before.before.word_count in
-    (sym (line-bad args.text.now (told (saidCount args.text.now) word_count.ensures.0 c.of-count.ensures)), tt)
+    (sym (line-bad args.text.now (told (said_count args.text.now) word_count.ensures.0 c.of-count.ensures)), tt)
 
 line-rest-requires : tie.Need-line-rest-requires
 line-rest-requires c κs =
@@ -38,7 +38,7 @@ returns-2 c =
     let args = c.before.before.before.before.before.before.before.args in
     let word_count = c.before.before.before.before.word_count in
     let read = c.before.before.read in
-    (c.line-rest.ensures.0 ∙ sym (line-is args.text.now (told (saidCount args.text.now) word_count.ensures.0 read.given.1)), c.line-rest.ensures.1)
+    (c.line-rest.ensures.0 ∙ sym (line_is args.text.now (told (said_count args.text.now) word_count.ensures.0 read.given.1)), c.line-rest.ensures.1)
 
 pub first-line-spec : {M : Type 1} → statement M
 first-line-spec =

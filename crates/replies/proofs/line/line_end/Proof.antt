@@ -1,7 +1,7 @@
 -- `replies::line::line_end` meets its contract.
 use mathlib.Core.Path.{sym}
 use lib.ListN.{drop}
-use Rattle.replies.specs.Said.{saidWord}
+use Rattle.replies.specs.Said.{said_word}
 use Rattle.replies.specs.Bytes.{told}
 use Rattle.replies.specs.Texts.{end_is, end-bad}
 use borrow.Author.Rules.{rules}
@@ -27,13 +27,13 @@ returns : tie.Need-returns
 returns c =
     let args = c.before.before.before.before.before.before.args in
     let word_at = c.before.before.before.word_at in
-    (sym (end-bad args.n args.m args.from (drop args.from args.text.now) (told (saidWord args.text.now) word_at.ensures.0 c.of_word.ensures)), tt)
+    (sym (end-bad args.n args.m args.from (drop args.from args.text.now) (told (said_word args.text.now) word_at.ensures.0 c.of_word.ensures)), tt)
 
 returns-2 : tie.Need-returns-2
 returns-2 c =
     let args = c.before.before.before.before.before.before.args in
     let word_at = c.before.before.before.word_at in
-    (sym (end_is args.n args.m args.from (drop args.from args.text.now) (told (saidWord args.text.now) word_at.ensures.0 c.before.read.given.1)), (rw c.before.read.given.1 at word_at.ensures.1).1)
+    (sym (end_is args.n args.m args.from (drop args.from args.text.now) (told (said_word args.text.now) word_at.ensures.0 c.before.read.given.1)), (rw c.before.read.given.1 at word_at.ensures.1).1)
 
 pub line-end-spec : {M : Type 1} → statement M
 line-end-spec =

@@ -1,9 +1,9 @@
 -- `replies::line::line_rest` meets its contract.
 use mathlib.Core.Path.{sym, ◌∙◌}
 use lib.ListN.{drop}
-use Rattle.replies.specs.Said.{saidCount}
+use Rattle.replies.specs.Said.{said_count}
 use Rattle.replies.specs.Bytes.{told}
-use Rattle.replies.specs.Texts.{rest-is, rest-bad}
+use Rattle.replies.specs.Texts.{rest_is, rest-bad}
 use borrow.Author.Rules.{rules}
 use Rattle.replies.proofs.line.line_rest.Statement.{statement}
 use Rattle.replies.proofs.line.line_rest.Tie as tie
@@ -27,7 +27,7 @@ returns : tie.Need-returns
 returns c =
     let args = c.before.before.before.before.before.before.args in
     let word_count = c.before.before.before.word_count in
-    (sym (rest-bad args.n args.from (drop args.from args.text.now) (told (saidCount args.text.now) word_count.ensures.0 c.of-count.ensures)), tt)
+    (sym (rest-bad args.n args.from (drop args.from args.text.now) (told (said_count args.text.now) word_count.ensures.0 c.of-count.ensures)), tt)
 
 line-end-requires : tie.Need-line-end-requires
 line-end-requires c κs =
@@ -39,7 +39,7 @@ returns-2 c =
     let args = c.before.before.before.before.before.before.before.args in
     let word_count = c.before.before.before.before.word_count in
     let read = c.before.before.read in
-    (c.line-end.ensures.0 ∙ sym (rest-is args.n args.from (drop args.from args.text.now) (told (saidCount args.text.now) word_count.ensures.0 read.given.1)), c.line-end.ensures.1)
+    (c.line-end.ensures.0 ∙ sym (rest_is args.n args.from (drop args.from args.text.now) (told (said_count args.text.now) word_count.ensures.0 read.given.1)), c.line-end.ensures.1)
 
 pub line-rest-spec : {M : Type 1} → statement M
 line-rest-spec =

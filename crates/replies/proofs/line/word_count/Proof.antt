@@ -1,9 +1,9 @@
 -- `replies::line::word_count` meets its contract.
 use mathlib.Core.Path.{sym, ◌∙◌}
 use lib.ListN.{drop}
-use Rattle.replies.specs.Said.{saidWord}
+use Rattle.replies.specs.Said.{said_word}
 use Rattle.replies.specs.Bytes.{told}
-use Rattle.replies.specs.Texts.{word-count-is, word-count-bad, count-anywhere}
+use Rattle.replies.specs.Texts.{word_count_is, word_count_bad, count_anywhere}
 use borrow.Author.Rules.{rules}
 use Rattle.replies.proofs.line.word_count.Statement.{statement}
 use Rattle.replies.proofs.line.word_count.Tie as tie
@@ -24,7 +24,7 @@ returns : tie.Need-returns
 returns c =
     let args = c.before.before.before.before.before.before.args in
     let word_at = c.before.before.before.word_at in
-    (sym (word-count-bad args.word.now args.from (drop args.from args.text.now) (told (saidWord args.text.now) word_at.ensures.0 c.of_word.ensures)), tt)
+    (sym (word_count_bad args.word.now args.from (drop args.from args.text.now) (told (said_word args.text.now) word_at.ensures.0 c.of_word.ensures)), tt)
 
 count-at-requires : tie.Need-count-at-requires
 count-at-requires c κs =
@@ -36,7 +36,7 @@ returns-2 c =
     let args = c.before.before.before.before.before.before.before.args in
     let word_at = c.before.before.before.before.word_at in
     let read = c.before.before.read in
-    (c.count_at.ensures.0 ∙ sym (word-count-is args.word.now args.from (drop args.from args.text.now) (told (saidWord args.text.now) word_at.ensures.0 read.given.1)), count-anywhere read.given.0.0 args.text.now c.count_at.result c.count_at.ensures.1)
+    (c.count_at.ensures.0 ∙ sym (word_count_is args.word.now args.from (drop args.from args.text.now) (told (said_word args.text.now) word_at.ensures.0 read.given.1)), count_anywhere read.given.0.0 args.text.now c.count_at.result c.count_at.ensures.1)
 
 pub word-count-spec : {M : Type 1} → statement M
 word-count-spec =

@@ -7,9 +7,9 @@ use mir.Facts.{to_z-of_z}
 use Prim.Native.Nat.{◌-◌, ◌<◌}
 use native.Mathlib.Omega.{arith}
 use lib.ListN.{length}
-use Rattle.replies.specs.Said.{saidNext}
+use Rattle.replies.specs.Said.{said_next}
 use Rattle.replies.specs.Bytes.{told}
-use Rattle.replies.specs.Lists.{Writes, writes-none, writes-room, writes_more, writes-all, writes-bad, number_fits, now-length}
+use Rattle.replies.specs.Lists.{Writes, writes_none, writes_room, writes_more, writes_all, writes_bad, number_fits, now_length}
 use Rattle.replies.proofs.lists.put_numbers.Statement.{statement}
 use Rattle.replies.proofs.lists.put_numbers.Tie as tie
 
@@ -20,7 +20,7 @@ abbrev decreases-loop : tie.decreases-loop
 decreases-loop text n m from list₀ at₀ numbers₀ clauses₀ list at numbers clauses = length text - at
 
 loop-holds : tie.Need-loop-init invariant-loop decreases-loop
-loop-holds c = writes-none _ _ _ _ _ c.before.requires.1
+loop-holds c = writes_none _ _ _ _ _ c.before.requires.1
 
 next-number-requires : tie.Need-next-number-requires invariant-loop decreases-loop
 next-number-requires c κs = c.loop.invariant.counts.inside
@@ -33,7 +33,7 @@ signed-of-requires c κs =
     let pre = c.before.before.before.before.before.before.requires in
     let loop = c.before.before.before.before.loop in
     let next-number = c.before.before.before.next-number in
-    omega (arith, number_fits _ _ _ _ _ pre.2 loop.invariant _ _ _ _ (told (saidNext _) next-number.ensures.0 c.before.minus.given.1), pre.0)
+    omega (arith, number_fits _ _ _ _ _ pre.2 loop.invariant _ _ _ _ (told (said_next _) next-number.ensures.0 c.before.minus.given.1), pre.0)
 
 mul-t16 : tie.Need-overflow-mul-t16 invariant-loop decreases-loop
 mul-t16 c =
@@ -42,7 +42,7 @@ mul-t16 c =
     let loop = c.before.before.before.before.before.loop in
     let next-number = c.before.before.before.before.next-number in
     let minus = c.before.before.minus in
-    let h : loop.numbers < length args.list.now = writes-room _ _ _ _ _ pre.2 loop.invariant _ _ _ _ (told (saidNext _) next-number.ensures.0 minus.given.1) in search rules
+    let h : loop.numbers < length args.list.now = writes_room _ _ _ _ _ pre.2 loop.invariant _ _ _ _ (told (said_next _) next-number.ensures.0 minus.given.1) in search rules
 
 slice-set-from-list : tie.Need-slice-set-from-list invariant-loop decreases-loop
 slice-set-from-list c =
@@ -50,7 +50,7 @@ slice-set-from-list c =
     let loop = c.before.before.before.before.before.loop in
     let next-number = c.before.before.before.before.next-number in
     let minus = c.before.before.minus in
-    omega (arith, writes-room _ _ _ _ _ pre.2 loop.invariant _ _ _ _ (told (saidNext _) next-number.ensures.0 minus.given.1), now-length _ _ _ _ _ pre.2 loop.invariant)
+    omega (arith, writes_room _ _ _ _ _ pre.2 loop.invariant _ _ _ _ (told (said_next _) next-number.ensures.0 minus.given.1), now_length _ _ _ _ _ pre.2 loop.invariant)
 
 add-numbers : tie.Need-overflow-add-numbers invariant-loop decreases-loop
 add-numbers c =
@@ -80,7 +80,7 @@ loop-again c =
     let minus = c.before.before.before.minus in
     let h = rw minus.given.1 at next-number.ensures.1 in
     let f : SFits w32 c.before.Signed-of.result = record { sfits = c.before.Signed-of.type-inv } in
-    (writes_more _ _ _ _ _ pre.2 loop.invariant _ _ _ _ (told (saidNext _) next-number.ensures.0 minus.given.1) _ _ (to_z-of_z f ∙ c.before.Signed-of.ensures) h.0 h.1 c.clauses-after.ensures)
+    (writes_more _ _ _ _ _ pre.2 loop.invariant _ _ _ _ (told (said_next _) next-number.ensures.0 minus.given.1) _ _ (to_z-of_z f ∙ c.before.Signed-of.ensures) h.0 h.1 c.clauses-after.ensures)
 
 enum_told : tie.Need-enum-told invariant-loop decreases-loop
 enum_told c = search rules
@@ -89,14 +89,14 @@ same_length : tie.Need-same-length invariant-loop decreases-loop
 same_length c =
     let pre = c.before.before.before.before.before.requires in
     let loop = c.before.before.before.loop in
-    now-length _ _ _ _ _ pre.2 loop.invariant
+    now_length _ _ _ _ _ pre.2 loop.invariant
 
 returns : tie.Need-returns invariant-loop decreases-loop
 returns c =
     let pre = c.before.before.before.before.before.requires in
     let loop = c.before.before.before.loop in
     let next-number = c.before.before.next-number in
-    writes-all _ _ _ _ _ pre.2 loop.invariant _ (told (saidNext _) next-number.ensures.0 c.enum_told.given.1)
+    writes_all _ _ _ _ _ pre.2 loop.invariant _ (told (said_next _) next-number.ensures.0 c.enum_told.given.1)
 
 enum-told-2 : tie.Need-enum-told-2 invariant-loop decreases-loop
 enum-told-2 c = search rules
@@ -105,14 +105,14 @@ same-length-2 : tie.Need-same-length-2 invariant-loop decreases-loop
 same-length-2 c =
     let pre = c.before.before.before.before.before.requires in
     let loop = c.before.before.before.loop in
-    now-length _ _ _ _ _ pre.2 loop.invariant
+    now_length _ _ _ _ _ pre.2 loop.invariant
 
 returns-2 : tie.Need-returns-2 invariant-loop decreases-loop
 returns-2 c =
     let pre = c.before.before.before.before.before.requires in
     let loop = c.before.before.before.loop in
     let next-number = c.before.before.next-number in
-    writes-bad _ _ _ _ _ pre.2 loop.invariant _ (told (saidNext _) next-number.ensures.0 c.enum-told2.given.1)
+    writes_bad _ _ _ _ _ pre.2 loop.invariant _ (told (said_next _) next-number.ensures.0 c.enum-told2.given.1)
 
 pub put-numbers-spec : {M : Type 1} → statement M
 put-numbers-spec =

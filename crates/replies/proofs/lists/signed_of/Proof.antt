@@ -1,9 +1,9 @@
 -- `replies::lists::signed_of` meets its contract.
 use mathlib.Core.Path.{sym, ap, ◌∙◌}
 use native.Mathlib.Omega.{arith}
-use Rattle.definitions.specs.TextReading.{numberRead}
+use Rattle.definitions.specs.TextReading.{number_read}
 use Rattle.laws.specs.Stepping.{num}
-use Rattle.laws.specs.Signs.{plus-is, minus-fits, minus_is}
+use Rattle.laws.specs.Signs.{plus_is, minus_fits, minus_is}
 use borrow.Author.Rules.{rules}
 use Rattle.replies.proofs.lists.signed_of.Statement.{statement}
 use Rattle.replies.proofs.lists.signed_of.Tie as tie
@@ -13,18 +13,18 @@ cast-result c = search rules
 
 sub-result : tie.Need-overflow-sub-result
 sub-result c =
-    minus-fits c.before.args.size (omega (arith, c.before.requires))
+    minus_fits c.before.args.size (omega (arith, c.before.requires))
 
 returns : tie.Need-returns
 returns c =
-    minus_is c.before.args.size (omega (arith, c.before.requires)) ∙ ap (λ t. numberRead (num 0 t c.before.args.size)) (sym c.if1.true)
+    minus_is c.before.args.size (omega (arith, c.before.requires)) ∙ ap (λ t. number_read (num 0 t c.before.args.size)) (sym c.if1.true)
 
 cast-result-2 : tie.Need-overflow-cast-result-2
 cast-result-2 c = search rules
 
 returns-2 : tie.Need-returns-2
 returns-2 c =
-    plus-is c.before.args.size (omega (arith, c.before.requires)) ∙ ap (λ t. numberRead (num 0 t c.before.args.size)) (sym c.if1.false)
+    plus_is c.before.args.size (omega (arith, c.before.requires)) ∙ ap (λ t. number_read (num 0 t c.before.args.size)) (sym c.if1.false)
 
 pub signed-of-spec : {M : Type 1} → statement M
 signed-of-spec = tie.close (tie.spec cast-result sub-result returns cast-result-2 returns-2)

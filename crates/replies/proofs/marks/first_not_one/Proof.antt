@@ -5,19 +5,19 @@ use native.Mathlib.Nat.{add-zero}
 use native.Mathlib.Omega.{arith}
 use borrow.Author.Rules.{rules}
 use lib.ListN.{length, drop}
-use Rattle.replies.specs.Marks.{onesFrom, ones-fails, ones-goes, ones-end}
+use Rattle.replies.specs.Marks.{ones_from, ones_fails, ones_goes, ones_end}
 use Rattle.replies.proofs.marks.first_not_one.Statement.{statement}
 use Rattle.replies.proofs.marks.first_not_one.Tie as tie
 
 abbrev invariant-loop : tie.invariant-loop
-invariant-loop marks first i₀ i = onesFrom (first + i) (drop i marks) ≡ onesFrom first marks
+invariant-loop marks first i₀ i = ones_from (first + i) (drop i marks) ≡ ones_from first marks
 
 abbrev decreases-loop : tie.decreases-loop
 decreases-loop marks first i₀ i = length marks - i
 
 loop-holds : tie.Need-loop-init invariant-loop decreases-loop
 loop-holds c =
-    ap (λ k. onesFrom k c.args.marks.now) (add-zero c.args.first)
+    ap (λ k. ones_from k c.args.marks.now) (add-zero c.args.first)
 
 shared-slice-read-if1 : tie.Need-shared-slice-read-if1 invariant-loop decreases-loop
 shared-slice-read-if1 c = search rules
@@ -32,7 +32,7 @@ returns : tie.Need-returns invariant-loop decreases-loop
 returns c =
     let loop = c.before.before.before.loop in
     let loop-test = c.before.before.loop-test in
-    sym (ones-fails _ _ _ loop-test.true c.if1.true) ∙ loop.invariant
+    sym (ones_fails _ _ _ loop-test.true c.if1.true) ∙ loop.invariant
 
 add-i : tie.Need-overflow-add-i invariant-loop decreases-loop
 add-i c = search rules
@@ -44,11 +44,11 @@ loop-again : tie.Need-loop-preserved invariant-loop decreases-loop
 loop-again c =
     let loop = c.before.before.before.loop in
     let loop-test = c.before.before.loop-test in
-    sym (ones-goes _ _ _ loop-test.true c.if1.false) ∙ loop.invariant
+    sym (ones_goes _ _ _ loop-test.true c.if1.false) ∙ loop.invariant
 
 returns-2 : tie.Need-returns-2 invariant-loop decreases-loop
 returns-2 c =
-    sym (ones-end _ _ _ c.loop-test.false) ∙ c.before.loop.invariant
+    sym (ones_end _ _ _ c.loop-test.false) ∙ c.before.loop.invariant
 
 pub first-not-one-spec : {M : Type 1} → statement M
 first-not-one-spec =

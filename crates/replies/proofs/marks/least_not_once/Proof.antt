@@ -3,16 +3,16 @@ use mathlib.Core.Path.{◌≡◌, refl, sym, ◌∙◌}
 use Prim.Native.Nat.{◌+◌, ◌-◌, ◌≤◌}
 use native.Mathlib.Omega.{arith}
 use borrow.Author.Rules.{rules}
-use Rattle.lent.specs.Said.{saidFound}
-use Rattle.replies.specs.Parts.{literalsFrom}
+use Rattle.lent.specs.Said.{said_found}
+use Rattle.replies.specs.Parts.{literals_from}
 use Rattle.replies.specs.Bytes.{told}
-use Rattle.replies.specs.Marks.{onceFrom, window-passes, window-fails, no-window}
+use Rattle.replies.specs.Marks.{once_from, window_passes, window_fails, no_window}
 use Rattle.replies.proofs.marks.least_not_once.Statement.{statement}
 use Rattle.replies.proofs.marks.least_not_once.Tie as tie
 
 abbrev invariant-loop : tie.invariant-loop
 invariant-loop text n from first end at₀ at =
-    (at ≤ end) × (onceFrom at (end - at) (literalsFrom n from text) ≡ onceFrom first (end - first) (literalsFrom n from text))
+    (at ≤ end) × (once_from at (end - at) (literals_from n from text) ≡ once_from first (end - first) (literals_from n from text))
 
 abbrev decreases-loop : tie.decreases-loop
 decreases-loop text n from first end at₀ at = end - at
@@ -44,8 +44,8 @@ returns c =
     let loop = c.before.before.before.before.before.before.loop in
     let window = c.before.before.before.before.window in
     let not-once-in = c.before.before.before.not-once-in in
-    let ns = literalsFrom args.n args.from args.text.now in
-    sym (window-fails ns loop.at window.result (args.n + 1) (omega (arith, window.ensures)) (told (saidFound 19) not-once-in.ensures c.before.variable.given.1)) ∙ loop.invariant.1
+    let ns = literals_from args.n args.from args.text.now in
+    sym (window_fails ns loop.at window.result (args.n + 1) (omega (arith, window.ensures)) (told (said_found 19) not-once-in.ensures c.before.variable.given.1)) ∙ loop.invariant.1
 
 enum_told : tie.Need-enum-told invariant-loop decreases-loop
 enum_told c = search rules
@@ -70,14 +70,14 @@ loop-again c =
     let loop-test = c.before.before.before.before.loop-test in
     let window = c.before.before.before.window in
     let not-once-in = c.before.before.not-once-in in
-    let ns = literalsFrom args.n args.from args.text.now in
-    (omega (arith, window.ensures, loop-test.true), sym (window-passes ns loop.at window.result (args.n + 1) (omega (arith, window.ensures)) (told (saidFound 19) not-once-in.ensures c.enum_told.given.1)) ∙ loop.invariant.1)
+    let ns = literals_from args.n args.from args.text.now in
+    (omega (arith, window.ensures, loop-test.true), sym (window_passes ns loop.at window.result (args.n + 1) (omega (arith, window.ensures)) (told (said_found 19) not-once-in.ensures c.enum_told.given.1)) ∙ loop.invariant.1)
 
 returns-2 : tie.Need-returns-2 invariant-loop decreases-loop
 returns-2 c =
     let args = c.before.before.before.args in
-    let ns = literalsFrom args.n args.from args.text.now in
-    sym (no-window ns _ _ c.loop-test.false) ∙ c.before.loop.invariant.1
+    let ns = literals_from args.n args.from args.text.now in
+    sym (no_window ns _ _ c.loop-test.false) ∙ c.before.loop.invariant.1
 
 pub least-not-once-spec : {M : Type 1} → statement M
 least-not-once-spec =

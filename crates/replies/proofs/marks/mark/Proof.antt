@@ -1,6 +1,6 @@
 -- `replies::marks::mark` meets its contract.
 use native.Mathlib.Omega.{arith}
-use Rattle.replies.specs.Marks.{raised, raised-more, raised-full, changed-before, changed-past, changed-there, changed-kept}
+use Rattle.replies.specs.Marks.{raised, raised-more, raised_full, changed-before, changed-past, changed_there, changed_kept}
 use borrow.Author.Rules.{rules}
 use Rattle.replies.proofs.marks.mark.Statement.{statement}
 use Rattle.replies.proofs.marks.mark.Tie as tie
@@ -21,7 +21,7 @@ returns-3 : tie.Need-returns-3
 returns-3 c =
     let args = c.before.before.before.before.args in
     let if1 = c.before.before.before.if1 in
-    changed-kept raised args.first args.variable args.marks.now (omega (arith, if1.false)) (raised-full _ c.if3.true)
+    changed_kept raised args.first args.variable args.marks.now (omega (arith, if1.false)) (raised_full _ c.if3.true)
 
 add-marks : tie.Need-overflow-add-marks
 add-marks c = search rules
@@ -36,7 +36,7 @@ returns-4 : tie.Need-returns-4
 returns-4 c =
     let args = c.before.before.before.before.args in
     let if1 = c.before.before.before.if1 in
-    changed-there raised args.first args.variable args.marks.now (omega (arith, if1.false)) (raised-more _ (omega (arith, c.if3.false)))
+    changed_there raised args.first args.variable args.marks.now (omega (arith, if1.false)) (raised-more _ (omega (arith, c.if3.false)))
 
 pub mark_spec : {M : Type 1} → statement M
 mark_spec =

@@ -4,8 +4,8 @@ use Prim.Native.Nat.{zero}
 use native.Mathlib.Omega.{arith}
 use lib.ListN.{length, replicate, length-replicate}
 use lib.Seq.{length-take-le}
-use Rattle.replies.specs.Parts.{literalsFrom}
-use Rattle.replies.specs.Marks.{window-tells}
+use Rattle.replies.specs.Parts.{literals_from}
+use Rattle.replies.specs.Marks.{window_tells}
 use borrow.Author.Rules.{rules}
 use Rattle.replies.proofs.marks.not_once_in.Statement.{statement}
 use Rattle.replies.proofs.marks.not_once_in.Tie as tie
@@ -40,8 +40,8 @@ returns c =
     let args = c.before.before.before.before.before.before.args in
     let pre = c.before.before.before.before.before.before.requires in
     let mark-values = c.before.before.before.mark-values in
-    let ns = literalsFrom args.n args.from args.text.now in
-    c.first-not-one.ensures ∙ window-tells ns args.first args.many (length (replicate 32768 zero)) mark-values.new.1.1.1.1.0 mark-values.ensures (omega (arith, pre.1, length-replicate 32768 zero))
+    let ns = literals_from args.n args.from args.text.now in
+    c.first-not-one.ensures ∙ window_tells ns args.first args.many (length (replicate 32768 zero)) mark-values.new.1.1.1.1.0 mark-values.ensures (omega (arith, pre.1, length-replicate 32768 zero))
 
 pub not-once-in-spec : {M : Type 1} → statement M
 not-once-in-spec =

@@ -5,7 +5,7 @@ use native.Mathlib.Omega.{arith}
 use borrow.Author.Rules.{rules}
 use lib.ListN.{length, set, replicate, length-set}
 use Rattle.laws.specs.Written.{written, written_none}
-use Rattle.replies.specs.Models.{cleared_more, cleared-all}
+use Rattle.replies.specs.Models.{cleared_more, cleared_all}
 use Rattle.replies.proofs.models.clear.Statement.{statement}
 use Rattle.replies.proofs.models.clear.Tie as tie
 
@@ -39,7 +39,7 @@ same_length c = c.before.loop.invariant.1.0
 
 returns : tie.Need-returns invariant-loop decreases-loop
 returns c =
-    c.before.loop.invariant.1.1 ∙ cleared-all _ c.before.loop.i (omega (arith, c.before.loop.invariant.0, c.before.loop.invariant.1.0, c.loop-test.false))
+    c.before.loop.invariant.1.1 ∙ cleared_all _ c.before.loop.i (omega (arith, c.before.loop.invariant.0, c.before.loop.invariant.1.0, c.loop-test.false))
 
 pub clear_spec : {M : Type 1} → statement M
 clear_spec =

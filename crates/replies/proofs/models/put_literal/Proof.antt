@@ -1,6 +1,6 @@
 -- `replies::models::put_literal` meets its contract.
 use native.Mathlib.Omega.{arith}
-use Rattle.replies.specs.Marks.{changed-before, changed-past, changed-there}
+use Rattle.replies.specs.Marks.{changed-before, changed-past, changed_there}
 use mathlib.Core.Path.{refl}
 use borrow.Author.Rules.{rules}
 use Rattle.replies.proofs.models.put_literal.Statement.{statement}
@@ -30,7 +30,7 @@ returns-4 : tie.Need-returns-4
 returns-4 c =
     let args = c.before.before.before.args in
     let if1 = c.before.before.if1 in
-    rw if1.false (changed-there (λ b. 1) 1 args.variable args.model.now (omega (arith, c.before.if2.false)) refl)
+    rw if1.false (changed_there (λ b. 1) 1 args.variable args.model.now (omega (arith, c.before.if2.false)) refl)
 
 pub put-literal-spec : {M : Type 1} → statement M
 put-literal-spec =

@@ -4,17 +4,17 @@ use Prim.Native.Nat.{◌-◌}
 use native.Mathlib.Omega.{arith}
 use borrow.Author.Rules.{rules}
 use lib.ListN.{length}
-use Rattle.replies.specs.Said.{saidValue}
+use Rattle.replies.specs.Said.{said_value}
 use Rattle.replies.specs.Bytes.{told}
-use Rattle.replies.specs.Replied.{Passing, passing-none, passing-more, passing-all, passing-bad}
+use Rattle.replies.specs.Replied.{Passing, passing_none, passing-more, passing-all, passing-bad}
 use Rattle.replies.specs.Marks.{none_yet, as_many}
-use Rattle.replies.specs.Models.{withLiteral, model-more}
-use Rattle.definitions.specs.TextOperations.{modelOf}
+use Rattle.replies.specs.Models.{with_literal, model-more}
+use Rattle.definitions.specs.TextOperations.{model_of}
 use Rattle.replies.proofs.models.put_literals.Statement.{statement}
 use Rattle.replies.proofs.models.put_literals.Tie as tie
 
 abbrev invariant-loop : tie.invariant-loop
-invariant-loop text n from model₀ at₀ line₀ model at line = Passing (modelOf (length model₀)) n from line at text model
+invariant-loop text n from model₀ at₀ line₀ model at line = Passing (model_of (length model₀)) n from line at text model
 
 abbrev decreases-loop : tie.decreases-loop
 decreases-loop text n from model₀ at₀ line₀ model at line = length text - at
@@ -23,7 +23,7 @@ loop-holds : tie.Need-loop-init invariant-loop decreases-loop
 loop-holds c =
     let args = c.before.before.args in
     let pre = c.before.before.requires in
-    passing-none _ _ _ _ pre.0.inside (pre.1 ∙ none_yet 1 (length args.model.now))
+    passing_none _ _ _ _ pre.0.inside (pre.1 ∙ none_yet 1 (length args.model.now))
 
 value-at-requires : tie.Need-value-at-requires invariant-loop decreases-loop
 value-at-requires c κs = c.loop.invariant.passed.inside
@@ -51,7 +51,7 @@ loop-again c =
     let put-literal = c.before.before.put-literal in
     let h = rw c.before.before.before.before.before.minus.given.1 at value-at.ensures.1 in
     let minus = c.before.before.before.before.before.minus.given.0.0 in
-    passing-more _ _ _ _ loop.invariant (told (saidValue _) value-at.ensures.0 c.before.before.before.before.before.minus.given.1) h.1 (λ ns e. put-literal.ensures ∙ ap (withLiteral minus c.before.before.before.before.before.minus.given.0.1.0) e ∙ model-more (length args.model.now) ns minus c.before.before.before.before.before.minus.given.0.1.0)
+    passing-more _ _ _ _ loop.invariant (told (said_value _) value-at.ensures.0 c.before.before.before.before.before.minus.given.1) h.1 (λ ns e. put-literal.ensures ∙ ap (with_literal minus c.before.before.before.before.before.minus.given.0.1.0) e ∙ model-more (length args.model.now) ns minus c.before.before.before.before.before.minus.given.0.1.0)
 
 enum_told : tie.Need-enum-told invariant-loop decreases-loop
 enum_told c = search rules
@@ -66,7 +66,7 @@ returns c =
     let args = c.before.before.before.before.before.before.args in
     let loop = c.before.before.before.loop in
     let value-at = c.before.before.value-at in
-    passing-all _ _ _ _ loop.invariant (told (saidValue args.text.now) value-at.ensures.0 c.enum_told.given.1)
+    passing-all _ _ _ _ loop.invariant (told (said_value args.text.now) value-at.ensures.0 c.enum_told.given.1)
 
 enum-told-2 : tie.Need-enum-told-2 invariant-loop decreases-loop
 enum-told-2 c = search rules
@@ -82,7 +82,7 @@ returns-2 c =
     let pre = c.before.before.before.before.before.before.requires in
     let loop = c.before.before.before.loop in
     let value-at = c.before.before.value-at in
-    passing-bad _ _ _ _ loop.invariant pre.0 (told (saidValue args.text.now) value-at.ensures.0 c.enum-told2.given.1)
+    passing-bad _ _ _ _ loop.invariant pre.0 (told (said_value args.text.now) value-at.ensures.0 c.enum-told2.given.1)
 
 pub put-literals-spec : {M : Type 1} → statement M
 put-literals-spec =

@@ -1,9 +1,9 @@
 -- `replies::models::read_reply` meets its contract.
 use mathlib.Core.Path.{◌∙◌}
-use Rattle.replies.specs.Said.{saidHeard}
+use Rattle.replies.specs.Said.{said_heard}
 use Rattle.replies.specs.Bytes.{told}
 use Rattle.replies.specs.Outcome.{apart}
-use Rattle.replies.specs.Models.{reply-bad, reply-nothing, reply-told, reply-taken}
+use Rattle.replies.specs.Models.{reply-bad, reply-nothing, reply_told, reply-taken}
 use borrow.Author.Rules.{rules}
 use Rattle.replies.proofs.models.read_reply.Statement.{statement}
 use Rattle.replies.proofs.models.read_reply.Tie as tie
@@ -23,7 +23,7 @@ take-model-requires c κs =
     let check-reply = c.before.before.before.before.check-reply in
     let from = c.before.before.from in
     let h = rw from.given.1 at check-reply.ensures.1 in
-    reply-told args.n args.text.now args.model.now (told saidHeard check-reply.ensures.0 from.given.1) h.0 h.1
+    reply_told args.n args.text.now args.model.now (told said_heard check-reply.ensures.0 from.given.1) h.0 h.1
 
 enum-known-d : tie.Need-enum-known-d
 enum-known-d c = search rules
@@ -32,7 +32,7 @@ returns : tie.Need-returns
 returns c =
     let args = c.before.before.before.before.before.args in
     let check-reply = c.before.before.check-reply in
-    apart (reply-nothing args.n args.text.now args.model.now (told saidHeard check-reply.ensures.0 c.enum_told.given.1))
+    apart (reply-nothing args.n args.text.now args.model.now (told said_heard check-reply.ensures.0 c.enum_told.given.1))
 
 same_length : tie.Need-same-length
 same_length c = search rules
@@ -44,13 +44,13 @@ returns-2 c =
     let from = c.before.before.before.before.before.from in
     let take-model = c.before.before.take-model in
     let h = rw from.given.1 at check-reply.ensures.1 in
-    apart (take-model.ensures ∙ reply-taken args.n args.text.now args.model.now (told saidHeard check-reply.ensures.0 from.given.1) h.0 h.1)
+    apart (take-model.ensures ∙ reply-taken args.n args.text.now args.model.now (told said_heard check-reply.ensures.0 from.given.1) h.0 h.1)
 
 returns-3 : tie.Need-returns-3
 returns-3 c =
     let args = c.before.before.before.before.before.before.args in
     let check-reply = c.before.before.before.check-reply in
-    apart (reply-bad args.n args.text.now args.model.now (told saidHeard check-reply.ensures.0 c.before.d.given.1))
+    apart (reply-bad args.n args.text.now args.model.now (told said_heard check-reply.ensures.0 c.before.d.given.1))
 
 pub read-reply-spec : {M : Type 1} → statement M
 read-reply-spec =

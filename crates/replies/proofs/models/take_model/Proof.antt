@@ -2,12 +2,12 @@
 use mathlib.Core.Path.{sym, ap, ◌∙◌}
 use native.Mathlib.Omega.{arith}
 use lib.ListN.{replicate}
-use Rattle.lent.specs.Said.{saidFound}
-use Rattle.definitions.specs.TextOperations.{modelOf}
-use Rattle.replies.specs.Parts.{literalsFrom}
+use Rattle.lent.specs.Said.{said_found}
+use Rattle.definitions.specs.TextOperations.{model_of}
+use Rattle.replies.specs.Parts.{literals_from}
 use Rattle.replies.specs.Bytes.{told}
 use Rattle.replies.specs.Marks.{sought-within}
-use Rattle.replies.specs.Models.{sought-told, answer-not-once, answer-wrong, answer-model}
+use Rattle.replies.specs.Models.{sought_told, answer_not_once, answer_wrong, answer_model}
 use borrow.Author.Rules.{rules}
 use Rattle.replies.proofs.models.take_model.Statement.{statement}
 use Rattle.replies.proofs.models.take_model.Tie as tie
@@ -33,8 +33,8 @@ returns c =
     let pre = c.before.before.before.before.before.before.before.requires in
     let sought-from = c.before.before.before.before.sought-from in
     let least-not-once = c.before.before.before.least-not-once in
-    let once = sought-told pre sought-from.ensures (told (saidFound 19) least-not-once.ensures c.before.enum_told.given.1) in
-    answer-wrong args.n args.from args.text.now args.model.now once c.if1.true
+    let once = sought_told pre sought-from.ensures (told (said_found 19) least-not-once.ensures c.before.enum_told.given.1) in
+    answer_wrong args.n args.from args.text.now args.model.now once c.if1.true
 
 clear-requires : tie.Need-clear-requires
 clear-requires c κs = search rules
@@ -51,8 +51,8 @@ returns-2 c =
     let pre = c.before.before.before.before.before.before.before.requires in
     let sought-from = c.before.before.before.before.sought-from in
     let least-not-once = c.before.before.before.least-not-once in
-    let once = sought-told pre sought-from.ensures (told (saidFound 19) least-not-once.ensures c.before.variable.given.1) in
-    answer-not-once args.n args.from args.text.now args.model.now once
+    let once = sought_told pre sought-from.ensures (told (said_found 19) least-not-once.ensures c.before.variable.given.1) in
+    answer_not_once args.n args.from args.text.now args.model.now once
 
 same_length : tie.Need-same-length
 same_length c = search rules
@@ -67,9 +67,9 @@ returns-3 c =
     let if1 = c.before.before.before.before.before.before.before.before.if1 in
     let clear = c.before.before.before.before.before.before.clear in
     let put-literals = c.before.before.put-literals in
-    let once = sought-told pre sought-from.ensures (told (saidFound 19) least-not-once.ensures enum_told.given.1) in
-    let ns = literalsFrom args.n args.from args.text.now in
-    answer-model args.n args.from args.text.now args.model.now once if1.false _ (put-literals.ensures ∙ ap (λ k. modelOf k ns) clear.auto.0)
+    let once = sought_told pre sought-from.ensures (told (said_found 19) least-not-once.ensures enum_told.given.1) in
+    let ns = literals_from args.n args.from args.text.now in
+    answer_model args.n args.from args.text.now args.model.now once if1.false _ (put-literals.ensures ∙ ap (λ k. model_of k ns) clear.auto.0)
 
 pub take-model-spec : {M : Type 1} → statement M
 take-model-spec =

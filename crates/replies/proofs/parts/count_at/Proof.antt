@@ -1,7 +1,7 @@
 -- `replies::parts::count_at` meets its contract.
 use mathlib.Core.Path.{sym, ◌∙◌}
 use borrow.Author.Tests.{not-true, not-false}
-use Rattle.replies.specs.Bytes.{via, count_none, count-wrong, count-begins, count-sooner}
+use Rattle.replies.specs.Bytes.{via, count_none, count_wrong, count_begins, count_sooner}
 use borrow.Author.Rules.{rules}
 use Rattle.replies.proofs.parts.count_at.Statement.{statement}
 use Rattle.replies.proofs.parts.count_at.Tie as tie
@@ -18,7 +18,7 @@ is-digit-requires c κs = search rules
 returns-2 : tie.Need-returns-2
 returns-2 c =
     let if1 = c.before.before.before.if1 in
-    (sym (count-wrong _ _ if1.false (via c.before.is_digit.ensures (not-true _ c.if2.true))), tt)
+    (sym (count_wrong _ _ if1.false (via c.before.is_digit.ensures (not-true _ c.if2.true))), tt)
 
 worth-requires : tie.Need-worth-requires
 worth-requires c κs = search rules
@@ -35,7 +35,7 @@ returns-3 c =
     let if1 = c.before.before.before.before.before.if1 in
     let is_digit = c.before.before.before.is_digit in
     let if2 = c.before.before.if2 in
-    (c.count-from.ensures.0 ∙ sym (count-begins _ _ if1.false _ (via is_digit.ensures (not-false _ if2.false)) c.before.worth.ensures.0), count-sooner args.from args.text.now c.count-from.result c.count-from.ensures.1)
+    (c.count-from.ensures.0 ∙ sym (count_begins _ _ if1.false _ (via is_digit.ensures (not-false _ if2.false)) c.before.worth.ensures.0), count_sooner args.from args.text.now c.count-from.result c.count-from.ensures.1)
 
 pub count-at-spec : {M : Type 1} → statement M
 count-at-spec =

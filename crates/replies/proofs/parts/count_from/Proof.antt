@@ -6,14 +6,14 @@ use native.Mathlib.Omega.{arith}
 use lib.ListN.{length, drop}
 use borrow.Author.Tests.{not-true, not-false}
 use Rattle.definitions.specs.Texts.{most}
-use Rattle.replies.specs.Parts.{countFrom}
+use Rattle.replies.specs.Parts.{count_from}
 use Rattle.replies.specs.Bytes.{via, count-step, count-over, count-stops, count-end}
 use Rattle.replies.proofs.parts.count_from.Statement.{statement}
 use Rattle.replies.proofs.parts.count_from.Tie as tie
 
 abbrev invariant-loop : tie.invariant-loop
 invariant-loop text first from value₀ at₀ value at =
-    (countFrom value at (drop at text) ≡ countFrom first from (drop from text)) × (value ≤ most) × (from ≤ at) × (at ≤ length text)
+    (count_from value at (drop at text) ≡ count_from first from (drop from text)) × (value ≤ most) × (from ≤ at) × (at ≤ length text)
 
 abbrev decreases-loop : tie.decreases-loop
 decreases-loop text first from value₀ at₀ value at = length text - at

@@ -4,16 +4,16 @@ use mathlib.Core.Path.{◌≡◌, refl, sym, ◌∙◌}
 use Prim.Native.Nat.{◌-◌, ◌≤◌}
 use native.Mathlib.Omega.{arith}
 use lib.ListN.{length, drop}
-use Rattle.replies.specs.Parts.{numberFrom}
+use Rattle.replies.specs.Parts.{number_from}
 use Rattle.laws.specs.Stepping.{num}
-use Rattle.replies.specs.Said.{saidGrown}
-use Rattle.replies.specs.Bytes.{via, told, number_step, number-refused, number-done, number-part, number-end, number-end-part}
+use Rattle.replies.specs.Said.{said_grown}
+use Rattle.replies.specs.Bytes.{via, told, number_step, number_refused, number_done, number_part, number-end, number_end_part}
 use Rattle.replies.proofs.parts.number_from.Statement.{statement}
 use Rattle.replies.proofs.parts.number_from.Tie as tie
 
 abbrev invariant-loop : tie.invariant-loop
 invariant-loop text n start minus first from size₀ at₀ size at =
-    (numberFrom n (num start minus size) at (drop at text) ≡ numberFrom n (num start minus first) from (drop from text)) × (from ≤ at) × (at ≤ length text)
+    (number_from n (num start minus size) at (drop at text) ≡ number_from n (num start minus first) from (drop from text)) × (from ≤ at) × (at ≤ length text)
 
 abbrev decreases-loop : tie.decreases-loop
 decreases-loop text n start minus first from size₀ at₀ size at = length text - at
@@ -36,7 +36,7 @@ returns c =
     let loop-test = c.before.before.before.before.before.loop-test in
     let is-blank = c.before.before.before.is-blank in
     let if1 = c.before.before.if1 in
-    (sym (number-done _ _ loop-test.true _ _ (via is-blank.ensures if1.true) (via c.before.is_whole.ensures c.if2.true)) ∙ loop.invariant.0, (omega arith, omega arith))
+    (sym (number_done _ _ loop-test.true _ _ (via is-blank.ensures if1.true) (via c.before.is_whole.ensures c.if2.true)) ∙ loop.invariant.0, (omega arith, omega arith))
 
 returns-2 : tie.Need-returns-2 invariant-loop decreases-loop
 returns-2 c =
@@ -44,7 +44,7 @@ returns-2 c =
     let loop-test = c.before.before.before.before.before.loop-test in
     let is-blank = c.before.before.before.is-blank in
     let if1 = c.before.before.if1 in
-    (sym (number-part _ _ loop-test.true _ _ (via is-blank.ensures if1.true) (via c.before.is_whole.ensures c.if2.false)) ∙ loop.invariant.0, tt)
+    (sym (number_part _ _ loop-test.true _ _ (via is-blank.ensures if1.true) (via c.before.is_whole.ensures c.if2.false)) ∙ loop.invariant.0, tt)
 
 grow-requires : tie.Need-grow-requires invariant-loop decreases-loop
 grow-requires c κs = search rules
@@ -65,7 +65,7 @@ returns-3 c =
     let is-blank = c.before.before.before.before.before.is-blank in
     let if1 = c.before.before.before.before.if1 in
     let grow = c.before.before.before.grow in
-    (sym (number-refused _ _ loop-test.true _ _ (via is-blank.ensures if1.false) (told (saidGrown _ _) grow.ensures c.of-grown.ensures)) ∙ loop.invariant.0, tt)
+    (sym (number_refused _ _ loop-test.true _ _ (via is-blank.ensures if1.false) (told (said_grown _ _) grow.ensures c.of-grown.ensures)) ∙ loop.invariant.0, tt)
 
 add_at : tie.Need-overflow-add-at invariant-loop decreases-loop
 add_at c = search rules
@@ -80,7 +80,7 @@ loop-again c =
     let is-blank = c.before.before.before.before.before.is-blank in
     let if1 = c.before.before.before.before.if1 in
     let grow = c.before.before.before.grow in
-    (sym (number_step _ _ loop-test.true _ _ (via is-blank.ensures if1.false) (told (saidGrown _ _) grow.ensures c.before.read.given.1)) ∙ loop.invariant.0, omega arith, omega arith)
+    (sym (number_step _ _ loop-test.true _ _ (via is-blank.ensures if1.false) (told (said_grown _ _) grow.ensures c.before.read.given.1)) ∙ loop.invariant.0, omega arith, omega arith)
 
 is-whole-requires-2 : tie.Need-is-whole-requires-2 invariant-loop decreases-loop
 is-whole-requires-2 c κs = search rules
@@ -95,7 +95,7 @@ returns-5 : tie.Need-returns-5 invariant-loop decreases-loop
 returns-5 c =
     let loop = c.before.before.before.loop in
     let loop-test = c.before.before.loop-test in
-    (sym (number-end-part _ _ loop-test.false _ _ (via c.before.is-whole2.ensures c.if3.false)) ∙ loop.invariant.0, tt)
+    (sym (number_end_part _ _ loop-test.false _ _ (via c.before.is-whole2.ensures c.if3.false)) ∙ loop.invariant.0, tt)
 
 pub number-from-spec : {M : Type 1} → statement M
 number-from-spec =

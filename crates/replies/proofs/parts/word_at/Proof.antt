@@ -5,7 +5,7 @@ use Prim.Native.Nat.{◌-◌, ◌≤◌}
 use native.Mathlib.Omega.{arith}
 use lib.ListN.{length, drop}
 use Rattle.replies.specs.Parts.{word_at}
-use Rattle.replies.specs.Bytes.{word-step, word-short, word-wrong, word-past}
+use Rattle.replies.specs.Bytes.{word_step, word_short, word_wrong, word_past}
 use Rattle.replies.proofs.parts.word_at.Statement.{statement}
 use Rattle.replies.proofs.parts.word_at.Tie as tie
 
@@ -22,7 +22,7 @@ loop-holds c = (refl, omega arith, omega arith)
 returns : tie.Need-returns invariant-loop decreases-loop
 returns c =
     let loop = c.before.before.loop in
-    (sym (word-short _ _ _ _ c.before.loop-test.true c.if1.true) ∙ loop.invariant.0, tt)
+    (sym (word_short _ _ _ _ c.before.loop-test.true c.if1.true) ∙ loop.invariant.0, tt)
 
 shared-slice-read-if2 : tie.Need-shared-slice-read-if2 invariant-loop decreases-loop
 shared-slice-read-if2 c = search rules
@@ -34,7 +34,7 @@ returns-2 : tie.Need-returns-2 invariant-loop decreases-loop
 returns-2 c =
     let loop = c.before.before.before.before.before.loop in
     let loop-test = c.before.before.before.before.loop-test in
-    (sym (word-wrong _ _ _ _ loop-test.true (omega arith) c.if2.true) ∙ loop.invariant.0, tt)
+    (sym (word_wrong _ _ _ _ loop-test.true (omega arith) c.if2.true) ∙ loop.invariant.0, tt)
 
 add-i : tie.Need-overflow-add-i invariant-loop decreases-loop
 add-i c = search rules
@@ -49,11 +49,11 @@ loop-again : tie.Need-loop-preserved invariant-loop decreases-loop
 loop-again c =
     let loop = c.before.before.before.before.before.loop in
     let loop-test = c.before.before.before.before.loop-test in
-    (sym (word-step _ _ _ _ loop-test.true (omega arith) c.if2.false) ∙ loop.invariant.0, omega arith, omega arith)
+    (sym (word_step _ _ _ _ loop-test.true (omega arith) c.if2.false) ∙ loop.invariant.0, omega arith, omega arith)
 
 returns-3 : tie.Need-returns-3 invariant-loop decreases-loop
 returns-3 c =
-    (sym (word-past _ _ _ _ c.loop-test.false) ∙ c.before.loop.invariant.0, (omega arith, omega arith))
+    (sym (word_past _ _ _ _ c.loop-test.false) ∙ c.before.loop.invariant.0, (omega arith, omega arith))
 
 pub word-at-spec : {M : Type 1} → statement M
 word-at-spec =

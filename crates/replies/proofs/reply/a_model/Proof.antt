@@ -1,8 +1,8 @@
 -- `replies::reply::a_model` meets its contract.
 use lib.ListN.{drop}
-use Rattle.replies.specs.Said.{saidWord, saidListed}
+use Rattle.replies.specs.Said.{said_word, said_listed}
 use Rattle.replies.specs.Bytes.{told}
-use Rattle.replies.specs.Replied.{model-wrong, model-from, model_is, model-bad}
+use Rattle.replies.specs.Replied.{model_wrong, model-from, model_is, model-bad}
 use borrow.Author.Rules.{rules}
 use Rattle.replies.proofs.reply.a_model.Statement.{statement}
 use Rattle.replies.proofs.reply.a_model.Tie as tie
@@ -26,7 +26,7 @@ returns : tie.Need-returns
 returns c =
     let args = c.before.before.before.before.before.before.args in
     let word_at = c.before.before.before.word_at in
-    (model-wrong args.from (drop args.from args.text.now) args.n (told (saidWord args.text.now) word_at.ensures.0 c.of_word.ensures), tt)
+    (model_wrong args.from (drop args.from args.text.now) args.n (told (said_word args.text.now) word_at.ensures.0 c.of_word.ensures), tt)
 
 count-values-requires : tie.Need-count-values-requires
 count-values-requires c κs =
@@ -48,7 +48,7 @@ returns-2 c =
     let word_at = c.before.before.before.before.before.before.before.word_at in
     let word = c.before.before.before.before.before.word in
     let count-values = c.before.before.before.count-values in
-    (model-bad args.from (drop args.from args.text.now) args.n (told (saidWord args.text.now) word_at.ensures.0 word.given.1) (told saidListed count-values.ensures c.of-listed.ensures), tt)
+    (model-bad args.from (drop args.from args.text.now) args.n (told (said_word args.text.now) word_at.ensures.0 word.given.1) (told said_listed count-values.ensures c.of-listed.ensures), tt)
 
 returns-3 : tie.Need-returns-3
 returns-3 c =
@@ -56,10 +56,10 @@ returns-3 c =
     let word_at = c.before.before.before.before.before.before.before.word_at in
     let word = c.before.before.before.before.before.word in
     let count-values = c.before.before.before.count-values in
-    let past = told (saidWord args.text.now) word_at.ensures.0 word.given.1 in
+    let past = told (said_word args.text.now) word_at.ensures.0 word.given.1 in
     let tail = drop args.from args.text.now in
     let h = rw word.given.1 at word_at.ensures.1 in
-    (model_is args.from tail args.n past (told saidListed count-values.ensures c.before.listed.given.1), (h.1, model-from args.from tail args.n past))
+    (model_is args.from tail args.n past (told said_listed count-values.ensures c.before.listed.given.1), (h.1, model-from args.from tail args.n past))
 
 pub a-model-spec : {M : Type 1} → statement M
 a-model-spec =

@@ -1,10 +1,10 @@
 -- `replies::reply::check_reply` meets its contract.
 use mathlib.Core.Path.{ap, ◌∙◌, subst}
 use lib.ListN.{drop}
-use Rattle.replies.specs.Said.{saidWord, heardIn}
+use Rattle.replies.specs.Said.{said_word, HeardIn}
 use Rattle.replies.specs.Parts.{summed}
 use Rattle.replies.specs.Bytes.{told}
-use Rattle.replies.specs.Replied.{none_in, reply-wrong, reply-ends, reply-none, reply-model}
+use Rattle.replies.specs.Replied.{none_in, reply_wrong, reply_ends, reply_none, reply-model}
 use borrow.Author.Rules.{rules}
 use Rattle.replies.proofs.reply.check_reply.Statement.{statement}
 use Rattle.replies.proofs.reply.check_reply.Tie as tie
@@ -28,14 +28,14 @@ returns : tie.Need-returns
 returns c =
     let args = c.before.before.before.before.before.before.args in
     let word_at = c.before.before.before.word_at in
-    (reply-wrong args.n args.text.now (told (saidWord args.text.now) word_at.ensures.0 c.of_word.ensures), tt)
+    (reply_wrong args.n args.text.now (told (said_word args.text.now) word_at.ensures.0 c.of_word.ensures), tt)
 
 returns-2 : tie.Need-returns-2
 returns-2 c =
     let args = c.before.before.before.before.before.before.before.args in
     let word_at = c.before.before.before.before.word_at in
     let read = c.before.before.read in
-    (reply-ends args.n args.text.now (told (saidWord args.text.now) word_at.ensures.0 read.given.1) c.if1.true, tt)
+    (reply_ends args.n args.text.now (told (said_word args.text.now) word_at.ensures.0 read.given.1) c.if1.true, tt)
 
 shared-slice-read-if2 : tie.Need-shared-slice-read-if2
 shared-slice-read-if2 c = search rules
@@ -49,7 +49,7 @@ returns-3 c =
     let word_at = c.before.before.before.before.before.before.before.word_at in
     let read = c.before.before.before.before.before.read in
     let if1 = c.before.before.before.if1 in
-    (c.no-model.ensures ∙ reply-none args.n args.text.now (told (saidWord args.text.now) word_at.ensures.0 read.given.1) if1.false c.before.if2.true, none_in read.given.0.0 (drop read.given.0.0 args.text.now) args.n args.text.now _ c.no-model.result c.no-model.ensures)
+    (c.no-model.ensures ∙ reply_none args.n args.text.now (told (said_word args.text.now) word_at.ensures.0 read.given.1) if1.false c.before.if2.true, none_in read.given.0.0 (drop read.given.0.0 args.text.now) args.n args.text.now _ c.no-model.result c.no-model.ensures)
 
 a-model-requires : tie.Need-a-model-requires
 a-model-requires c κs = search rules
@@ -60,8 +60,8 @@ returns-4 c =
     let word_at = c.before.before.before.before.before.before.before.word_at in
     let read = c.before.before.before.before.before.read in
     let if1 = c.before.before.before.if1 in
-    let whole = reply-model args.n args.text.now (told (saidWord args.text.now) word_at.ensures.0 read.given.1) if1.false c.before.if2.false in
-    (c.a-model.ensures.0 ∙ ap summed whole, subst (λ m. heardIn args.n args.text.now m c.a-model.result) whole c.a-model.ensures.1)
+    let whole = reply-model args.n args.text.now (told (said_word args.text.now) word_at.ensures.0 read.given.1) if1.false c.before.if2.false in
+    (c.a-model.ensures.0 ∙ ap summed whole, subst (λ m. HeardIn args.n args.text.now m c.a-model.result) whole c.a-model.ensures.1)
 
 pub check-reply-spec : {M : Type 1} → statement M
 check-reply-spec =

@@ -1,8 +1,8 @@
 -- `replies::reply::no_model` meets its contract.
 use lib.ListN.{drop}
-use Rattle.replies.specs.Said.{saidWord}
+use Rattle.replies.specs.Said.{said_word}
 use Rattle.replies.specs.Bytes.{told}
-use Rattle.replies.specs.Replied.{none-wrong, none-ends, none_more}
+use Rattle.replies.specs.Replied.{none_wrong, none_ends, none_more}
 use borrow.Author.Rules.{rules}
 use Rattle.replies.proofs.reply.no_model.Statement.{statement}
 use Rattle.replies.proofs.reply.no_model.Tie as tie
@@ -26,21 +26,21 @@ returns : tie.Need-returns
 returns c =
     let args = c.before.before.before.before.before.before.args in
     let word_at = c.before.before.before.word_at in
-    none-wrong args.from (drop args.from args.text.now) (told (saidWord args.text.now) word_at.ensures.0 c.of_word.ensures)
+    none_wrong args.from (drop args.from args.text.now) (told (said_word args.text.now) word_at.ensures.0 c.of_word.ensures)
 
 returns-2 : tie.Need-returns-2
 returns-2 c =
     let args = c.before.before.before.before.before.before.before.args in
     let word_at = c.before.before.before.before.word_at in
     let read = c.before.before.read in
-    none-ends args.from (drop args.from args.text.now) args.text.now (told (saidWord args.text.now) word_at.ensures.0 read.given.1) c.if1.true
+    none_ends args.from (drop args.from args.text.now) args.text.now (told (said_word args.text.now) word_at.ensures.0 read.given.1) c.if1.true
 
 returns-3 : tie.Need-returns-3
 returns-3 c =
     let args = c.before.before.before.before.before.before.before.args in
     let word_at = c.before.before.before.before.word_at in
     let read = c.before.before.read in
-    none_more args.from (drop args.from args.text.now) args.text.now (told (saidWord args.text.now) word_at.ensures.0 read.given.1) c.if1.false
+    none_more args.from (drop args.from args.text.now) args.text.now (told (said_word args.text.now) word_at.ensures.0 read.given.1) c.if1.false
 
 pub no-model-spec : {M : Type 1} → statement M
 no-model-spec =

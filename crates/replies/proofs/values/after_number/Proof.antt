@@ -2,7 +2,7 @@
 use mathlib.Core.Path.{sym}
 use native.Mathlib.Omega.{arith}
 use Rattle.laws.specs.Stepping.{num}
-use Rattle.replies.specs.Replied.{after_none, after-literal, after-zero-wrong, after-zero, after-zero-more}
+use Rattle.replies.specs.Replied.{after_none, after_literal, after_zero_wrong, after_zero, after_zero_more}
 use borrow.Author.Rules.{rules}
 use Rattle.replies.proofs.values.after_number.Statement.{statement}
 use Rattle.replies.proofs.values.after_number.Tie as tie
@@ -22,7 +22,7 @@ returns-2 c =
     let args = c.before.before.before.before.before.args in
     let if1 = c.before.before.before.before.if1 in
     let if2 = c.before.before.if2 in
-    (sym (after-zero (num 0 args.minus args.size) args.text.now args.from if1.false if2.true c.before.if3.true c.if4.true), tt)
+    (sym (after_zero (num 0 args.minus args.size) args.text.now args.from if1.false if2.true c.before.if3.true c.if4.true), tt)
 
 add-t11 : tie.Need-overflow-add-t11
 add-t11 c = search rules
@@ -32,13 +32,13 @@ returns-3 c =
     let args = c.before.before.before.before.before.args in
     let if1 = c.before.before.before.before.if1 in
     let if2 = c.before.before.if2 in
-    (sym (after-zero-more (num 0 args.minus args.size) args.text.now args.from if1.false if2.true c.before.if3.true c.if4.false), tt)
+    (sym (after_zero_more (num 0 args.minus args.size) args.text.now args.from if1.false if2.true c.before.if3.true c.if4.false), tt)
 
 returns-4 : tie.Need-returns-4
 returns-4 c =
     let args = c.before.before.before.before.args in
     let if1 = c.before.before.before.if1 in
-    (sym (after-zero-wrong (num 0 args.minus args.size) args.text.now args.from if1.false c.before.if2.true c.if3.false), tt)
+    (sym (after_zero_wrong (num 0 args.minus args.size) args.text.now args.from if1.false c.before.if2.true c.if3.false), tt)
 
 add-t6 : tie.Need-overflow-add-t6
 add-t6 c = search rules
@@ -47,7 +47,7 @@ returns-5 : tie.Need-returns-5
 returns-5 c =
     let args = c.before.before.before.args in
     let if1 = c.before.before.if1 in
-    (sym (after-literal (num 0 args.minus args.size) args.text.now args.from if1.false c.if2.false), (omega arith, omega arith))
+    (sym (after_literal (num 0 args.minus args.size) args.text.now args.from if1.false c.if2.false), (omega arith, omega arith))
 
 pub after-number-spec : {M : Type 1} → statement M
 after-number-spec =

@@ -3,9 +3,9 @@ use borrow.Author.Rules.{rules}
 use Prim.Native.Nat.{◌-◌}
 use native.Mathlib.Omega.{arith}
 use lib.ListN.{length}
-use Rattle.replies.specs.Said.{saidValue}
+use Rattle.replies.specs.Said.{said_value}
 use Rattle.replies.specs.Bytes.{told}
-use Rattle.replies.specs.Replied.{Literals, literals-none, literals-more, literals-all, literals-bad}
+use Rattle.replies.specs.Replied.{Literals, literals_none, literals-more, literals-all, literals-bad}
 use Rattle.replies.proofs.values.count_values.Statement.{statement}
 use Rattle.replies.proofs.values.count_values.Tie as tie
 
@@ -16,7 +16,7 @@ abbrev decreases-loop : tie.decreases-loop
 decreases-loop text n from at₀ line₀ literals₀ rising₀ at line literals rising = length text - at
 
 loop-holds : tie.Need-loop-init invariant-loop decreases-loop
-loop-holds c = literals-none _ _ _ c.before.requires
+loop-holds c = literals_none _ _ _ c.before.requires
 
 value-at-requires : tie.Need-value-at-requires invariant-loop decreases-loop
 value-at-requires c κs = c.loop.invariant.passed.inside
@@ -48,7 +48,7 @@ loop-again c =
     let loop = c.before.before.before.before.before.loop in
     let value-at = c.before.before.before.before.value-at in
     let size = c.before.before.size in
-    let h = rw size.given.1 at value-at.ensures.1 in literals-more _ _ _ loop.invariant size.given.0.0 _ _ _ _ (told (saidValue _) value-at.ensures.0 size.given.1) h.0 h.1 c.is-next.ensures
+    let h = rw size.given.1 at value-at.ensures.1 in literals-more _ _ _ loop.invariant size.given.0.0 _ _ _ _ (told (said_value _) value-at.ensures.0 size.given.1) h.0 h.1 c.is-next.ensures
 
 enum_told : tie.Need-enum-told invariant-loop decreases-loop
 enum_told c = search rules
@@ -58,7 +58,7 @@ returns c =
     let args = c.before.before.before.before.before.args in
     let loop = c.before.before.before.loop in
     let value-at = c.before.before.value-at in
-    literals-all _ _ _ loop.invariant (told (saidValue args.text.now) value-at.ensures.0 c.enum_told.given.1)
+    literals-all _ _ _ loop.invariant (told (said_value args.text.now) value-at.ensures.0 c.enum_told.given.1)
 
 enum-known-d : tie.Need-enum-known-d invariant-loop decreases-loop
 enum-known-d c = search rules
@@ -68,7 +68,7 @@ returns-2 c =
     let args = c.before.before.before.before.before.before.args in
     let loop = c.before.before.before.before.loop in
     let value-at = c.before.before.before.value-at in
-    literals-bad _ _ _ loop.invariant _ (told (saidValue args.text.now) value-at.ensures.0 c.before.d.given.1)
+    literals-bad _ _ _ loop.invariant _ (told (said_value args.text.now) value-at.ensures.0 c.before.d.given.1)
 
 pub count-values-spec : {M : Type 1} → statement M
 count-values-spec =

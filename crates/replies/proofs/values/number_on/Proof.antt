@@ -2,9 +2,9 @@
 use mathlib.Core.Path.{sym, ◌∙◌}
 use native.Mathlib.Omega.{arith}
 use lib.ListN.{drop}
-use Rattle.replies.specs.Said.{saidNumeral}
+use Rattle.replies.specs.Said.{said_numeral}
 use Rattle.replies.specs.Bytes.{told}
-use Rattle.replies.specs.Replied.{number-then, number-not, number-none, value-sooner}
+use Rattle.replies.specs.Replied.{number_then, number-not, number_none, value_sooner}
 use borrow.Author.Rules.{rules}
 use Rattle.replies.proofs.values.number_on.Statement.{statement}
 use Rattle.replies.proofs.values.number_on.Tie as tie
@@ -12,7 +12,7 @@ use Rattle.replies.proofs.values.number_on.Tie as tie
 returns : tie.Need-returns
 returns c =
     let args = c.before.before.args in
-    (sym (number-none args.n args.text.now args.from c.if1.true), tt)
+    (sym (number_none args.n args.text.now args.from c.if1.true), tt)
 
 number-at-requires : tie.Need-number-at-requires
 number-at-requires c κs = search rules
@@ -30,7 +30,7 @@ returns-2 : tie.Need-returns-2
 returns-2 c =
     let args = c.before.before.before.before.before.before.args in
     let number_at = c.before.before.before.number_at in
-    (sym (number-not args.n args.from (drop args.from args.text.now) (told (saidNumeral args.from args.text.now) number_at.ensures.0 c.of-numeral.ensures)), tt)
+    (sym (number-not args.n args.from (drop args.from args.text.now) (told (said_numeral args.from args.text.now) number_at.ensures.0 c.of-numeral.ensures)), tt)
 
 after-number-requires : tie.Need-after-number-requires
 after-number-requires c κs =
@@ -43,7 +43,7 @@ returns-3 c =
     let number_at = c.before.before.before.before.number_at in
     let read = c.before.before.read in
     let h = rw read.given.1 at number_at.ensures.1 in
-    (c.after-number.ensures.0 ∙ sym (number-then args.n args.from (drop args.from args.text.now) (told (saidNumeral args.from args.text.now) number_at.ensures.0 read.given.1)), value-sooner args.from read.given.0.1.1.0 args.text.now c.after-number.result (omega (arith, h.0)) c.after-number.ensures.1)
+    (c.after-number.ensures.0 ∙ sym (number_then args.n args.from (drop args.from args.text.now) (told (said_numeral args.from args.text.now) number_at.ensures.0 read.given.1)), value_sooner args.from read.given.0.1.1.0 args.text.now c.after-number.result (omega (arith, h.0)) c.after-number.ensures.1)
 
 pub number-on-spec : {M : Type 1} → statement M
 number-on-spec =

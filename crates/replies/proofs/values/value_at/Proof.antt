@@ -1,9 +1,9 @@
 -- `replies::values::value_at` meets its contract.
 use mathlib.Core.Path.{sym, ◌∙◌}
 use lib.ListN.{drop}
-use Rattle.replies.specs.Said.{saidWord}
+use Rattle.replies.specs.Said.{said_word}
 use Rattle.replies.specs.Bytes.{told}
-use Rattle.replies.specs.Replied.{value_line, value-no-line, value-within, value-sooner}
+use Rattle.replies.specs.Replied.{value_line, value_no_line, value-within, value_sooner}
 use borrow.Author.Rules.{rules}
 use Rattle.replies.proofs.values.value_at.Statement.{statement}
 use Rattle.replies.proofs.values.value_at.Tie as tie
@@ -28,7 +28,7 @@ returns c =
     let args = c.before.before.before.before.before.before.before.args in
     let if1 = c.before.before.before.before.before.if1 in
     let word_at = c.before.before.before.word_at in
-    (sym (value-no-line args.n args.from (drop args.from args.text.now) args.line if1.true (told (saidWord args.text.now) word_at.ensures.0 c.of_word.ensures)), tt)
+    (sym (value_no_line args.n args.from (drop args.from args.text.now) args.line if1.true (told (said_word args.text.now) word_at.ensures.0 c.of_word.ensures)), tt)
 
 number-on-requires : tie.Need-number-on-requires
 number-on-requires c κs =
@@ -42,7 +42,7 @@ returns-2 c =
     let word_at = c.before.before.before.before.word_at in
     let read = c.before.before.read in
     let h = rw read.given.1 at word_at.ensures.1 in
-    (c.number-on.ensures.0 ∙ sym (value_line args.n args.from (drop args.from args.text.now) args.line if1.true (told (saidWord args.text.now) word_at.ensures.0 read.given.1)), value-sooner args.from read.given.0.0 args.text.now c.number-on.result h.0 c.number-on.ensures.1)
+    (c.number-on.ensures.0 ∙ sym (value_line args.n args.from (drop args.from args.text.now) args.line if1.true (told (said_word args.text.now) word_at.ensures.0 read.given.1)), value_sooner args.from read.given.0.0 args.text.now c.number-on.result h.0 c.number-on.ensures.1)
 
 number-on-requires-2 : tie.Need-number-on-requires-2
 number-on-requires-2 c κs = search rules

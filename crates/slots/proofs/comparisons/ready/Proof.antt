@@ -9,13 +9,13 @@ use lib.IntN.{pos}
 use mir.Facts.{to_z-of_z}
 use Rattle.definitions.specs.Board.{Board}
 use Rattle.definitions.specs.Board as board
-use Rattle.laws.specs.Boards.{boardOf, opens-admitted}
-use Rattle.laws.specs.Reread.{termAt, termsAt}
+use Rattle.laws.specs.Boards.{board_of, opens_admitted}
+use Rattle.laws.specs.Reread.{term_at, terms_at}
 use Rattle.walk.specs.declared.Slot.{Slot}
-use Rattle.walk.specs.Slots.{slotOf}
-use Rattle.slots.specs.Terms.{terms-count, terms-at}
+use Rattle.walk.specs.Slots.{slot_of}
+use Rattle.slots.specs.Terms.{terms_count, terms_at_lem}
 use Rattle.slots.specs.Variables.{numbered}
-use Rattle.slots.specs.Ready.{shows-ready}
+use Rattle.slots.specs.Ready.{shows_ready}
 use Rattle.slots.proofs.Arrays.{first_three}
 use Rattle.slots.proofs.comparisons.ready.Statement.{statement}
 use Rattle.slots.proofs.comparisons.ready.Tie as tie
@@ -24,18 +24,18 @@ use Rattle.slots.proofs.comparisons.ready.Tie as tie
 abbrev d : board.Term
 d = record { coef = pos 0; var = 0 }
 
-module _ (B : Board) (f : ℕ → ℕ) (s : List ℕ) (place n : ℕ) (e : n ≡ length (termsAt s place)) where
-  entry : (i : ℕ) (r : Slot) → (i < n → r ≡ slotOf B f (termAt s (place + 1 + 3 * i))) → i < n → r ≡ get_or (map (slotOf B f) (termsAt s place)) i (slotOf B f d)
+module _ (B : Board) (f : ℕ → ℕ) (s : List ℕ) (place n : ℕ) (e : n ≡ length (terms_at s place)) where
+  entry : (i : ℕ) (r : Slot) → (i < n → r ≡ slot_of B f (term_at s (place + 1 + 3 * i))) → i < n → r ≡ get_or (map (slot_of B f) (terms_at s place)) i (slot_of B f d)
   entry i r h k =
-      h k ∙ ap (slotOf B f) (sym (terms-at s place i d (omega (arith, e, terms-count s place)))) ∙ sym (get_or-map (slotOf B f) (termsAt s place) i d)
+      h k ∙ ap (slot_of B f) (sym (terms_at_lem s place i d (omega (arith, e, terms_count s place)))) ∙ sym (get_or-map (slot_of B f) (terms_at s place) i d)
 
 -- the count
 module _ (u : tie.After-unchecked) where
   abbrev s : tie.Start
   s = u.before.before.before.before
 
-  counted : u.unchecked.result ≡ length (termsAt s.args.rules.now s.args.place)
-  counted = u.unchecked.ensures ∙ sym (terms-count s.args.rules.now s.args.place)
+  counted : u.unchecked.result ≡ length (terms_at s.args.rules.now s.args.place)
+  counted = u.unchecked.ensures ∙ sym (terms_count s.args.rules.now s.args.place)
 
 unchecked-requires : tie.Need-unchecked-requires
 unchecked-requires c κs = search rules
@@ -56,15 +56,15 @@ returns : tie.Need-returns
 returns c =
     let u = c.before.before.before in
     let a = s u in
-    let B = boardOf a.args.bytes.now in
+    let B = board_of a.args.bytes.now in
     let f = numbered a.args.firsts.now in
     let r = a.args.rules.now in
     let p = a.args.place in
     let n = u.unchecked.result in
-    shows-ready B (opens-admitted _ a.pre.0) f a.pre.1 _ _ a.pre.2.good (record {
+    shows_ready B (opens_admitted _ a.pre.0) f a.pre.1 _ _ a.pre.2.good (record {
       counted = counted u;
       terms =
-          first_three (map (slotOf B f) (termsAt r p)) n (counted u ∙ sym (length-map (termsAt r p) (slotOf B f))) (omega (arith, counted u, a.pre.2.good.few)) (slotOf B f d) _ _ _
+          first_three (map (slot_of B f) (terms_at r p)) n (counted u ∙ sym (length-map (terms_at r p) (slot_of B f))) (omega (arith, counted u, a.pre.2.good.few)) (slot_of B f d) _ _ _
           (entry B f r p n (counted u) 0 _ c.before.before.slot_at.ensures)
           (entry B f r p n (counted u) 1 _ c.before.slot-at2.ensures)
           (entry B f r p n (counted u) 2 _ c.slot-at3.ensures);

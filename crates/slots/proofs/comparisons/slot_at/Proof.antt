@@ -7,10 +7,10 @@ use lib.ListN.{length}
 use Rattle.definitions.specs.Reading.{big}
 use Rattle.laws.specs.Lists.{all-at}
 use Rattle.laws.specs.Admitted.{GoodTerm}
-use Rattle.laws.specs.Boards.{boardOf}
-use Rattle.laws.specs.Reread.{termsAt}
-use Rattle.walk.specs.Slots.{slotOf}
-use Rattle.slots.specs.Terms.{termRead, terms-count, terms-at}
+use Rattle.laws.specs.Boards.{board_of}
+use Rattle.laws.specs.Reread.{terms_at}
+use Rattle.walk.specs.Slots.{slot_of}
+use Rattle.slots.specs.Terms.{term_read, terms_count, terms_at_lem}
 use Rattle.slots.specs.Variables.{numbered}
 use borrow.Author.Rules.{rules}
 use Rattle.slots.proofs.comparisons.slot_at.Statement.{statement}
@@ -18,7 +18,7 @@ use Rattle.slots.proofs.comparisons.slot_at.Tie as tie
 
 -- the term stands in the rules
 counted : (s : tie.Start) → s.args.n ≡ big s.args.rules.now s.args.place 1
-counted s = s.requires.3 ∙ terms-count s.args.rules.now s.args.place
+counted s = s.requires.3 ∙ terms_count s.args.rules.now s.args.place
 
 inside : (s : tie.Start) → s.args.i < s.args.n → s.args.place + 1 + 3 * s.args.i + 3 ≤ length s.args.rules.now
 inside s h = omega (arith, counted s, s.requires.1.room)
@@ -44,11 +44,11 @@ term-at-requires c κs =
 
 slot-of-requires : tie.Need-slot-of-requires
 slot-of-requires c κs =
-    (c.before.before.before.before.before.requires.0, subst (GoodTerm _) (sym (c.term-at.ensures ∙ sym (terms-at c.before.before.before.before.before.args.rules.now c.before.before.before.before.before.args.place c.before.before.before.before.before.args.i (termRead c.term-at.result) (omega (arith, c.before.if1.false, counted c.before.before.before.before.before))))) (all-at (GoodTerm _) (termRead c.term-at.result) (termsAt c.before.before.before.before.before.args.rules.now c.before.before.before.before.before.args.place) c.before.before.before.before.before.requires.2 c.before.before.before.before.before.args.i (omega (arith, c.before.if1.false, c.before.before.before.before.before.requires.3))))
+    (c.before.before.before.before.before.requires.0, subst (GoodTerm _) (sym (c.term-at.ensures ∙ sym (terms_at_lem c.before.before.before.before.before.args.rules.now c.before.before.before.before.before.args.place c.before.before.before.before.before.args.i (term_read c.term-at.result) (omega (arith, c.before.if1.false, counted c.before.before.before.before.before))))) (all-at (GoodTerm _) (term_read c.term-at.result) (terms_at c.before.before.before.before.before.args.rules.now c.before.before.before.before.before.args.place) c.before.before.before.before.before.requires.2 c.before.before.before.before.before.args.i (omega (arith, c.before.if1.false, c.before.before.before.before.before.requires.3))))
 
 returns-2 : tie.Need-returns-2
 returns-2 c =
-    λ h. c.slot_of.ensures ∙ ap (slotOf (boardOf c.before.before.before.before.before.before.args.bytes.now) (numbered c.before.before.before.before.before.before.args.firsts.now)) c.before.term-at.ensures
+    λ h. c.slot_of.ensures ∙ ap (slot_of (board_of c.before.before.before.before.before.before.args.bytes.now) (numbered c.before.before.before.before.before.before.args.firsts.now)) c.before.term-at.ensures
 
 pub slot-at-spec : {M : Type 1} → statement M
 slot-at-spec =

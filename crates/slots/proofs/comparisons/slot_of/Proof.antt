@@ -1,9 +1,9 @@
 -- `slots::comparisons::slot_of` meets its contract.
 use borrow.Author.Rules.{rules}
 use mir.Facts.{to_z-of_z}
-use Rattle.walk.specs.Slots.{slotOf}
-use Rattle.slots.specs.Variables.{lower-fits, upper_fits}
-use Rattle.slots.specs.Terms.{coefficient-fits}
+use Rattle.walk.specs.Slots.{slot_of}
+use Rattle.slots.specs.Variables.{lower_fits, upper_fits}
+use Rattle.slots.specs.Terms.{coefficient_fits}
 use Rattle.slots.proofs.comparisons.slot_of.Statement.{statement}
 use Rattle.slots.proofs.comparisons.slot_of.Tie as tie
 
@@ -14,10 +14,10 @@ first-in-requires : tie.Need-first-in-requires
 first-in-requires c κs = search rules
 
 returns : tie.Need-returns
-unfolding slotOf
+unfolding slot_of
 returns c =
     let b = c.before.before.before.bounds_of.ensures in
-    rw (to_z-of_z (coefficient-fits _ c.before.before.before.before.before.before.args.term c.before.before.before.before.before.before.requires.1), to_z-of_z (lower-fits c.before.before.before.bounds_of.result b.good), to_z-of_z (upper_fits c.before.before.before.bounds_of.result b.good), b.lower, b.upper, c.before.before.first-in.ensures)
+    rw (to_z-of_z (coefficient_fits _ c.before.before.before.before.before.before.args.term c.before.before.before.before.before.before.requires.1), to_z-of_z (lower_fits c.before.before.before.bounds_of.result b.good), to_z-of_z (upper_fits c.before.before.before.bounds_of.result b.good), b.lower, b.upper, c.before.before.first-in.ensures)
 
 pub slot-of-spec : {M : Type 1} → statement M
 slot-of-spec = tie.close (tie.spec bounds-of-requires first-in-requires returns)

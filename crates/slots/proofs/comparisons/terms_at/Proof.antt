@@ -6,23 +6,23 @@ use Prim.Native.Nat.{ℕ, ◌+◌, ◌*◌, ◌-◌, ◌≤◌, ◌<◌}
 use native.Mathlib.Omega.{arith}
 use lib.ListN.{length, take, set, length-map, length-set}
 use Rattle.definitions.specs.Reading.{big}
-use Rattle.laws.specs.Reread.{termAt, termsAt}
+use Rattle.laws.specs.Reread.{term_at, terms_at}
 use Rattle.slots.specs.declared.Term.{Term}
-use Rattle.slots.specs.Terms.{termRead, terms-count, terms-at}
+use Rattle.slots.specs.Terms.{term_read, terms_count, terms_at_lem}
 use Rattle.slots.proofs.Arrays.{map-set, filled_more, filled-all}
 use Rattle.slots.proofs.comparisons.terms_at.Statement.{statement}
 use Rattle.slots.proofs.comparisons.terms_at.Tie as tie
 
 stored : (s : List ℕ) (place : ℕ) (terms : List Term) (i : ℕ) (t : Term) → i < length terms → i < big s place 1
-    → take i (map termRead terms) ≡ take i (termsAt s place) → termRead t ≡ termAt s (place + 1 + 3 * i)
-    → take (i + 1) (map termRead (set terms i t)) ≡ take (i + 1) (termsAt s place)
+    → take i (map term_read terms) ≡ take i (terms_at s place) → term_read t ≡ term_at s (place + 1 + 3 * i)
+    → take (i + 1) (map term_read (set terms i t)) ≡ take (i + 1) (terms_at s place)
 stored s place terms i t h k e et =
-    let d = termRead t in
-    rw map-set (filled_more (map termRead terms) (termsAt s place) i e d d (rw length-map h) (rw terms-count k) (et ∙ sym (terms-at s place i d k)))
+    let d = term_read t in
+    rw map-set (filled_more (map term_read terms) (terms_at s place) i e d d (rw length-map h) (rw terms_count k) (et ∙ sym (terms_at_lem s place i d k)))
 
 abbrev invariant-loop : tie.invariant-loop
 invariant-loop rules place n terms₀ i₀ terms i =
-    (i ≤ n) × (length terms ≡ 3) × (take i (map termRead terms) ≡ take i (termsAt rules place))
+    (i ≤ n) × (length terms ≡ 3) × (take i (map term_read terms) ≡ take i (terms_at rules place))
 
 abbrev decreases-loop : tie.decreases-loop
 decreases-loop rules place n terms₀ i₀ terms i = n - i
@@ -67,7 +67,7 @@ loop-again c =
 returns : tie.Need-returns invariant-loop decreases-loop
 returns c =
     let e : c.before.loop.i ≡ c.before.before.unchecked.result = omega arith in
-    let n = c.before.before.unchecked.ensures ∙ sym (terms-count c.before.before.before.before.args.rules.now c.before.before.before.before.args.place) in
+    let n = c.before.before.unchecked.ensures ∙ sym (terms_count c.before.before.before.before.args.rules.now c.before.before.before.before.args.place) in
     record { counted = n; terms = rw (← e) (filled-all _ _ _ c.before.loop.invariant.2 (e ∙ n)) }
 
 pub terms-at-spec : {M : Type 1} → statement M

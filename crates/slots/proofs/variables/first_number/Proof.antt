@@ -5,25 +5,25 @@ use Prim.Native.Nat.{◌-◌, ◌≤◌}
 use native.Mathlib.Omega.{arith}
 use Rattle.definitions.specs.Encoding.{first}
 use Rattle.laws.specs.Fits.{first-most, width-most}
-use Rattle.laws.specs.Boards.{boardOf, opens-admitted}
-use Rattle.slots.specs.Variables.{first-none, first_more}
+use Rattle.laws.specs.Boards.{board_of, opens_admitted}
+use Rattle.slots.specs.Variables.{first_none, first_more}
 use Rattle.slots.proofs.variables.first_number.Statement.{statement}
 use Rattle.slots.proofs.variables.first_number.Tie as tie
 
 abbrev invariant-loop : tie.invariant-loop
-invariant-loop bytes bools x number₀ y₀ number y = (y ≤ x) × (number ≡ first (boardOf bytes) y)
+invariant-loop bytes bools x number₀ y₀ number y = (y ≤ x) × (number ≡ first (board_of bytes) y)
 
 abbrev decreases-loop : tie.decreases-loop
 decreases-loop bytes bools x number₀ y₀ number y = x - y
 
 cast-number : tie.Need-overflow-cast-number invariant-loop decreases-loop
-cast-number c = omega (arith, (opens-admitted _ c.before.requires.0).bools)
+cast-number c = omega (arith, (opens_admitted _ c.before.requires.0).bools)
 
 add-number : tie.Need-overflow-add-number invariant-loop decreases-loop
-add-number c = omega (arith, (opens-admitted _ c.before.requires.0).bools)
+add-number c = omega (arith, (opens_admitted _ c.before.requires.0).bools)
 
 loop-holds : tie.Need-loop-init invariant-loop decreases-loop
-loop-holds c = (omega arith, rw c.before.requires.1 (sym (first-none _)))
+loop-holds c = (omega arith, rw c.before.requires.1 (sym (first_none _)))
 
 bounds-of-requires : tie.Need-bounds-of-requires invariant-loop decreases-loop
 bounds-of-requires c κs = search rules
@@ -33,7 +33,7 @@ width-of-requires c κs = c.bounds_of.ensures.good
 
 add-number-2 : tie.Need-overflow-add-number-2 invariant-loop decreases-loop
 add-number-2 c =
-    omega (arith, first-most _ (opens-admitted _ c.before.before.before.before.before.requires.0) c.before.before.before.loop.y, width-most _ c.before.bounds_of.ensures.good)
+    omega (arith, first-most _ (opens_admitted _ c.before.before.before.before.before.requires.0) c.before.before.before.loop.y, width-most _ c.before.bounds_of.ensures.good)
 
 add-y : tie.Need-overflow-add-y invariant-loop decreases-loop
 add-y c = search rules

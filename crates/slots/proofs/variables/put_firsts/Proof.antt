@@ -6,29 +6,29 @@ use native.Mathlib.Omega.{arith}
 use lib.ListN.{length, length-set}
 use Rattle.definitions.specs.Encoding.{first}
 use Rattle.laws.specs.Fits.{first-most, width-most}
-use Rattle.laws.specs.Boards.{boardOf, opens-admitted}
-use Rattle.slots.specs.Variables.{FirstsTo, first-none, first_more, firsts_more}
+use Rattle.laws.specs.Boards.{board_of, opens_admitted}
+use Rattle.slots.specs.Variables.{FirstsTo, first_none, first_more, firsts_more}
 use Rattle.slots.proofs.variables.put_firsts.Statement.{statement}
 use Rattle.slots.proofs.variables.put_firsts.Tie as tie
 
 abbrev invariant-loop : tie.invariant-loop
 invariant-loop bytes bools ints firsts₀ next₀ x₀ firsts next x =
-    FirstsTo (boardOf bytes) x firsts × (next ≡ first (boardOf bytes) x) × (x ≤ ints) × (length firsts ≡ length firsts₀)
+    FirstsTo (board_of bytes) x firsts × (next ≡ first (board_of bytes) x) × (x ≤ ints) × (length firsts ≡ length firsts₀)
 
 abbrev decreases-loop : tie.decreases-loop
 decreases-loop bytes bools ints firsts₀ next₀ x₀ firsts next x = ints - x
 
 cast-next : tie.Need-overflow-cast-next invariant-loop decreases-loop
 cast-next c =
-    omega (arith, (opens-admitted _ c.before.before.requires.0).bools)
+    omega (arith, (opens_admitted _ c.before.before.requires.0).bools)
 
 add-next : tie.Need-overflow-add-next invariant-loop decreases-loop
 add-next c =
-    omega (arith, (opens-admitted _ c.before.before.requires.0).bools)
+    omega (arith, (opens_admitted _ c.before.before.requires.0).bools)
 
 loop-holds : tie.Need-loop-init invariant-loop decreases-loop
 loop-holds c =
-    (λ x h. absurd (omega arith), rw c.before.before.requires.1 (sym (first-none _)), omega arith, refl)
+    (λ x h. absurd (omega arith), rw c.before.before.requires.1 (sym (first_none _)), omega arith, refl)
 
 mul-firsts : tie.Need-overflow-mul-firsts invariant-loop decreases-loop
 mul-firsts c = search rules
@@ -46,7 +46,7 @@ width-of-requires c κs = c.bounds_of.ensures.good
 
 add-next-2 : tie.Need-overflow-add-next-2 invariant-loop decreases-loop
 add-next-2 c =
-    omega (arith, first-most _ (opens-admitted _ c.before.before.before.before.before.before.requires.0) c.before.before.before.loop.x, width-most _ c.before.bounds_of.ensures.good)
+    omega (arith, first-most _ (opens_admitted _ c.before.before.before.before.before.before.requires.0) c.before.before.before.loop.x, width-most _ c.before.bounds_of.ensures.good)
 
 add-x : tie.Need-overflow-add-x invariant-loop decreases-loop
 add-x c = search rules
@@ -74,7 +74,7 @@ returns : tie.Need-returns invariant-loop decreases-loop
 returns c =
     let s = c.before.before.before.before in
     let e : c.before.loop.x ≡ s.args.ints = omega arith in
-    let f = firsts_more (boardOf s.args.bytes.now) s.args.ints c.before.loop.next c.before.loop.firsts (c.before.loop.invariant.1 ∙ ap (first (boardOf s.args.bytes.now)) e) (omega (arith, s.requires.3)) (λ y h. c.before.loop.invariant.0 y (omega arith)) in
+    let f = firsts_more (board_of s.args.bytes.now) s.args.ints c.before.loop.next c.before.loop.firsts (c.before.loop.invariant.1 ∙ ap (first (board_of s.args.bytes.now)) e) (omega (arith, s.requires.3)) (λ y h. c.before.loop.invariant.0 y (omega arith)) in
     λ y h. f y (omega (arith, s.requires.2))
 
 pub put-firsts-spec : {M : Type 1} → statement M

@@ -9,31 +9,31 @@ use mir.Syntax.{w32}
 use mir.Val.{Fits, SFits}
 use mir.Facts.{to_z-of_z, Fits-nat_abs}
 use Rattle.definitions.specs.Encoding.{width}
-use Rattle.laws.specs.Whole.{whole, add-law, sub-law, abs-law, abs-le, abs-fits, part-law}
+use Rattle.laws.specs.Whole.{whole, add_law, sub_law, abs_law, abs_le, abs_fits, part_law}
 use Rattle.laws.specs.Admitted.{GoodBounds}
 use Rattle.slots.specs.declared.Bounds.{Bounds}
-use Rattle.slots.specs.Variables.{boundsRead, lower-fits, upper_fits}
+use Rattle.slots.specs.Variables.{bounds_read, lower_fits, upper_fits}
 use Rattle.slots.proofs.variables.width_of.Statement.{statement}
 use Rattle.slots.proofs.variables.width_of.Tie as tie
 
-module _ (b : Bounds) (g : GoodBounds (boundsRead b)) where
+module _ (b : Bounds) (g : GoodBounds (bounds_read b)) where
   abbrev spread : ℤ
   spread = b.upper -ℤ b.lower
 
   spread-small : nat_abs spread ≤ 8191
-  spread-small = abs-le spread (omega (whole, g.lowest, g.ordered, g.highest, sub-law b.upper b.lower))
+  spread-small = abs_le spread (omega (whole, g.lowest, g.ordered, g.highest, sub_law b.upper b.lower))
 
   spread-fits : SFits w32 spread
-  spread-fits = abs-fits (omega (arith, spread-small))
+  spread-fits = abs_fits (omega (arith, spread-small))
 
   spread-casts : T (non_neg spread) × Fits w32 (nat_abs spread)
-  spread-casts = (yes_non_neg {z = spread} (omega (whole, g.ordered, sub-law b.upper b.lower)), Fits-nat_abs tt spread-fits)
+  spread-casts = (yes_non_neg {z = spread} (omega (whole, g.ordered, sub_law b.upper b.lower)), Fits-nat_abs tt spread-fits)
 
-  width_is : nat_abs spread + 2 ≡ width (boundsRead b)
+  width_is : nat_abs spread + 2 ≡ width (bounds_read b)
   unfolding width
-  width_is = omega (whole, g.ordered, sub-law b.upper b.lower, abs-law spread, part-law spread, add-law spread (pos 2), part-law (spread +ℤ pos 2))
+  width_is = omega (whole, g.ordered, sub_law b.upper b.lower, abs_law spread, part_law spread, add_law spread (pos 2), part_law (spread +ℤ pos 2))
 
-ruleset fit = (to_z-of_z, lower-fits, upper_fits, spread-fits)
+ruleset fit = (to_z-of_z, lower_fits, upper_fits, spread-fits)
 
 sub-result : tie.Need-overflow-sub-result
 sub-result c = search fit
@@ -45,7 +45,7 @@ add-result : tie.Need-overflow-add-result
 add-result c =
     let b = c.before.before.args.bounds in
     let g = c.before.before.requires in
-    let lower = lower-fits b g in
+    let lower = lower_fits b g in
     let upper = upper_fits b g in
     let both = spread-fits b g in
     simp to_z-of_z (omega (arith, spread-small b g))

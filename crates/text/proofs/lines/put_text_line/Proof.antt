@@ -6,27 +6,27 @@ use Prim.Native.Nat.{◌+◌, ◌≤◌}
 use native.Mathlib.Omega.{arith}
 use lib.ListN.{length, length-append}
 use Rattle.laws.specs.Written.{back, rest-length}
-use Rattle.laws.specs.Filling.{Filling, begun, room-before, room, part, last}
-use Rattle.text.specs.Lines.{withEnd, line}
+use Rattle.laws.specs.Filling.{Filling, begun, room_before, room, part, last}
+use Rattle.text.specs.Lines.{with_end, line}
 use Rattle.text.proofs.lines.put_text_line.Statement.{statement}
 use Rattle.text.proofs.lines.put_text_line.Tie as tie
 
 -- the word is written
 word-put : (c : tie.After-put-word) → let a = c.before.before.before.before.args in
-    Filling (line a.word.now a.a a.b) (withEnd a.a 32 ++ withEnd a.b 10) a.out.now c.put_word.new.1.0 c.put_word.result
+    Filling (line a.word.now a.a a.b) (with_end a.a 32 ++ with_end a.b 10) a.out.now c.put_word.new.1.0 c.put_word.result
 word-put c =
     let s = c.before.before.before.before in
-    begun s.args.word.now (withEnd s.args.a 32 ++ withEnd s.args.b 10) _ _ _ s.requires c.put_word.ensures.0 c.put_word.ensures.1
+    begun s.args.word.now (with_end s.args.a 32 ++ with_end s.args.b 10) _ _ _ s.requires c.put_word.ensures.0 c.put_word.ensures.1
 
 -- and the first number
 first-put : (c : tie.After-put-ended) → let w = c.before.before.before.before in let a = w.before.before.before.before.args in
-    Filling (line a.word.now a.a a.b) (withEnd a.b 10) a.out.now (back w.put_word.new.1.0 w.put_word.result c.put_ended.new.1.1.0) (w.put_word.result + c.put_ended.result)
+    Filling (line a.word.now a.a a.b) (with_end a.b 10) a.out.now (back w.put_word.new.1.0 w.put_word.result c.put_ended.new.1.1.0) (w.put_word.result + c.put_ended.result)
 first-put c = part (word-put c.before.before.before.before) _ _ refl _ _ c.put_ended.ensures.0 c.put_ended.ensures.1
 
 put-word-requires : tie.Need-put-word-requires
 put-word-requires c κs =
     let a = c.before.before.before.args in
-    omega (arith, c.before.before.before.requires, length-append a.word.now (withEnd a.a 32 ++ withEnd a.b 10))
+    omega (arith, c.before.before.before.requires, length-append a.word.now (with_end a.a 32 ++ with_end a.b 10))
 
 sub-put-ended : tie.Need-overflow-sub-put-ended
 sub-put-ended c = omega (arith, room (word-put c.before.before))
@@ -41,12 +41,12 @@ put-ended-requires : tie.Need-put-ended-requires
 put-ended-requires c κs =
     let w = c.before.before.before in
     let a = w.before.before.before.before.args in
-    omega (arith, room (word-put w), rest-length w.put_word.new.1.0 w.put_word.result, length-append (withEnd a.a 32) (withEnd a.b 10))
+    omega (arith, room (word-put w), rest-length w.put_word.new.1.0 w.put_word.result, length-append (with_end a.a 32) (with_end a.b 10))
 
 add-second : tie.Need-overflow-add-second
 add-second c =
     let w = c.before.before.before.before.before.before in
-    let k : w.put_word.result + c.before.before.put_ended.result ≤ length w.before.before.before.before.args.out.now = omega (arith, room-before (first-put c.before.before)) in
+    let k : w.put_word.result + c.before.before.put_ended.result ≤ length w.before.before.before.before.args.out.now = omega (arith, room_before (first-put c.before.before)) in
     search rules
 
 sub-put-ended-2 : tie.Need-overflow-sub-put-ended-2
@@ -69,7 +69,7 @@ add-result c =
     let f = c.before.before.before.before.before.before in
     let w = f.before.before.before.before in
     let n = c.before.before.put-ended2 in
-    let k : w.put_word.result + f.put_ended.result + n.result ≤ length w.before.before.before.before.args.out.now = omega (arith, room-before (first-put f), n.ensures.0) in
+    let k : w.put_word.result + f.put_ended.result + n.result ≤ length w.before.before.before.before.args.out.now = omega (arith, room_before (first-put f), n.ensures.0) in
     search rules
 
 same_length : tie.Need-same-length

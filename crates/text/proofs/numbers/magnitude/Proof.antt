@@ -6,7 +6,7 @@ use lib.Signed.{yes_non_neg}
 use mir.Syntax.{w32, w64}
 use mir.Val.{SFits}
 use mir.Facts.{to_z-of_z, Fits-nat_abs, sfits_widen}
-use Rattle.laws.specs.Whole.{whole, back, abs-fits, abs_neg, zero-sub, sub-law}
+use Rattle.laws.specs.Whole.{whole, back, abs_fits, abs_neg, zero-sub, sub_law}
 use Rattle.text.proofs.numbers.magnitude.Statement.{statement}
 use Rattle.text.proofs.numbers.magnitude.Tie as tie
 
@@ -19,7 +19,7 @@ module _ (z : ℤ) (f : SFits w32 z) where
   wide = sfits_widen tt f
 
   turned : SFits w64 (pos 0 -ℤ z)
-  turned = abs-fits (omega (arith, size_same z, Fits-nat_abs {w' = w32} tt f))
+  turned = abs_fits (omega (arith, size_same z, Fits-nat_abs {w' = w32} tt f))
 
 cast-result : tie.Need-overflow-cast-result
 cast-result c =
@@ -37,7 +37,7 @@ cast-result-2 c =
     let f = c.before.ranges.number in
     let g = wide z f in
     let h = turned z f in
-    simp to_z-of_z (yes_non_neg {z = pos 0 -ℤ z} (omega (whole, back f, sub-law (pos 0) z)), Fits-nat_abs tt h)
+    simp to_z-of_z (yes_non_neg {z = pos 0 -ℤ z} (omega (whole, back f, sub_law (pos 0) z)), Fits-nat_abs tt h)
 
 returns : tie.Need-returns
 returns c =

@@ -5,14 +5,14 @@ use native.Mathlib.Omega.{arith}
 use lib.ListN.{length-append, length-set}
 use Rattle.definitions.specs.Dimacs.{decimal}
 use Rattle.laws.specs.Filling.{Filling, begun, room, one, ended}
-use Rattle.text.specs.Lines.{withEnd}
+use Rattle.text.specs.Lines.{with_end}
 use Rattle.laws.specs.Decimals.{digits-length}
 use Rattle.text.proofs.numbers.put_ended.Statement.{statement}
 use Rattle.text.proofs.numbers.put_ended.Tie as tie
 
 -- the digits are written
 digits-put : (c : tie.After-put-decimal) → let a = c.before.before.before.args in
-    Filling (withEnd a.n a.end) (a.end ∷ []) a.out.now c.put-decimal.new.1.0 c.put-decimal.result
+    Filling (with_end a.n a.end) (a.end ∷ []) a.out.now c.put-decimal.new.1.0 c.put-decimal.result
 digits-put c =
     let s = c.before.before.before in
     begun (decimal s.args.n) _ _ _ _ s.requires c.put-decimal.ensures.0 c.put-decimal.ensures.1

@@ -24,9 +24,9 @@ abbrev decreases-loop : tie.decreases-loop
 decreases-loop list out₀ i₀ at₀ out i at = length list - i
 
 -- the number at i comes next
-next-is : (c : tie.After-put-entry-arg invariant-loop decreases-loop) → let i = c.before.before.loop.i in let list = c.before.before.before.before.args.list.now in
+next_is : (c : tie.After-put-entry-arg invariant-loop decreases-loop) → let i = c.before.before.loop.i in let list = c.before.before.before.before.args.list.now in
     entries (drop i list) ≡ entry (to_z w32 (of_z w32 (get_or list i (pos 0)))) ++ entries (drop (i + 1) list)
-next-is c =
+next_is c =
     let i = c.before.before.loop.i in
     let list = c.before.before.before.before.args.list.now in
     rw (to_z-of_z {z = get_or list i (pos 0)} (record { sfits = c.put-entry-arg.given })) (entries-more list i (pos 0) c.before.loop-test.true)
@@ -36,7 +36,7 @@ next-room : (c : tie.After-put-entry-arg invariant-loop decreases-loop) → let 
 next-room c =
     let l = c.before.before.loop in
     let list = c.before.before.before.before.args.list.now in
-    room_for l.invariant.0 (entry (to_z w32 (of_z w32 (get_or list l.i (pos 0))))) (entries (drop (l.i + 1) list)) (next-is c)
+    room_for l.invariant.0 (entry (to_z w32 (of_z w32 (get_or list l.i (pos 0))))) (entries (drop (l.i + 1) list)) (next_is c)
 
 loop-holds : tie.Need-loop-init invariant-loop decreases-loop
 loop-holds c = (begin _ _ _ refl c.before.requires, omega arith)
@@ -78,7 +78,7 @@ loop-less c = omega arith
 loop-again : tie.Need-loop-preserved invariant-loop decreases-loop
 loop-again c =
     let p = c.before.before.put-entry in
-    (part c.before.before.before.before.before.before.loop.invariant.0 _ _ (next-is c.before.before.before.before) _ _ p.ensures.0 p.ensures.1, omega (arith, c.before.before.before.before.before.loop-test.true))
+    (part c.before.before.before.before.before.before.loop.invariant.0 _ _ (next_is c.before.before.before.before) _ _ p.ensures.0 p.ensures.1, omega (arith, c.before.before.before.before.before.loop-test.true))
 
 same_length : tie.Need-same-length invariant-loop decreases-loop
 same_length c = c.before.loop.invariant.0.long

@@ -10,31 +10,31 @@ use mir.Facts.{to_z-of_z}
 use Rattle.definitions.specs.Dimacs.{entry}
 use Rattle.laws.specs.Whole.{whole, back}
 use Rattle.laws.specs.Written.{rest-length, written_one}
-use Rattle.laws.specs.Filling.{Filling, begun, room-before, room, last}
+use Rattle.laws.specs.Filling.{Filling, begun, room_before, room, last}
 use Rattle.text.specs.Puts.{retold}
-use Rattle.text.specs.Lines.{withEnd}
+use Rattle.text.specs.Lines.{with_end}
 use Rattle.text.specs.Entries.{entry-above, entry-below, entry_zero}
 use Rattle.text.proofs.numbers.put_entry.Statement.{statement}
 use Rattle.text.proofs.numbers.put_entry.Tie as tie
 
 -- the text, by sign
-above : (c : tie.After-magnitude) → withEnd c.magnitude.result 32 ≡ entry c.before.before.before.args.number
+above : (c : tie.After-magnitude) → with_end c.magnitude.result 32 ≡ entry c.before.before.before.args.number
 above c =
     let f = c.before.before.before.ranges.number in
     sym (entry-above c.before.before.before.args.number c.magnitude.result (simp to_z-of_z at c.magnitude.ensures) (omega (whole, back f)))
 
-below : (c : tie.After-magnitude2) → 45 ∷ withEnd c.magnitude2.result 32 ≡ entry c.before.before.before.before.args.number
+below : (c : tie.After-magnitude2) → 45 ∷ with_end c.magnitude2.result 32 ≡ entry c.before.before.before.before.args.number
 below c =
     let f = c.before.before.before.before.ranges.number in
     sym (entry-below c.before.before.before.before.args.number c.magnitude2.result (simp to_z-of_z at c.magnitude2.ensures) (omega (whole, back f)))
 
-zero : (c : tie.Else2) → withEnd 0 10 ≡ entry c.before.before.before.args.number
+zero : (c : tie.Else2) → with_end 0 10 ≡ entry c.before.before.before.args.number
 zero c =
     let f = c.before.before.before.ranges.number in
     sym (entry_zero c.before.before.before.args.number (omega (whole, back f)) (omega (whole, back f)))
 
 -- the minus is written
-minus-put : (c : tie.After-magnitude2) → let text = withEnd c.magnitude2.result 32 in let out = c.before.before.before.before.args.out.now in
+minus-put : (c : tie.After-magnitude2) → let text = with_end c.magnitude2.result 32 in let out = c.before.before.before.before.args.out.now in
     Filling (45 ∷ text) text out (set out 0 45) 1
 minus-put c =
     let s = c.before.before.before.before in
@@ -78,7 +78,7 @@ add-result : tie.Need-overflow-add-result
 add-result c =
     let n = c.before.before.put-ended2 in
     let m = c.before.before.before.before in
-    let k : 1 + n.result ≤ length m.before.before.before.before.args.out.now = omega (arith, room-before (minus-put m), n.ensures.0) in
+    let k : 1 + n.result ≤ length m.before.before.before.before.args.out.now = omega (arith, room_before (minus-put m), n.ensures.0) in
     search rules
 
 same-length-2 : tie.Need-same-length-2

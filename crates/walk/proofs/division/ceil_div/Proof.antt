@@ -6,9 +6,9 @@ use mir.Syntax.{w32}
 use mir.Val.{SFits}
 use mir.Facts.{to_z-of_z}
 use Rattle.definitions.specs.Tools.{floor}
-use Rattle.laws.specs.Whole.{abs-sub}
-use Rattle.laws.specs.Division.{ceil-is, abs-floor}
-use Rattle.walk.proofs.Fits.{less-small, fits}
+use Rattle.laws.specs.Whole.{abs_sub}
+use Rattle.laws.specs.Division.{ceil_is, abs_floor}
+use Rattle.walk.proofs.Fits.{less_small, fits}
 use Rattle.walk.proofs.division.ceil_div.Statement.{statement}
 use Rattle.walk.proofs.division.ceil_div.Tie as tie
 
@@ -19,21 +19,21 @@ floor-div-requires : tie.Need-floor-div-requires
 floor-div-requires c κs =
     let fa = c.ranges.a in
     let fb = c.ranges.b in
-    let mb = less-small (pos 0) c.args.b (omega arith) (omega arith) in
-    simp to_z-of_z (omega (arith, abs-sub (pos 0) c.args.b))
+    let mb = less_small (pos 0) c.args.b (omega arith) (omega arith) in
+    simp to_z-of_z (omega (arith, abs_sub (pos 0) c.args.b))
 
 -- what the call returned
 got : (c : tie.After-floor-div) → c.floor-div.result ≡ floor (pos 0 -ℤ c.before.args.b) c.before.args.a
 got c =
     let fa = c.before.ranges.a in
     let fb = c.before.ranges.b in
-    let mb = less-small (pos 0) c.before.args.b (omega arith) (omega arith) in
+    let mb = less_small (pos 0) c.before.args.b (omega arith) (omega arith) in
     simp to_z-of_z at c.floor-div.ensures
 
 minus : (c : tie.After-floor-div) → SFits w32 (pos 0 -ℤ c.floor-div.result)
 minus c =
     let b = c.before.args.b in
-    less-small (pos 0) c.floor-div.result (omega arith) (omega (arith, ap nat_abs (got c), abs-floor (pos 0 -ℤ b) c.before.args.a, abs-sub (pos 0) b))
+    less_small (pos 0) c.floor-div.result (omega arith) (omega (arith, ap nat_abs (got c), abs_floor (pos 0 -ℤ b) c.before.args.a, abs_sub (pos 0) b))
 
 sub-result : tie.Need-overflow-sub-result
 sub-result c =
@@ -44,7 +44,7 @@ returns : tie.Need-returns
 returns c =
     let f : SFits w32 c.floor-div.result = record { sfits = c.floor-div.type-inv } in
     let m = minus c in
-    simp to_z-of_z (ap (λ (z : ℤ). pos 0 -ℤ z) (got c) ∙ ceil-is c.before.args.b c.before.args.a)
+    simp to_z-of_z (ap (λ (z : ℤ). pos 0 -ℤ z) (got c) ∙ ceil_is c.before.args.b c.before.args.a)
 
 pub ceil-div-spec : {M : Type 1} → statement M
 ceil-div-spec = tie.close (tie.spec sub-floor-div floor-div-requires sub-result returns)

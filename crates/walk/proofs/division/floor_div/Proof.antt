@@ -4,9 +4,9 @@ use native.Mathlib.Omega.{arith}
 use Prim.Native.Nat.{◌≤◌}
 use lib.IntN.{ℤ, pos, nat_abs}
 use mir.Facts.{to_z-of_z}
-use Rattle.laws.specs.Whole.{whole, back, abs-law, abs-sub, sub-law, part-law}
-use Rattle.laws.specs.Division.{floor-flip}
-use Rattle.walk.proofs.Fits.{Small, less-small, fits}
+use Rattle.laws.specs.Whole.{whole, back, abs_law, abs_sub, sub_law, part_law}
+use Rattle.laws.specs.Division.{floor_flip}
+use Rattle.walk.proofs.Fits.{Small, less_small, fits}
 use Rattle.walk.proofs.division.floor_div.Statement.{statement}
 use Rattle.walk.proofs.division.floor_div.Tie as tie
 
@@ -24,25 +24,25 @@ floor-positive-requires c κs =
     let s = c.before in
     let fa = s.ranges.a in
     let fb = s.ranges.b in
-    let ma = less-small (pos 0) s.args.a (omega arith) (omega arith) in
-    let mb = less-small (pos 0) s.args.b (omega arith) (omega arith) in
-    simp to_z-of_z (omega (whole, back fa, sub-law (pos 0) s.args.a, abs-sub (pos 0) s.args.b))
+    let ma = less_small (pos 0) s.args.a (omega arith) (omega arith) in
+    let mb = less_small (pos 0) s.args.b (omega arith) (omega arith) in
+    simp to_z-of_z (omega (whole, back fa, sub_law (pos 0) s.args.a, abs_sub (pos 0) s.args.b))
 
 returns : tie.Need-returns
 returns c =
     let s = c.before.before in
     let fa = s.ranges.a in
     let fb = s.ranges.b in
-    let ma = less-small (pos 0) s.args.a (omega arith) (omega arith) in
-    let mb = less-small (pos 0) s.args.b (omega arith) (omega arith) in
-    to_z-of_z (record { sfits = c.floor-positive.type-inv }) ∙ (simp to_z-of_z at c.floor-positive.ensures) ∙ floor-flip s.args.b s.args.a (omega (whole, back fa))
+    let ma = less_small (pos 0) s.args.a (omega arith) (omega arith) in
+    let mb = less_small (pos 0) s.args.b (omega arith) (omega arith) in
+    to_z-of_z (record { sfits = c.floor-positive.type-inv }) ∙ (simp to_z-of_z at c.floor-positive.ensures) ∙ floor_flip s.args.b s.args.a (omega (whole, back fa))
 
 floor-positive-requires-2 : tie.Need-floor-positive-requires-2
 floor-positive-requires-2 c κs =
     let s = c.before in
     let fa = s.ranges.a in
     let fb = s.ranges.b in
-    simp to_z-of_z (omega (whole, back fa, abs-law s.args.a, part-law s.args.a))
+    simp to_z-of_z (omega (whole, back fa, abs_law s.args.a, part_law s.args.a))
 
 returns-2 : tie.Need-returns-2
 returns-2 c =

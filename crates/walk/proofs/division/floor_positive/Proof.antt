@@ -8,30 +8,30 @@ use mir.Syntax.{w32}
 use mir.Val.{SFits, to_z, of_z}
 use mir.Facts.{to_z-of_z}
 use Rattle.definitions.specs.Tools.{floor}
-use Rattle.laws.specs.Whole.{whole, back, abs-law, abs-quot-le, abs-sub, bits_pos, mul-law}
-use Rattle.laws.specs.Division.{below_floor, floor-up, floor-down}
-use Rattle.walk.proofs.Fits.{Small, small, less-small, million, fits}
+use Rattle.laws.specs.Whole.{whole, back, abs_law, abs_quot_le, abs_sub, bits_pos, mul_law}
+use Rattle.laws.specs.Division.{below_floor, floor_up, floor_down}
+use Rattle.walk.proofs.Fits.{Small, small, less_small, million, fits}
 use Rattle.walk.proofs.division.floor_positive.Statement.{statement}
 use Rattle.walk.proofs.division.floor_positive.Tie as tie
 
 -- what is computed is small
 below : (k b : ℤ) → nat_abs k ≤ 1 → nat_abs b ≤ 1000000 → Small (k -ℤ b)
-below k b l h = omega (arith, abs-sub k b)
+below k b l h = omega (arith, abs_sub k b)
 
 divided : (z a : ℤ) → Small z → Small (quot_z z a)
-divided z a h = omega (arith, abs-quot-le z a)
+divided z a h = omega (arith, abs_quot_le z a)
 
 divisor : (a : ℤ) → SFits w32 a → pos 0 <ℤ a → 0 < of_z w32 a
-divisor a f h = bits_pos f (omega (whole, abs-law a))
+divisor a f h = bits_pos f (omega (whole, abs_law a))
 
 ruleset all_fit = (fits, below, divided, divisor)
 
 -- rounded down, b / 1 is b
 by_one : (b : ℤ) → floor b (pos 1) ≡ b
 by_one b =
-    let low = (below_floor (pos 1) b b (omega whole)).0 (omega (whole, mul-law (pos 1) b)) in
+    let low = (below_floor (pos 1) b b (omega whole)).0 (omega (whole, mul_law (pos 1) b)) in
     let high = (below_floor (pos 1) b (floor b (pos 1)) (omega whole)).1 (omega whole) in
-    omega (whole, low, high, mul-law (pos 1) (floor b (pos 1)))
+    omega (whole, low, high, mul_law (pos 1) (floor b (pos 1)))
 
 returns : tie.Need-returns
 returns c =
@@ -61,8 +61,8 @@ returns-2 c =
     let q = divided (negsuc 0 -ℤ b) a i in
     let fi = small (negsuc 0 -ℤ b) i in
     let fq = small (quot_z (negsuc 0 -ℤ b) a) q in
-    let fr = less-small (negsuc 0) (quot_z (negsuc 0 -ℤ b) a) (omega arith) q in
-    simp to_z-of_z (floor-down b a (omega (whole, back fb)) s.requires.0)
+    let fr = less_small (negsuc 0) (quot_z (negsuc 0 -ℤ b) a) (omega arith) q in
+    simp to_z-of_z (floor_down b a (omega (whole, back fb)) s.requires.0)
 
 div-result-2 : tie.Need-nonzero-div-result-2
 div-result-2 c = search all_fit
@@ -75,7 +75,7 @@ returns-3 c =
     let fa = s.ranges.a in
     let fb = s.ranges.b in
     let fq = small (quot_z b a) (divided b a (million b s.requires.1)) in
-    simp to_z-of_z (floor-up b a (omega (whole, back fb)) s.requires.0)
+    simp to_z-of_z (floor_up b a (omega (whole, back fb)) s.requires.0)
 
 pub floor-positive-spec : {M : Type 1} → statement M
 floor-positive-spec = tie.close (tie.spec returns sub-result div-result sub-result-2 returns-2 div-result-2 returns-3)

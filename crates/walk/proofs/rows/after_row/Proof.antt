@@ -1,6 +1,6 @@
 -- `walk::rows::after_row` meets its contract.
-use Rattle.walk.specs.Comparisons.{walking-fine}
-use Rattle.walk.proofs.Runs.{along-fine, behind}
+use Rattle.walk.specs.Comparisons.{walking_fine}
+use Rattle.walk.proofs.Runs.{along_fine, behind}
 use native.Mathlib.Omega.{arith}
 use borrow.Author.Rules.{rules}
 use Rattle.walk.proofs.rows.after_row.Statement.{statement}
@@ -9,7 +9,7 @@ use Rattle.walk.proofs.rows.after_row.Tie as tie
 room-requires : tie.Need-room-requires
 room-requires c κs =
     let s = c.before.before.before in
-    (walking-fine s.args.c s.args.w s.requires).1.0.inside
+    (walking_fine s.args.c s.args.w s.requires).1.0.inside
 
 add-b : tie.Need-overflow-add-b
 add-b c = search rules
@@ -21,7 +21,7 @@ next-requires : tie.Need-next-requires
 next-requires c κs =
     let room = c.before.before.room in
     let s = c.before.before.before.before.before.before in
-    along-fine s.args.w (walking-fine s.args.c s.args.w s.requires) room.result (omega (arith, room.ensures))
+    along_fine s.args.w (walking_fine s.args.c s.args.w s.requires) room.result (omega (arith, room.ensures))
 
 returns : tie.Need-returns
 returns c =

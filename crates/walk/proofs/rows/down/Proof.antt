@@ -5,8 +5,8 @@ use lib.IntN.{pos, ◌-ℤ◌}
 use mir.Syntax.{w32}
 use mir.Val.{SFits}
 use mir.Facts.{to_z-of_z}
-use Rattle.laws.specs.Whole.{abs-fits, abs-sub}
-use Rattle.walk.proofs.Steps.{lower-at, lower-on}
+use Rattle.laws.specs.Whole.{abs_fits, abs_sub}
+use Rattle.walk.proofs.Steps.{lower_at, lower_on}
 use borrow.Author.Rules.{rules}
 use Rattle.walk.proofs.rows.down.Statement.{statement}
 use Rattle.walk.proofs.rows.down.Tie as tie
@@ -20,17 +20,17 @@ add-t6 c = search rules
 returns : tie.Need-returns
 returns c =
     let s = c.before.before in
-    let f : SFits w32 s.args.p.literal = abs-fits (omega (arith, s.requires.near)) in simp to_z-of_z (sym (lower-on s.args.p (omega (arith, c.before.if1.true))))
+    let f : SFits w32 s.args.p.literal = abs_fits (omega (arith, s.requires.near)) in simp to_z-of_z (sym (lower_on s.args.p (omega (arith, c.before.if1.true))))
 
 sub-t7 : tie.Need-overflow-sub-t7
 sub-t7 c =
     let s = c.before.before.before in
-    let f : SFits w32 s.args.p.literal = abs-fits (omega (arith, s.requires.near)) in simp to_z-of_z (abs-fits (omega (arith, abs-sub s.args.p.literal (pos 1), s.requires.near)))
+    let f : SFits w32 s.args.p.literal = abs_fits (omega (arith, s.requires.near)) in simp to_z-of_z (abs_fits (omega (arith, abs_sub s.args.p.literal (pos 1), s.requires.near)))
 
 returns-2 : tie.Need-returns-2
 returns-2 c =
     let s = c.before.before.before in
-    let f : SFits w32 s.args.p.literal = abs-fits (omega (arith, s.requires.near)) in let g : SFits w32 (s.args.p.literal -ℤ pos 1) = abs-fits (omega (arith, abs-sub s.args.p.literal (pos 1), s.requires.near)) in simp to_z-of_z (sym (lower-at s.args.p (omega (arith, c.before.before.if1.false))))
+    let f : SFits w32 s.args.p.literal = abs_fits (omega (arith, s.requires.near)) in let g : SFits w32 (s.args.p.literal -ℤ pos 1) = abs_fits (omega (arith, abs_sub s.args.p.literal (pos 1), s.requires.near)) in simp to_z-of_z (sym (lower_at s.args.p (omega (arith, c.before.before.if1.false))))
 
 pub down-spec : {M : Type 1} → statement M
 down-spec = tie.close (tie.spec add-if1 add-t6 returns sub-t7 returns-2)

@@ -6,17 +6,17 @@ use lib.Signed.{yes_non_neg}
 use mir.Syntax.{w32}
 use mir.Val.{SFits}
 use mir.Facts.{to_z-of_z, Fits-nat_abs}
-use Rattle.laws.specs.Whole.{whole, back, abs-fits, abs-sub, abs_neg, zero-sub, sub-law}
+use Rattle.laws.specs.Whole.{whole, back, abs_fits, abs_sub, abs_neg, zero-sub, sub_law}
 use Rattle.walk.proofs.rows.magnitude.Statement.{statement}
 use Rattle.walk.proofs.rows.magnitude.Tie as tie
 
 sub-result : tie.Need-overflow-sub-result
 sub-result c =
-    let f = c.before.ranges.a in simp to_z-of_z (abs-fits (omega (arith, abs-sub (pos 0) c.before.args.a, c.before.requires)))
+    let f = c.before.ranges.a in simp to_z-of_z (abs_fits (omega (arith, abs_sub (pos 0) c.before.args.a, c.before.requires)))
 
 cast-result : tie.Need-overflow-cast-result
 cast-result c =
-    let f = c.before.ranges.a in let g : SFits w32 (pos 0 -ℤ c.before.args.a) = abs-fits (omega (arith, abs-sub (pos 0) c.before.args.a, c.before.requires)) in simp to_z-of_z (yes_non_neg {z = pos 0 -ℤ c.before.args.a} (omega (whole, back f, sub-law (pos 0) c.before.args.a)), Fits-nat_abs tt g)
+    let f = c.before.ranges.a in let g : SFits w32 (pos 0 -ℤ c.before.args.a) = abs_fits (omega (arith, abs_sub (pos 0) c.before.args.a, c.before.requires)) in simp to_z-of_z (yes_non_neg {z = pos 0 -ℤ c.before.args.a} (omega (whole, back f, sub_law (pos 0) c.before.args.a)), Fits-nat_abs tt g)
 
 cast-result-2 : tie.Need-overflow-cast-result-2
 cast-result-2 c =
@@ -24,7 +24,7 @@ cast-result-2 c =
 
 returns : tie.Need-returns
 returns c =
-    let f = c.before.ranges.a in let g : SFits w32 (pos 0 -ℤ c.before.args.a) = abs-fits (omega (arith, abs-sub (pos 0) c.before.args.a, c.before.requires)) in simp to_z-of_z (ap nat_abs (zero-sub c.before.args.a) ∙ abs_neg c.before.args.a)
+    let f = c.before.ranges.a in let g : SFits w32 (pos 0 -ℤ c.before.args.a) = abs_fits (omega (arith, abs_sub (pos 0) c.before.args.a, c.before.requires)) in simp to_z-of_z (ap nat_abs (zero-sub c.before.args.a) ∙ abs_neg c.before.args.a)
 
 returns-2 : tie.Need-returns-2
 returns-2 c = ap nat_abs (to_z-of_z c.before.ranges.a)

@@ -5,10 +5,10 @@ use mathlib.Core.List.{◌∷◌, []}
 use Prim.Native.Nat.{◌-◌, ◌≤◌}
 use native.Mathlib.Omega.{arith}
 use lib.Seq.{take_all}
-use Rattle.laws.specs.Limits.{numbersLimit}
-use Rattle.walk.specs.Comparisons.{present, present-length, walking-fine}
-use Rattle.walk.specs.Rows.{Placed, rowLength, inRun, rowFrom}
-use Rattle.walk.proofs.Runs.{slot_at, placed-b, placed-c, row-single, row-literals, spot-ready}
+use Rattle.laws.specs.Limits.{numbers_limit}
+use Rattle.walk.specs.Comparisons.{present, present-length, walking_fine}
+use Rattle.walk.specs.Rows.{Placed, row_length, in_run, row_from}
+use Rattle.walk.proofs.Runs.{slot_at, placed_b, placed_c, row-single, row-literals, spot_ready}
 use Rattle.walk.proofs.rows.row_at.Statement.{statement}
 use Rattle.walk.proofs.rows.row_at.Tie as tie
 
@@ -36,13 +36,13 @@ module _ (c : tie.Else1) where
   two = omega (arith, c.if1.false)
 
   last-but-one : Placed (slot_at s.args.c (s.args.c.n - 2)) s.args.w.b
-  last-but-one = placed-b s.args.c s.pre.0 two s.args.w s.pre.1
+  last-but-one = placed_b s.args.c s.pre.0 two s.args.w s.pre.1
 
   last : Placed (slot_at s.args.c (s.args.c.n - 1)) s.args.w.c
-  last = placed-c s.args.c s.pre.0 two s.args.w s.pre.1
+  last = placed_c s.args.c s.pre.0 two s.args.w s.pre.1
 
-  few : rowLength s.args.w ≤ numbersLimit
-  few = let d = walking-fine s.args.c s.args.w s.pre.1 in omega (arith, d.1.0.narrow)
+  few : row_length s.args.w ≤ numbers_limit
+  few = let d = walking_fine s.args.c s.args.w s.pre.1 in omega (arith, d.1.0.narrow)
 
 mul-spot-at : tie.Need-overflow-mul-spot-at
 mul-spot-at c = search rules
@@ -68,20 +68,20 @@ spot-at-requires-2 c κs = last c.before.before.before.before.before.before.befo
 row-length-requires : tie.Need-row-length-requires
 row-length-requires c κs =
     let a = c.before.before.before.before.before.before.before.before.before in
-    walking-fine a.args.c a.args.w a.requires.1
+    walking_fine a.args.c a.args.w a.requires.1
 
 returns-2 : tie.Need-returns-2
-unfolding inRun
+unfolding in_run
 returns-2 c =
     let y = c.before.before.before.spot-at in
     let z = c.before.spot-at2 in
     let e = c.before.before.before.before.before.before.before.before.before in
     let a = (s e).args in (
       rw c.row-length.ensures (record {
-        rising = spot-ready _ _ (last-but-one e) y.result y.ensures _ (few e);
-        falling = spot-ready _ _ (last e) z.result z.ensures _ (few e);
+        rising = spot_ready _ _ (last-but-one e) y.result y.ensures _ (few e);
+        falling = spot_ready _ _ (last e) z.result z.ensures _ (few e);
       }),
-      ap₂ (λ f k. rowFrom f y.result z.result k) c.before.before.before.before.before.front-at2.ensures c.row-length.ensures
+      ap₂ (λ f k. row_from f y.result z.result k) c.before.before.before.before.before.front-at2.ensures c.row-length.ensures
           ∙ sym (row-literals a.c (s e).requires.0 (two e) a.w (s e).requires.1 y.result z.result y.ensures z.ensures),
     )
 

@@ -6,8 +6,8 @@ use lib.IntN.{pos, nat_abs, ◌+ℤ◌}
 use mir.Syntax.{w32}
 use mir.Val.{SFits}
 use mir.Facts.{to_z-of_z}
-use Rattle.laws.specs.Whole.{whole, abs-fits, add-law}
-use Rattle.walk.specs.Slots.{slotBounds, slotLiteral}
+use Rattle.laws.specs.Whole.{whole, abs_fits, add_law}
+use Rattle.walk.specs.Slots.{slot_bounds, slot_literal}
 use Rattle.walk.proofs.rows.spot_at.Statement.{statement}
 use Rattle.walk.proofs.rows.spot_at.Tie as tie
 
@@ -20,7 +20,7 @@ module _ (c : tie.After-magnitude) where
   s = c.before.before
 
   size : c.magnitude.result ≡ nat_abs s.args.s.coefficient
-  size = let f : SFits w32 s.args.s.coefficient = abs-fits (omega (arith, s.pre.fair.few)) in simp to_z-of_z at c.magnitude.ensures
+  size = let f : SFits w32 s.args.s.coefficient = abs_fits (omega (arith, s.pre.fair.few)) in simp to_z-of_z at c.magnitude.ensures
 
 until-requires : tie.Need-until-requires
 until-requires c κs =
@@ -35,17 +35,17 @@ module _ (c : tie.After-bound) where
   abbrev m : tie.After-magnitude
   m = c.before.before
 
-  bound-is : c.bound.result ≡ (slotBounds (s m).args.s).lo +ℤ pos (s m).args.p.k
+  bound-is : c.bound.result ≡ (slot_bounds (s m).args.s).lo +ℤ pos (s m).args.p.k
   bound-is = c.bound.ensures ∙ ap (λ z. z +ℤ pos (s m).args.p.k) (s m).pre.low
 
-  bound-fits : SFits w32 c.bound.result
-  bound-fits = record { sfits = c.bound.type-inv }
+  bound_fits : SFits w32 c.bound.result
+  bound_fits = record { sfits = c.bound.type-inv }
 
 literal-requires : tie.Need-literal-requires
 literal-requires c κs =
     let p = (s (m c)).pre in
-    let low = (slotBounds (s (m c)).args.s).lo in
-    rw (to_z-of_z (bound-fits c), bound-is c) (p.fair, omega (whole, add-law low (pos (s (m c)).args.p.k)), p.high)
+    let low = (slot_bounds (s (m c)).args.s).lo in
+    rw (to_z-of_z (bound_fits c), bound-is c) (p.fair, omega (whole, add_law low (pos (s (m c)).args.p.k)), p.high)
 
 returns : tie.Need-returns
 returns c =
@@ -53,7 +53,7 @@ returns c =
     record {
       size = size (m b);
       rest = b.before.until.ensures;
-      literal = to_z-of_z (record { sfits = c.literal.type-inv }) ∙ c.literal.ensures ∙ ap (slotLiteral (s (m b)).args.s) (to_z-of_z (bound-fits b) ∙ bound-is b);
+      literal = to_z-of_z (record { sfits = c.literal.type-inv }) ∙ c.literal.ensures ∙ ap (slot_literal (s (m b)).args.s) (to_z-of_z (bound_fits b) ∙ bound-is b);
     }
 
 pub spot-at-spec : {M : Type 1} → statement M

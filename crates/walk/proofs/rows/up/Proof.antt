@@ -5,8 +5,8 @@ use lib.IntN.{pos, ◌+ℤ◌}
 use mir.Syntax.{w32}
 use mir.Val.{SFits}
 use mir.Facts.{to_z-of_z}
-use Rattle.laws.specs.Whole.{abs-fits, abs-add}
-use Rattle.walk.proofs.Steps.{raise-at, raise-on}
+use Rattle.laws.specs.Whole.{abs_fits, abs_add}
+use Rattle.walk.proofs.Steps.{raise_at, raise_on}
 use borrow.Author.Rules.{rules}
 use Rattle.walk.proofs.rows.up.Statement.{statement}
 use Rattle.walk.proofs.rows.up.Tie as tie
@@ -17,12 +17,12 @@ sub-t5 c = search rules
 add-t6 : tie.Need-overflow-add-t6
 add-t6 c =
     let s = c.before.before.before in
-    let f : SFits w32 s.args.p.literal = abs-fits (omega (arith, s.requires.near)) in simp to_z-of_z (abs-fits (omega (arith, abs-add s.args.p.literal (pos 1), s.requires.near)))
+    let f : SFits w32 s.args.p.literal = abs_fits (omega (arith, s.requires.near)) in simp to_z-of_z (abs_fits (omega (arith, abs_add s.args.p.literal (pos 1), s.requires.near)))
 
 returns : tie.Need-returns
 returns c =
     let s = c.before.before.before in
-    let f : SFits w32 s.args.p.literal = abs-fits (omega (arith, s.requires.near)) in let g : SFits w32 (s.args.p.literal +ℤ pos 1) = abs-fits (omega (arith, abs-add s.args.p.literal (pos 1), s.requires.near)) in simp to_z-of_z (sym (raise-at s.args.p c.before.before.if1.true))
+    let f : SFits w32 s.args.p.literal = abs_fits (omega (arith, s.requires.near)) in let g : SFits w32 (s.args.p.literal +ℤ pos 1) = abs_fits (omega (arith, abs_add s.args.p.literal (pos 1), s.requires.near)) in simp to_z-of_z (sym (raise_at s.args.p c.before.before.if1.true))
 
 sub-t7 : tie.Need-overflow-sub-t7
 sub-t7 c = omega (arith, c.if1.false)
@@ -30,7 +30,7 @@ sub-t7 c = omega (arith, c.if1.false)
 returns-2 : tie.Need-returns-2
 returns-2 c =
     let s = c.before.before in
-    let f : SFits w32 s.args.p.literal = abs-fits (omega (arith, s.requires.near)) in simp to_z-of_z (sym (raise-on s.args.p (omega (arith, c.before.if1.false))))
+    let f : SFits w32 s.args.p.literal = abs_fits (omega (arith, s.requires.near)) in simp to_z-of_z (sym (raise_on s.args.p (omega (arith, c.before.if1.false))))
 
 pub up-spec : {M : Type 1} → statement M
 up-spec = tie.close (tie.spec sub-t5 add-t6 returns sub-t7 returns-2)

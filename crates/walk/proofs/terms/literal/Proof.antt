@@ -7,21 +7,21 @@ use mir.Syntax.{w32}
 use mir.Val.{SFits}
 use mir.Facts.{to_z-of_z}
 use Rattle.definitions.specs.Tools.{floor, ceil}
-use Rattle.laws.specs.Whole.{whole, back, abs-law, part-law, zero-sub}
-use Rattle.walk.specs.Slots.{orderNumber}
-use Rattle.walk.proofs.Fits.{small, less-small, fits}
-use Rattle.walk.proofs.Slots.{coefficient-small, bound-small, ceil-small, floor-inside, ceil-inside, number_small, literal-rising, literal-falling}
+use Rattle.laws.specs.Whole.{whole, back, abs_law, part_law, zero-sub}
+use Rattle.walk.specs.Slots.{order_number}
+use Rattle.walk.proofs.Fits.{small, less_small, fits}
+use Rattle.walk.proofs.Slots.{coefficient-small, bound-small, ceil-small, floor_inside, ceil_inside, number_small, literal_rising, literal_falling}
 use Rattle.walk.proofs.terms.literal.Statement.{statement}
 use Rattle.walk.proofs.terms.literal.Tie as tie
 
-coefficient-fits : (s : tie.Start) → SFits w32 s.args.s.coefficient
-coefficient-fits s = small s.args.s.coefficient (coefficient-small s.args.s s.requires.0)
+coefficient_fits : (s : tie.Start) → SFits w32 s.args.s.coefficient
+coefficient_fits s = small s.args.s.coefficient (coefficient-small s.args.s s.requires.0)
 
 -- ---- a positive coefficient
 floor-div-requires : tie.Need-floor-div-requires
 floor-div-requires c κs =
     let s = c.before.before.before.before in
-    let fa = coefficient-fits s in
+    let fa = coefficient_fits s in
     let fb = s.ranges.b in
     simp to_z-of_z (omega (arith, bound-small s.requires))
 
@@ -30,16 +30,16 @@ module _ (c : tie.After-floor-div) where
   s = c.before.before.before.before.before
 
   positive : pos 0 <ℤ s.args.s.coefficient
-  positive = omega (whole, back (coefficient-fits s))
+  positive = omega (whole, back (coefficient_fits s))
 
   floored : c.floor-div.result ≡ floor s.args.b s.args.s.coefficient
   floored =
-      let fa = coefficient-fits s in
+      let fa = coefficient_fits s in
       let fb = s.fits.b in
       simp to_z-of_z at c.floor-div.ensures
 
   in_order : ((s.args.s.lower -ℤ pos 1) ≤ℤ c.floor-div.result) × (c.floor-div.result ≤ℤ s.args.s.upper)
-  in_order = floor-inside s.pre floored positive
+  in_order = floor_inside s.pre floored positive
 
 order-number-requires : tie.Need-order-number-requires
 order-number-requires c κs =
@@ -53,14 +53,14 @@ returns c =
     let f : SFits w32 d.floor-div.result = record { sfits = d.floor-div.type-inv } in
     to_z-of_z (record { sfits = c.order-number.type-inv })
     ∙ (simp to_z-of_z at c.order-number.ensures)
-    ∙ ap (λ z. pos (orderNumber a.s z)) (floored d)
-    ∙ sym (literal-rising a.s a.b (positive d))
+    ∙ ap (λ z. pos (order_number a.s z)) (floored d)
+    ∙ sym (literal_rising a.s a.b (positive d))
 
 -- ---- a negative coefficient
 ceil-div-requires : tie.Need-ceil-div-requires
 ceil-div-requires c κs =
     let s = c.before.before.before.before in
-    let fa = coefficient-fits s in
+    let fa = coefficient_fits s in
     let fb = s.ranges.b in
     simp to_z-of_z (omega (arith, bound-small s.requires))
 
@@ -69,19 +69,19 @@ module _ (c : tie.After-ceil-div) where
   s' = c.before.before.before.before.before
 
   negative : s'.args.s.coefficient <ℤ pos 0
-  negative = omega (whole, back (coefficient-fits s'), abs-law s'.args.s.coefficient, part-law s'.args.s.coefficient)
+  negative = omega (whole, back (coefficient_fits s'), abs_law s'.args.s.coefficient, part_law s'.args.s.coefficient)
 
   ceiled : c.ceil-div.result ≡ ceil s'.args.b s'.args.s.coefficient
   ceiled =
-      let fa = coefficient-fits s' in
+      let fa = coefficient_fits s' in
       let fb = s'.fits.b in
       simp to_z-of_z at c.ceil-div.ensures
 
   in-order' : ((s'.args.s.lower -ℤ pos 1) ≤ℤ (c.ceil-div.result -ℤ pos 1)) × ((c.ceil-div.result -ℤ pos 1) ≤ℤ s'.args.s.upper)
-  in-order' = ceil-inside s'.pre ceiled negative
+  in-order' = ceil_inside s'.pre ceiled negative
 
   below : SFits w32 (c.ceil-div.result -ℤ pos 1)
-  below = less-small c.ceil-div.result (pos 1) (ceil-small s'.pre ceiled) (omega arith)
+  below = less_small c.ceil-div.result (pos 1) (ceil-small s'.pre ceiled) (omega arith)
 
 sub-order-number : tie.Need-overflow-sub-order-number
 sub-order-number c = let k = ceil-small (s' c).requires (ceiled c) in search (fits, k)
@@ -96,7 +96,7 @@ module _ (c : tie.After-order-number2) where
   abbrev d : tie.After-ceil-div
   d = c.before
 
-  numbered : c.order-number2.result ≡ pos (orderNumber (s' d).args.s (d.ceil-div.result -ℤ pos 1))
+  numbered : c.order-number2.result ≡ pos (order_number (s' d).args.s (d.ceil-div.result -ℤ pos 1))
   numbered =
       let f : SFits w32 d.ceil-div.result = record { sfits = d.ceil-div.ok } in
       let fb = below d in
@@ -104,7 +104,7 @@ module _ (c : tie.After-order-number2) where
 
   minus : SFits w32 (pos 0 -ℤ c.order-number2.result)
   minus =
-      less-small (pos 0) c.order-number2.result (omega arith)
+      less_small (pos 0) c.order-number2.result (omega arith)
       (omega (arith, ap nat_abs numbered, number_small (s' d).args.s (d.ceil-div.result -ℤ pos 1) (s' d).pre.0 (in-order' d).0 (in-order' d).1))
 
 sub-result : tie.Need-overflow-sub-result
@@ -119,8 +119,8 @@ returns-2 c =
     let fm = minus c in
     simp to_z-of_z
     (zero-sub c.order-number2.result
-    ∙ ap neg_ℤ (numbered c ∙ ap (λ z. pos (orderNumber a.s (z -ℤ pos 1))) (ceiled (d c)))
-    ∙ sym (literal-falling a.s a.b (negative (d c))))
+    ∙ ap neg_ℤ (numbered c ∙ ap (λ z. pos (order_number a.s (z -ℤ pos 1))) (ceiled (d c)))
+    ∙ sym (literal_falling a.s a.b (negative (d c))))
 
 pub literal-spec : {M : Type 1} → statement M
 literal-spec =

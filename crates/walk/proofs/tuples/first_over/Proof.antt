@@ -11,8 +11,8 @@ use Rattle.definitions.specs.Tools.{All}
 use Rattle.laws.specs.Whole.{whole, back}
 use Rattle.walk.specs.declared.Place.{Place}
 use Rattle.walk.specs.Walks.{above, Fine, Over}
-use Rattle.walk.specs.Comparisons.{paddedRanges, placed, Walking}
-use Rattle.walk.proofs.Starts.{start-end, places-fine, three-places, start-at}
+use Rattle.walk.specs.Comparisons.{padded_ranges, placed, Walking}
+use Rattle.walk.proofs.Starts.{start-end, places_fine, three-places, start-at}
 use Rattle.walk.proofs.tuples.first_over.Statement.{statement}
 use Rattle.walk.proofs.tuples.first_over.Tie as tie
 
@@ -41,7 +41,7 @@ module _ (c : tie.After-place3) where
   sum-sign : pos 0 ≤ℤ start.args.t
   sum-sign = omega (whole, back sum_fits)
 
-  three : map placed (paddedRanges start.args.c) ≡ c.before.before.place.result ∷ c.before.place2.result ∷ c.place3.result ∷ []
+  three : map placed (padded_ranges start.args.c) ≡ c.before.before.place.result ∷ c.before.place2.result ∷ c.place3.result ∷ []
   three =
       three-places start.args.c start.pre.0 c.before.before.place.result c.before.place2.result c.place3.result
       c.before.before.place.ensures c.before.place2.ensures c.place3.ensures
@@ -50,7 +50,7 @@ cast-lowest : tie.Need-overflow-cast-lowest
 cast-lowest c = let f = sum_fits c in simp to_z-of_z (yes_non_neg (sum-sign c), Fits-nat_abs tt f)
 
 lowest-requires : tie.Need-lowest-requires
-lowest-requires c κs = subst (All Fine) (three c) (places-fine (start c).args.c (start c).requires.0)
+lowest-requires c κs = subst (All Fine) (three c) (places_fine (start c).args.c (start c).requires.0)
 
 returns-2 : tie.Need-returns-2
 unfolding Walking

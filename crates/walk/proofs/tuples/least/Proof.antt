@@ -5,19 +5,19 @@ use native.Mathlib.Omega.{arith}
 use mir.Syntax.{w32}
 use mir.Val.{of_z}
 use borrow.Author.Rules.{rules}
-use Rattle.walk.proofs.Padding.{slot-fair}
-use Rattle.walk.proofs.Sums.{leastUpTo, held-is, value-fits, total-is, total-fits, least-all}
+use Rattle.walk.proofs.Padding.{slot_fair}
+use Rattle.walk.proofs.Sums.{least_up_to, held_is, value_fits, total_is, total_fits, least-all}
 use Rattle.walk.proofs.tuples.least.Statement.{statement}
 use Rattle.walk.proofs.tuples.least.Tie as tie
 
 abbrev invariant-loop : tie.invariant-loop
-invariant-loop c slots sum₀ i₀ sum i = (i ≤ c.n) × (sum ≡ of_z w32 (leastUpTo c i))
+invariant-loop c slots sum₀ i₀ sum i = (i ≤ c.n) × (sum ≡ of_z w32 (least_up_to c i))
 
 abbrev decreases-loop : tie.decreases-loop
 decreases-loop c slots sum₀ i₀ sum i = c.n - i
 
 loop-holds : tie.Need-loop-init invariant-loop decreases-loop
-unfolding leastUpTo
+unfolding least_up_to
 loop-holds c = (omega arith, refl)
 
 mul-slot-range : tie.Need-overflow-mul-slot-range invariant-loop decreases-loop
@@ -29,19 +29,19 @@ array-copy-out-slot-range c = search rules
 slot-range-requires : tie.Need-slot-range-requires invariant-loop decreases-loop
 slot-range-requires c κs =
     let s = c.before.before.before.before.before in
-    slot-fair s.args.c s.requires c.before.before.before.loop.i c.before.if1.true
+    slot_fair s.args.c s.requires c.before.before.before.loop.i c.before.if1.true
 
 add-sum : tie.Need-overflow-add-sum invariant-loop decreases-loop
 add-sum c =
     let l = c.before.before.before.before.before.before in
     let s = l.before.before in
-    value-fits s.args.c s.requires l.loop.i l.loop.sum l.loop.invariant.1 c.before.before.before.before.if1.true c.before.before.slot-range.result c.before.before.slot-range.ensures.0
+    value_fits s.args.c s.requires l.loop.i l.loop.sum l.loop.invariant.1 c.before.before.before.before.if1.true c.before.before.slot-range.result c.before.before.slot-range.ensures.0
 
 add-sum-2 : tie.Need-overflow-add-sum-2 invariant-loop decreases-loop
 add-sum-2 c =
     let l = c.before.before.before.before.before.before in
     let s = l.before.before in
-    total-fits s.args.c s.requires l.loop.i l.loop.sum l.loop.invariant.1 c.before.before.before.before.if1.true c.before.before.slot-range.result c.before.before.slot-range.ensures.0
+    total_fits s.args.c s.requires l.loop.i l.loop.sum l.loop.invariant.1 c.before.before.before.before.if1.true c.before.before.slot-range.result c.before.before.slot-range.ensures.0
 
 add-i : tie.Need-overflow-add-i invariant-loop decreases-loop
 add-i c = search rules
@@ -53,14 +53,14 @@ loop-again : tie.Need-loop-preserved invariant-loop decreases-loop
 loop-again c =
     let l = c.before.before.before.before.before.before in
     let s = l.before.before in
-    (omega arith, ap (of_z w32) (total-is s.args.c s.requires l.loop.i l.loop.sum l.loop.invariant.1 c.before.before.before.before.if1.true c.before.before.slot-range.result c.before.before.slot-range.ensures.0))
+    (omega arith, ap (of_z w32) (total_is s.args.c s.requires l.loop.i l.loop.sum l.loop.invariant.1 c.before.before.before.before.if1.true c.before.before.slot-range.result c.before.before.slot-range.ensures.0))
 
 returns : tie.Need-returns invariant-loop decreases-loop
 returns c =
     let l = c.before.before in
     let s = l.before.before in
-    held-is s.args.c s.requires l.loop.i l.loop.sum (omega arith) l.loop.invariant.1
-    ∙ ap (leastUpTo s.args.c) (omega arith)
+    held_is s.args.c s.requires l.loop.i l.loop.sum (omega arith) l.loop.invariant.1
+    ∙ ap (least_up_to s.args.c) (omega arith)
     ∙ least-all s.args.c s.requires
 
 pub least-spec : {M : Type 1} → statement M

@@ -4,7 +4,7 @@ use native.Mathlib.Omega.{arith}
 use borrow.Author.Rules.{rules}
 use Prim.Native.Nat.{◌-◌}
 use Rattle.walk.specs.Walks.{moved, refill}
-use Rattle.walk.proofs.Moves.{Begins, begin-none, begin-at}
+use Rattle.walk.proofs.Moves.{Begins, begin_none, begin_at}
 use Rattle.walk.proofs.tuples.lowest.Statement.{statement}
 use Rattle.walk.proofs.tuples.lowest.Tie as tie
 
@@ -16,7 +16,7 @@ add-if1 c = search rules
 
 returns : tie.Need-returns
 returns c =
-    let s = c.before.before.before.before.args in begin-none s.a s.b s.c c.before.before.before.before.requires s.t (omega arith)
+    let s = c.before.before.before.before.args in begin_none s.a s.b s.c c.before.before.before.before.requires s.t (omega arith)
 
 less-requires : tie.Need-less-requires
 less-requires c κs = search rules
@@ -32,7 +32,7 @@ returns-2 c =
     let s = c.before.before.before.before.before.before.args in
     subst (Begins s.a s.b s.c c.before.before.before.before.before.before.requires s.t)
     (sym (c.refilled.ensures ∙ ap (λ k. refill (moved s.a k) s.b s.c (s.t - k)) c.before.less.ensures))
-    (begin-at s.a s.b s.c c.before.before.before.before.before.before.requires s.t (omega arith))
+    (begin_at s.a s.b s.c c.before.before.before.before.before.before.requires s.t (omega arith))
 
 pub lowest-spec : {M : Type 1} → statement M
 lowest-spec =

@@ -2,7 +2,7 @@
 use mathlib.Core.Path.{sym, subst}
 use native.Mathlib.Omega.{arith}
 use borrow.Author.Rules.{rules}
-use Rattle.walk.proofs.Moves.{Steps, move-second, move-first, move-none}
+use Rattle.walk.proofs.Moves.{Steps, move_second, move_first, move_none}
 use Rattle.walk.proofs.tuples.next.Statement.{statement}
 use Rattle.walk.proofs.tuples.next.Tie as tie
 
@@ -17,7 +17,7 @@ sub-c c = search rules
 
 returns : tie.Need-returns
 returns c =
-    move-second c.before.before.before.before.before.before.before.args.w c.before.before.before.before.before.before.before.requires (omega (arith, c.before.before.before.room.ensures))
+    move_second c.before.before.before.before.before.before.before.args.w c.before.before.before.before.before.before.before.requires (omega (arith, c.before.before.before.room.ensures))
 
 add-after : tie.Need-overflow-add-after
 add-after c = search rules
@@ -37,11 +37,11 @@ refilled-requires c κs = search rules
 returns-2 : tie.Need-returns-2
 returns-2 c =
     subst (Steps c.before.before.before.before.before.before.before.before.before.before.before.args.w c.before.before.before.before.before.before.before.before.before.before.before.requires) (sym c.refilled.ensures)
-    (move-first c.before.before.before.before.before.before.before.before.before.before.before.args.w c.before.before.before.before.before.before.before.before.before.before.before.requires (omega (arith, c.before.before.before.before.before.before.before.room.ensures)) (omega (arith, c.before.before.before.room2.ensures)))
+    (move_first c.before.before.before.before.before.before.before.before.before.before.before.args.w c.before.before.before.before.before.before.before.before.before.before.before.requires (omega (arith, c.before.before.before.before.before.before.before.room.ensures)) (omega (arith, c.before.before.before.room2.ensures)))
 
 returns-3 : tie.Need-returns-3
 returns-3 c =
-    move-none c.before.before.before.before.before.before.before.before.before.args.w c.before.before.before.before.before.before.before.before.before.requires (omega (arith, c.before.before.before.before.before.room.ensures)) (omega (arith, c.before.room2.ensures))
+    move_none c.before.before.before.before.before.before.before.before.before.args.w c.before.before.before.before.before.before.before.before.before.requires (omega (arith, c.before.before.before.before.before.room.ensures)) (omega (arith, c.before.room2.ensures))
 
 pub next-spec : {M : Type 1} → statement M
 next-spec =

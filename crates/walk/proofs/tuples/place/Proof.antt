@@ -12,8 +12,8 @@ use borrow.Author.Rules.{rules}
 use Rattle.walk.specs.declared.Slot.{Slot}
 use Rattle.walk.specs.Comparisons.{placed}
 use Rattle.walk.specs.Slots.{FairSlot}
-use Rattle.walk.proofs.Slots.{low_fits, high_fits, span_fits, span-sign, span-placed}
-use Rattle.walk.proofs.Padding.{no_slot, slot-fair, range-read, range_none}
+use Rattle.walk.proofs.Slots.{low_fits, high_fits, span_fits, span_sign, span-placed}
+use Rattle.walk.proofs.Padding.{no_slot, slot_fair, range-read, range_none}
 use Rattle.walk.proofs.tuples.place.Statement.{statement}
 use Rattle.walk.proofs.tuples.place.Tie as tie
 
@@ -40,7 +40,7 @@ array-copy-out-slot-range c = search rules
 slot-range-requires : tie.Need-slot-range-requires
 slot-range-requires c κs =
     let s = c.before.before.before.before.before in
-    slot-fair s.args.c s.requires.0 (s.args.j + s.args.c.n - 3) (omega arith)
+    slot_fair s.args.c s.requires.0 (s.args.j + s.args.c.n - 3) (omega arith)
 
 -- the range that the call returned
 module _ (c : tie.After-slot-range) where
@@ -51,7 +51,7 @@ module _ (c : tie.After-slot-range) where
   slot = get_or start.args.c.slots (start.args.j + start.args.c.n - 3) no_slot
 
   fair : FairSlot slot
-  fair = slot-fair start.args.c start.pre.0 (start.args.j + start.args.c.n - 3) (omega arith)
+  fair = slot_fair start.args.c start.pre.0 (start.args.j + start.args.c.n - 3) (omega arith)
 
   low : SFits w32 c.slot-range.result.lo
   low = low_fits c.slot-range.result slot fair c.slot-range.ensures
@@ -68,7 +68,7 @@ sub-t12 c = search (to_z-of_z, low c.before.before, high c.before.before, span c
 cast-t13 : tie.Need-overflow-cast-t13
 cast-t13 c =
     let d = c.before.before in
-    let sign = yes_non_neg (span-sign d.slot-range.result (slot d) (fair d) d.slot-range.ensures) in
+    let sign = yes_non_neg (span_sign d.slot-range.result (slot d) (fair d) d.slot-range.ensures) in
     simp (to_z-of_z, low d, high d, span d) (sign, Fits-nat_abs tt (span d))
 
 returns-2 : tie.Need-returns-2

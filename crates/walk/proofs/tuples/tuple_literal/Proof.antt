@@ -5,8 +5,8 @@ use mir.Syntax.{w32}
 use mir.Val.{SFits}
 use mir.Facts.{to_z-of_z}
 use borrow.Author.Rules.{rules}
-use Rattle.walk.specs.Slots.{slotLiteral}
-use Rattle.walk.proofs.Padding.{no_slot, slot-fair, place-fine, bound-inside, literal-read}
+use Rattle.walk.specs.Slots.{slot_literal}
+use Rattle.walk.proofs.Padding.{no_slot, slot_fair, place_fine, bound_inside, literal_read}
 use Rattle.walk.proofs.tuples.tuple_literal.Statement.{statement}
 use Rattle.walk.proofs.tuples.tuple_literal.Tie as tie
 
@@ -30,15 +30,15 @@ array-copy-out-literal c = search rules
 
 bound-requires : tie.Need-bound-requires
 bound-requires c κs =
-    let a = c.before.before.before.before.before.before.before.args in let p = c.before.before.before.before.before.before.before.requires in place-fine a.c p.0 a.w p.1 a.i p.2
+    let a = c.before.before.before.before.before.before.before.args in let p = c.before.before.before.before.before.before.before.requires in place_fine a.c p.0 a.w p.1 a.i p.2
 
 literal-requires : tie.Need-literal-requires
 literal-requires c κs =
     let a = c.before.before.before.before.before.before.before.before.args in
     let p = c.before.before.before.before.before.before.before.before.requires in
     let f : SFits w32 c.bound.result = record { sfits = c.bound.type-inv } in
-    let b = bound-inside a.c p.0 a.w p.1 a.i p.2 c.bound.result c.bound.ensures in
-    simp to_z-of_z (slot-fair a.c p.0 a.i p.2, b.0, b.1)
+    let b = bound_inside a.c p.0 a.w p.1 a.i p.2 c.bound.result c.bound.ensures in
+    simp to_z-of_z (slot_fair a.c p.0 a.i p.2, b.0, b.1)
 
 returns : tie.Need-returns
 returns c =
@@ -48,8 +48,8 @@ returns c =
     let g : SFits w32 c.before.bound.result = record { sfits = c.before.bound.type-inv } in
     to_z-of_z f
     ∙ (simp to_z-of_z at c.literal.ensures)
-    ∙ ap (slotLiteral (get_or a.c.slots a.i no_slot)) c.before.bound.ensures
-    ∙ sym (literal-read a.c p.0 a.w p.1 a.i p.2)
+    ∙ ap (slot_literal (get_or a.c.slots a.i no_slot)) c.before.bound.ensures
+    ∙ sym (literal_read a.c p.0 a.w p.1 a.i p.2)
 
 pub tuple-literal-spec : {M : Type 1} → statement M
 tuple-literal-spec =

@@ -2,12 +2,12 @@
 use mathlib.Core.Path.{sym, ◌∙◌}
 use Prim.Native.Nat.{◌-◌}
 use native.Mathlib.Omega.{arith}
-use Rattle.laws.specs.Signs.{minus-fits}
-use Rattle.writing.specs.Axioms.{stepsFrom}
+use Rattle.laws.specs.Signs.{minus_fits}
+use Rattle.writing.specs.Axioms.{steps_from}
 use Rattle.text.specs.Entries.{entries}
-use Rattle.write_text.specs.Adds.{retold, ◌then◌, first-counts, then-counts}
+use Rattle.write_text.specs.Adds.{retold, ◌then◌, first_counts, then_counts}
 use borrow.Author.Rules.{rules}
-use Rattle.write_text.proofs.Parts.{unitsHere, units-text}
+use Rattle.write_text.proofs.Parts.{units_here, units_text}
 use Rattle.write_text.proofs.axioms.add_axioms.Statement.{statement}
 use Rattle.write_text.proofs.axioms.add_axioms.Tie as tie
 
@@ -19,7 +19,7 @@ cast-t8 c = search rules
 
 sub-t9 : tie.Need-overflow-sub-t9
 sub-t9 c =
-    minus-fits c.before.args.first (omega (arith, c.before.requires.1))
+    minus_fits c.before.args.first (omega (arith, c.before.requires.1))
 
 add-t10 : tie.Need-overflow-add-t10
 add-t10 c = search rules
@@ -35,14 +35,14 @@ add-entries-requires c κs =
     let s = c.before.before.before in
     let a = s.args in
     let p = s.requires in
-    first-counts a.at p.2 (entries (unitsHere a.first a.width)) (entries (stepsFrom a.first (a.width - 1))) (units-text a.first a.width p.1)
+    first_counts a.at p.2 (entries (units_here a.first a.width)) (entries (steps_from a.first (a.width - 1))) (units_text a.first a.width p.1)
 
 add-steps-requires : tie.Need-add-steps-requires
 add-steps-requires c κs =
     let s = c.before.before.before.before.before.before.before in
     let a = s.args in
     let p = s.requires in
-    (omega (arith, p.0, p.1), then-counts a.at p.2 (entries (unitsHere a.first a.width)) (entries (stepsFrom a.first (a.width - 1))) (units-text a.first a.width p.1) c.before.before.before.add-entries.ensures)
+    (omega (arith, p.0, p.1), then_counts a.at p.2 (entries (units_here a.first a.width)) (entries (steps_from a.first (a.width - 1))) (units_text a.first a.width p.1) c.before.before.before.add-entries.ensures)
 
 same_length : tie.Need-same-length
 same_length c =
@@ -52,7 +52,7 @@ returns : tie.Need-returns
 returns c =
     let s = c.before.before.before.before.before.before.before.before.before.before in
     let a = s.args in
-    retold (sym (units-text a.first a.width s.requires.1)) (c.before.before.before.before.before.before.add-entries.ensures then c.before.before.add-steps.ensures)
+    retold (sym (units_text a.first a.width s.requires.1)) (c.before.before.before.before.before.before.add-entries.ensures then c.before.before.add-steps.ensures)
 
 pub add-axioms-spec : {M : Type 1} → statement M
 add-axioms-spec =

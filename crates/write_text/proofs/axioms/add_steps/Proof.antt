@@ -3,17 +3,17 @@ use borrow.Author.Rules.{rules}
 use mathlib.Core.Path.{◌≡◌, refl, ap, ◌∙◌}
 use Prim.Native.Nat.{◌+◌, ◌-◌}
 use native.Mathlib.Omega.{arith}
-use Rattle.laws.specs.Signs.{minus-fits}
-use Rattle.writing.specs.Axioms.{stepsFrom, steps-none}
+use Rattle.laws.specs.Signs.{minus_fits}
+use Rattle.writing.specs.Axioms.{steps_from, steps_none}
 use Rattle.text.specs.Entries.{entries}
-use Rattle.write_text.specs.Adds.{Adding, begin, counts-first, on, ended}
-use Rattle.write_text.proofs.Parts.{stepHere, steps-text, entries-empty}
+use Rattle.write_text.specs.Adds.{Adding, begin, counts_first, on, ended}
+use Rattle.write_text.proofs.Parts.{step_here, steps_text, entries-empty}
 use Rattle.write_text.proofs.axioms.add_steps.Statement.{statement}
 use Rattle.write_text.proofs.axioms.add_steps.Tie as tie
 
 abbrev invariant-loop : tie.invariant-loop
 invariant-loop first steps at out₀ number₀ left₀ place₀ out number left place =
-    Adding (entries (stepsFrom first steps)) (entries (stepsFrom number left)) at out₀ place out × (number + left ≡ first + steps)
+    Adding (entries (steps_from first steps)) (entries (steps_from number left)) at out₀ place out × (number + left ≡ first + steps)
 
 abbrev decreases-loop : tie.decreases-loop
 decreases-loop first steps at out₀ number₀ left₀ place₀ out number left place = left
@@ -30,7 +30,7 @@ sub-t11 : tie.Need-overflow-sub-t11 invariant-loop decreases-loop
 sub-t11 c =
     let s = c.before.before.before in
     let l = c.before.loop in
-    minus-fits l.number (omega (arith, l.invariant.1, s.requires.0))
+    minus_fits l.number (omega (arith, l.invariant.1, s.requires.0))
 
 add-t12 : tie.Need-overflow-add-t12 invariant-loop decreases-loop
 add-t12 c =
@@ -49,7 +49,7 @@ add-entries-requires : tie.Need-add-entries-requires invariant-loop decreases-lo
 add-entries-requires c κs =
     let s = c.before.before.before.before.before in
     let l = c.before.before.before.loop in
-    counts-first l.invariant.0 (entries (stepHere l.number)) (entries (stepsFrom (l.number + 1) (l.left - 1))) (steps-text l.number l.left c.before.before.loop-test.true (omega (arith, l.invariant.1, s.requires.0))) s.requires.1
+    counts_first l.invariant.0 (entries (step_here l.number)) (entries (steps_from (l.number + 1) (l.left - 1))) (steps_text l.number l.left c.before.before.loop-test.true (omega (arith, l.invariant.1, s.requires.0))) s.requires.1
 
 add-number : tie.Need-overflow-add-number invariant-loop decreases-loop
 add-number c =
@@ -68,7 +68,7 @@ loop-again : tie.Need-loop-preserved invariant-loop decreases-loop
 loop-again c =
     let s = c.before.before.before.before.before.before.before.before in
     let l = c.before.before.before.before.before.before.loop in
-    (on l.invariant.0 _ _ (steps-text l.number l.left c.before.before.before.before.before.loop-test.true (omega (arith, l.invariant.1, s.requires.0))) c.before.before.add-entries.ensures, omega (arith, l.invariant.1, c.before.before.before.before.before.loop-test.true))
+    (on l.invariant.0 _ _ (steps_text l.number l.left c.before.before.before.before.before.loop-test.true (omega (arith, l.invariant.1, s.requires.0))) c.before.before.add-entries.ensures, omega (arith, l.invariant.1, c.before.before.before.before.before.loop-test.true))
 
 same_length : tie.Need-same-length invariant-loop decreases-loop
 same_length c = c.before.loop.invariant.0.added.long
@@ -76,7 +76,7 @@ same_length c = c.before.loop.invariant.0.added.long
 returns : tie.Need-returns invariant-loop decreases-loop
 returns c =
     let l = c.before.loop in
-    ended l.invariant.0 (ap entries (steps-none l.number l.left (omega arith)) ∙ entries-empty)
+    ended l.invariant.0 (ap entries (steps_none l.number l.left (omega arith)) ∙ entries-empty)
 
 pub add-steps-spec : {M : Type 1} → statement M
 add-steps-spec =

@@ -6,23 +6,23 @@ use Prim.Native.Nat.{◌+◌, ◌-◌, ◌≤◌, ◌<◌}
 use native.Mathlib.Omega.{arith}
 use lib.ListN.{length}
 use Rattle.definitions.specs.Board.{Board}
-use Rattle.laws.specs.Limits.{numbersLimit}
+use Rattle.laws.specs.Limits.{numbers_limit}
 use Rattle.definitions.specs.Encoding as encoding
 use Rattle.laws.specs.Fits.{first-most, width-most, width-least}
-use Rattle.laws.specs.Boards.{boardOf, opens-admitted}
-use Rattle.slots.specs.Variables.{first-none, first_more}
+use Rattle.laws.specs.Boards.{board_of, opens_admitted}
+use Rattle.slots.specs.Variables.{first_none, first_more}
 use Rattle.text.specs.Entries.{entries}
-use Rattle.writing.specs.Axioms.{axiomNumbers}
-use Rattle.compile.specs.Lists.{axiomsFrom, axioms-end}
-use Rattle.compile.proofs.Passes.{axioms-next}
-use Rattle.write_text.specs.Adds.{Adding, begin, counts-first, on, ended}
+use Rattle.writing.specs.Axioms.{axiom_numbers}
+use Rattle.compile.specs.Lists.{axioms_from, axioms-end}
+use Rattle.compile.proofs.Passes.{axioms_next}
+use Rattle.write_text.specs.Adds.{Adding, begin, counts_first, on, ended}
 use Rattle.write_text.proofs.Parts.{entries-append, entries-empty}
 use Rattle.write_text.proofs.axioms.add_variables.Statement.{statement}
 use Rattle.write_text.proofs.axioms.add_variables.Tie as tie
 
 abbrev invariant-loop : tie.invariant-loop
 invariant-loop bytes ints bools at out₀ first₀ x₀ place₀ out first x place =
-    Adding (entries (axiomsFrom (boardOf bytes) 0)) (entries (axiomsFrom (boardOf bytes) x)) at out₀ place out × (first ≡ encoding.first (boardOf bytes) x) × (x ≤ ints)
+    Adding (entries (axioms_from (board_of bytes) 0)) (entries (axioms_from (board_of bytes) x)) at out₀ place out × (first ≡ encoding.first (board_of bytes) x) × (x ≤ ints)
 
 abbrev decreases-loop : tie.decreases-loop
 decreases-loop bytes ints bools at out₀ first₀ x₀ place₀ out first x place = ints - x
@@ -33,35 +33,35 @@ module _ (h : tie.After-width-of invariant-loop decreases-loop) where
   s = h.before.before.before.before.before.before
 
   abbrev B : Board
-  B = boardOf s.args.bytes.now
+  B = board_of s.args.bytes.now
 
   inside : h.before.before.before.loop.x < length B.bounds
   inside = omega (arith, h.before.before.loop-test.taken, s.pre.1)
 
-  first_small : h.before.before.before.loop.first + h.width_of_lem.result < numbersLimit
-  first_small = omega (arith, h.width_of_lem.ensures, width-most _ h.before.bounds_of.ensures.good, h.before.before.before.loop.inv.1, first-most B (opens-admitted _ s.pre.0) h.before.before.before.loop.x)
+  first_small : h.before.before.before.loop.first + h.width_of_lem.result < numbers_limit
+  first_small = omega (arith, h.width_of_lem.ensures, width-most _ h.before.bounds_of.ensures.good, h.before.before.before.loop.inv.1, first-most B (opens_admitted _ s.pre.0) h.before.before.before.loop.x)
 
   text-next : let l = h.before.before.before.loop in
-      entries (axiomsFrom B l.x) ≡ entries (axiomNumbers l.first h.width_of_lem.result) ++ entries (axiomsFrom B (l.x + 1))
+      entries (axioms_from B l.x) ≡ entries (axiom_numbers l.first h.width_of_lem.result) ++ entries (axioms_from B (l.x + 1))
   text-next =
       let l = h.before.before.before.loop in
-      ap entries (axioms-next B (opens-admitted _ s.pre.0) l.x inside h.before.bounds_of.result l.first h.width_of_lem.result h.before.bounds_of.ensures l.inv.1 h.width_of_lem.ensures)
-      ∙ entries-append (axiomNumbers l.first h.width_of_lem.result) (axiomsFrom B (l.x + 1))
+      ap entries (axioms_next B (opens_admitted _ s.pre.0) l.x inside h.before.bounds_of.result l.first h.width_of_lem.result h.before.bounds_of.ensures l.inv.1 h.width_of_lem.ensures)
+      ∙ entries-append (axiom_numbers l.first h.width_of_lem.result) (axioms_from B (l.x + 1))
 
 cast-first : tie.Need-overflow-cast-first invariant-loop decreases-loop
 cast-first c =
     let s = c.before.before in
-    omega (arith, (opens-admitted _ s.requires.0).bools)
+    omega (arith, (opens_admitted _ s.requires.0).bools)
 
 add-first : tie.Need-overflow-add-first invariant-loop decreases-loop
 add-first c =
     let s = c.before.before in
-    omega (arith, (opens-admitted _ s.requires.0).bools)
+    omega (arith, (opens_admitted _ s.requires.0).bools)
 
 loop-holds : tie.Need-loop-init invariant-loop decreases-loop
 loop-holds c =
     let s = c.before.before in
-    (begin _ _ refl, rw s.requires.2 (sym (first-none _)), omega arith)
+    (begin _ _ refl, rw s.requires.2 (sym (first_none _)), omega arith)
 
 bounds-of-requires : tie.Need-bounds-of-requires invariant-loop decreases-loop
 bounds-of-requires c κs =
@@ -76,7 +76,7 @@ add-axioms-requires c κs =
     let s = c.before.before.before.before.before.before.before in
     let l = c.before.before.before.before.loop in
     let h = c.before in
-    (omega (arith, c.before.width_of_lem.ensures, width-least _ c.before.before.bounds_of.ensures.good), first_small h, counts-first l.invariant.0 (entries (axiomNumbers l.first c.before.width_of_lem.result)) (entries (axiomsFrom (B h) (l.x + 1))) (text-next h) s.requires.3)
+    (omega (arith, c.before.width_of_lem.ensures, width-least _ c.before.before.bounds_of.ensures.good), first_small h, counts_first l.invariant.0 (entries (axiom_numbers l.first c.before.width_of_lem.result)) (entries (axioms_from (B h) (l.x + 1))) (text-next h) s.requires.3)
 
 add-first-2 : tie.Need-overflow-add-first-2 invariant-loop decreases-loop
 add-first-2 c =
@@ -102,7 +102,7 @@ returns : tie.Need-returns invariant-loop decreases-loop
 returns c =
     let s = c.before.before.before.before in
     let l = c.before.loop in
-    ended l.invariant.0 (ap entries (axioms-end (boardOf s.args.bytes.now) l.x (omega (arith, c.loop-test.false, s.requires.1))) ∙ entries-empty)
+    ended l.invariant.0 (ap entries (axioms-end (board_of s.args.bytes.now) l.x (omega (arith, c.loop-test.false, s.requires.1))) ∙ entries-empty)
 
 pub add-variables-spec : {M : Type 1} → statement M
 add-variables-spec =

@@ -7,8 +7,8 @@ use mir.Val.{SFits}
 use mir.Facts.{to_z-of_z}
 use Rattle.laws.specs.Whole.{whole, back}
 use Rattle.text.specs.Entries.{entries}
-use Rattle.walk.specs.Comparisons.{literalsOf, below-least, from-least}
-use Rattle.writing.specs.Numbers.{led, underLead, under_low, under-high}
+use Rattle.walk.specs.Comparisons.{literals_of, below-least, from-least}
+use Rattle.writing.specs.Numbers.{led, under_lead, under_low, under-high}
 use Rattle.write_text.specs.Adds.{retold}
 use Rattle.write_text.proofs.comparisons.add_comparison.Statement.{statement}
 use Rattle.write_text.proofs.comparisons.add_comparison.Tie as tie
@@ -22,12 +22,12 @@ module _ (c : tie.After-over-least) where
   over-fits = record { sfits = c.over-least.type-inv }
 
 -- below the least sum, and from it on
-low : (h : tie.Then1) → let a = (s h.before).args in entries (underLead a.lead a.c) ≡ entries (led a.lead ([] ∷ []))
+low : (h : tie.Then1) → let a = (s h.before).args in entries (under_lead a.lead a.c) ≡ entries (led a.lead ([] ∷ []))
 low h =
     let r = h.before in
     ap entries (under_low (s r).args.lead (s r).args.c (below-least (s r).args.c (omega (whole, back (over-fits r), r.over-least.ensures))))
 
-high : (h : tie.Else1) → let a = (s h.before).args in entries (underLead a.lead a.c) ≡ entries (led a.lead (literalsOf a.c))
+high : (h : tie.Else1) → let a = (s h.before).args in entries (under_lead a.lead a.c) ≡ entries (led a.lead (literals_of a.c))
 high h =
     let r = h.before in
     ap entries (under-high (s r).args.lead (s r).args.c (from-least (s r).args.c (omega (whole, back (over-fits r), r.over-least.ensures))))

@@ -7,20 +7,20 @@ use native.Mathlib.Omega.{arith}
 use lib.ListN.{length, length-append}
 use mir.Facts.{to_z-of_z}
 use Rattle.text.specs.Entries.{entries}
-use Rattle.walk.specs.Comparisons.{Walking, literalsOf, toCome}
-use Rattle.walk.specs.Rows.{in_row, rowClauses, row-some}
+use Rattle.walk.specs.Comparisons.{Walking, literals_of, to_come}
+use Rattle.walk.specs.Rows.{in_row, row_clauses, row_some}
 use Rattle.writing.specs.Numbers.{led}
-use Rattle.write_text.specs.Adds.{Adding, begin, counts-first, on, ended}
+use Rattle.write_text.specs.Adds.{Adding, begin, counts_first, on, ended}
 use Rattle.write_text.proofs.Parts.{text-end, text-on}
 use Rattle.write_text.proofs.comparisons.add_tuples.Statement.{statement}
 use Rattle.write_text.proofs.comparisons.add_tuples.Tie as tie
 
 abbrev invariant-loop : tie.invariant-loop
 invariant-loop c t lead at out₀ place₀ tuple₀ out place tuple =
-    Adding (entries (led lead (literalsOf c))) (entries (led lead (toCome c tuple))) at out₀ place out × Walking c tuple
+    Adding (entries (led lead (literals_of c))) (entries (led lead (to_come c tuple))) at out₀ place out × Walking c tuple
 
 abbrev decreases-loop : tie.decreases-loop
-decreases-loop c t lead at out₀ place₀ tuple₀ out place tuple = length (toCome c tuple)
+decreases-loop c t lead at out₀ place₀ tuple₀ out place tuple = length (to_come c tuple)
 
 first-over-requires : tie.Need-first-over-requires invariant-loop decreases-loop
 first-over-requires c κs = (c.before.requires.0, rw (to_z-of_z c.before.ranges.t) c.before.requires.1)
@@ -56,25 +56,25 @@ module _ (c : tie.After-row-at invariant-loop decreases-loop) where
   row = entries (led s.args.lead (in_row c.row_at.result))
 
   abbrev behind : List ℕ
-  behind = entries (led s.args.lead (toCome s.args.c c.before.after-row.result))
+  behind = entries (led s.args.lead (to_come s.args.c c.before.after-row.result))
 
-  more : entries (led s.args.lead (toCome s.args.c l.loop.tuple)) ≡ row ++ behind
+  more : entries (led s.args.lead (to_come s.args.c l.loop.tuple)) ≡ row ++ behind
   more =
       let t = c.before.before.before.tuple.given in
-      let rest = toCome s.args.c c.before.after-row.result in
+      let rest = to_come s.args.c c.before.after-row.result in
       text-on s.args.c s.args.lead l.loop.tuple t.0.0 t.1 (in_row c.row_at.result) rest (c.before.after-row.ensures.1 ∙ ap (λ r. r ++ rest) (sym c.row_at.ensures.1))
 
 add-row-requires : tie.Need-add-row-requires invariant-loop decreases-loop
 add-row-requires c κs =
     let r = c.before in
-    (r.row_at.ensures.0, counts-first (l r).loop.invariant.0 (row r) (behind r) (more r) (s r).requires.2)
+    (r.row_at.ensures.0, counts_first (l r).loop.invariant.0 (row r) (behind r) (more r) (s r).requires.2)
 
 loop-less : tie.Need-loop-smaller invariant-loop decreases-loop
 loop-less c =
     let r = c.before.before.before.before in
     let q = (s r).args.c in
     let t = r.before.before.before.tuple.given in
-    omega (arith, ap (λ z. length (toCome q z)) t.1, ap length r.before.after-row.ensures.1, length-append (rowClauses q t.0.0) (toCome q r.before.after-row.result), row-some q t.0.0)
+    omega (arith, ap (λ z. length (to_come q z)) t.1, ap length r.before.after-row.ensures.1, length-append (row_clauses q t.0.0) (to_come q r.before.after-row.result), row_some q t.0.0)
 
 loop-again : tie.Need-loop-preserved invariant-loop decreases-loop
 loop-again c =

@@ -11,7 +11,7 @@ use mir.Val.{to_z, of_z}
 use mir.Facts.{to_z-of_z}
 use Rattle.definitions.specs.Dimacs.{entry}
 use Rattle.text.specs.Entries.{entries, entries-more, entries_none}
-use Rattle.write_text.specs.Adds.{Adding, begin, counts-first, on, ended}
+use Rattle.write_text.specs.Adds.{Adding, begin, counts_first, on, ended}
 use Rattle.write_text.proofs.entries.add_entries.Statement.{statement}
 use Rattle.write_text.proofs.entries.add_entries.Tie as tie
 
@@ -23,9 +23,9 @@ abbrev decreases-loop : tie.decreases-loop
 decreases-loop list at out₀ i₀ place₀ out i place = length list - i
 
 -- the number at i comes next
-next-is : (c : tie.After-add-entry-arg invariant-loop decreases-loop) → let i = c.before.before.loop.i in let list = c.before.before.before.before.args.list.now in
+next_is : (c : tie.After-add-entry-arg invariant-loop decreases-loop) → let i = c.before.before.loop.i in let list = c.before.before.before.before.args.list.now in
     entries (drop i list) ≡ entry (to_z w32 (of_z w32 (get_or list i (pos 0)))) ++ entries (drop (i + 1) list)
-next-is c =
+next_is c =
     let i = c.before.before.loop.i in
     let list = c.before.before.before.before.args.list.now in
     rw (to_z-of_z {z = get_or list i (pos 0)} (record { sfits = c.add-entry-arg.given })) (entries-more list i (pos 0) c.before.loop-test.true)
@@ -47,7 +47,7 @@ add-entry-requires : tie.Need-add-entry-requires invariant-loop decreases-loop
 add-entry-requires c κs =
     let s = c.before.before.before.before.before in
     let l = c.before.before.before.loop in
-    counts-first l.invariant.0 (entry (to_z w32 (of_z w32 (get_or s.args.list.now l.i (pos 0))))) (entries (drop (l.i + 1) s.args.list.now)) (next-is c.before) s.requires
+    counts_first l.invariant.0 (entry (to_z w32 (of_z w32 (get_or s.args.list.now l.i (pos 0))))) (entries (drop (l.i + 1) s.args.list.now)) (next_is c.before) s.requires
 
 add-i : tie.Need-overflow-add-i invariant-loop decreases-loop
 add-i c = search rules
@@ -57,7 +57,7 @@ loop-less c = omega arith
 
 loop-again : tie.Need-loop-preserved invariant-loop decreases-loop
 loop-again c =
-    (on c.before.before.before.before.before.before.loop.invariant.0 _ _ (next-is c.before.before.before.before) c.before.before.add-entry.ensures, omega (arith, c.before.before.before.before.before.loop-test.true))
+    (on c.before.before.before.before.before.before.loop.invariant.0 _ _ (next_is c.before.before.before.before) c.before.before.add-entry.ensures, omega (arith, c.before.before.before.before.before.loop-test.true))
 
 same_length : tie.Need-same-length invariant-loop decreases-loop
 same_length c = c.before.loop.invariant.0.added.long

@@ -4,7 +4,7 @@ use native.Mathlib.Omega.{arith}
 use mir.Facts.{to_z-of_z}
 use Rattle.laws.specs.Whole.{whole, back}
 use Rattle.laws.specs.Decimals.{digits-length}
-use Rattle.write_text.specs.Lengths.{length_above, length-below, length-zero}
+use Rattle.write_text.specs.Lengths.{length_above, length-below, length_zero}
 use borrow.Author.Rules.{rules}
 use Rattle.write_text.proofs.entries.entry_length.Statement.{statement}
 use Rattle.write_text.proofs.entries.entry_length.Tie as tie
@@ -45,7 +45,7 @@ returns-3 : tie.Need-returns-3
 returns-3 c =
     let s = c.before.before in
     let f = s.ranges.number in
-    sym (length-zero s.args.number (omega (whole, back f)) (omega (whole, back f)))
+    sym (length_zero s.args.number (omega (whole, back f)) (omega (whole, back f)))
 
 pub entry-length-spec : {M : Type 1} → statement M
 entry-length-spec =

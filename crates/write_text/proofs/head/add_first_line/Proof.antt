@@ -3,7 +3,7 @@ use mathlib.Core.Path.{◌≡◌, ap}
 use native.Mathlib.Omega.{arith}
 use lib.ListN.{length, take}
 use Rattle.definitions.specs.Dimacs.{ascii}
-use Rattle.text.specs.Puts.{put-text}
+use Rattle.text.specs.Puts.{put_text}
 use Rattle.text.specs.Lines.{line, line-length}
 use Rattle.write_text.specs.Adds.{retold}
 use borrow.Author.Rules.{rules}
@@ -12,7 +12,7 @@ use Rattle.write_text.proofs.head.add_first_line.Tie as tie
 
 -- the line stands in the local bytes
 line-put : (h : tie.After-put-text-line) → let a = h.before.before.before.before.args in take h.put-text-line.result h.put-text-line.new.1.1.1.0 ≡ line (ascii "p cnf ") a.n a.m
-line-put h = put-text (line (ascii "p cnf ") h.before.before.before.before.args.n h.before.before.before.before.args.m) _ h.put-text-line.result _ h.put-text-line.ensures
+line-put h = put_text (line (ascii "p cnf ") h.before.before.before.before.args.n h.before.before.before.before.args.m) _ h.put-text-line.result _ h.put-text-line.ensures
 
 slice-aggregate-put-text-line : tie.Need-slice-aggregate-put-text-line
 slice-aggregate-put-text-line c = search rules

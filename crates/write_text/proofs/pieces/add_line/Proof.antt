@@ -2,9 +2,9 @@
 use mathlib.Core.Path.{◌≡◌, ap}
 use native.Mathlib.Omega.{arith}
 use lib.ListN.{length, take}
-use Rattle.laws.specs.Again.{literalsAt}
+use Rattle.laws.specs.Again.{literals_at}
 use Rattle.text.specs.Entries.{entries}
-use Rattle.writing.specs.Lines.{lineNumbers}
+use Rattle.writing.specs.Lines.{line_numbers}
 use Rattle.write_text.specs.Adds.{retold}
 use borrow.Author.Rules.{rules}
 use Rattle.write_text.proofs.Parts.{taken}
@@ -13,10 +13,10 @@ use Rattle.write_text.proofs.pieces.add_line.Tie as tie
 
 -- the line stands in the local list
 line-put : (h : tie.After-put-line) → let a = h.before.before.before.before.args in
-    take h.put-line.result h.put-line.new.1.1.1.1.0 ≡ lineNumbers a.selector (literalsAt a.rules.now a.n a.place).value
+    take h.put-line.result h.put-line.new.1.1.1.1.0 ≡ line_numbers a.selector (literals_at a.rules.now a.n a.place).value
 line-put h =
     let a = h.before.before.before.before.args in
-    taken (lineNumbers a.selector (literalsAt a.rules.now a.n a.place).value) _ _ h.put-line.result h.put-line.ensures.0 h.put-line.ensures.1
+    taken (line_numbers a.selector (literals_at a.rules.now a.n a.place).value) _ _ h.put-line.result h.put-line.ensures.0 h.put-line.ensures.1
 
 slice-aggregate-put-line : tie.Need-slice-aggregate-put-line
 slice-aggregate-put-line c = search rules

@@ -5,33 +5,33 @@ use mathlib.Core.List.{List, ◌++◌}
 use lib.IntN.{ℤ}
 use Rattle.definitions.specs.Tools.{All}
 use Rattle.definitions.specs.Board.{Board}
-use Rattle.laws.specs.Boards.{boardOf, opens-admitted}
+use Rattle.laws.specs.Boards.{board_of, opens_admitted}
 use Rattle.laws.specs.Mentions as mentions
-use Rattle.laws.specs.Mentions.{pieces-sound}
-use Rattle.laws.specs.Pieces.{piecesFrom}
+use Rattle.laws.specs.Mentions.{pieces_sound}
+use Rattle.laws.specs.Pieces.{pieces_from}
 use Rattle.laws.specs.Reread.{context_of}
 use Rattle.rules.specs.declared.Cursor.{Cursor}
 use Rattle.rules.specs.declared.Piece.{Piece}
-use Rattle.rules.specs.Cursors.{saidPiece, Sound, comingAt, todo, Meets, meets, ends}
+use Rattle.rules.specs.Cursors.{said_piece, Sound, coming_at, todo, Meets, meets, ends}
 use Rattle.rules.specs.Known.{starts, all-coming}
 use Rattle.text.specs.Entries.{entries}
-use Rattle.compile.specs.Lists.{pieceNumbers, piecesNumbers, pieces_end}
-use Rattle.compile.proofs.Passes.{numbers-met}
-use Rattle.write_text.specs.Adds.{Adding, begin, counts-first, on, ended}
-use Rattle.write_text.proofs.Parts.{entries-append, entries-empty, sound-met}
+use Rattle.compile.specs.Lists.{piece_numbers, pieces_numbers, pieces_end}
+use Rattle.compile.proofs.Passes.{numbers_met}
+use Rattle.write_text.specs.Adds.{Adding, begin, counts_first, on, ended}
+use Rattle.write_text.proofs.Parts.{entries-append, entries-empty, sound_met}
 use Rattle.write_text.proofs.pieces.add_pieces.Statement.{statement}
 use Rattle.write_text.proofs.pieces.add_pieces.Tie as tie
 
 abbrev invariant-loop : tie.invariant-loop
 invariant-loop bytes firsts rules clauses selectors at out₀ to₀ cursor₀ out to cursor =
-    Sound (context_of (boardOf bytes)) rules cursor × Adding (entries (piecesNumbers (boardOf bytes) (piecesFrom 0 (boardOf bytes).clauses))) (entries (piecesNumbers (boardOf bytes) (comingAt rules cursor))) at out₀ to out × All (mentions.Sound (boardOf bytes)) (comingAt rules cursor)
+    Sound (context_of (board_of bytes)) rules cursor × Adding (entries (pieces_numbers (board_of bytes) (pieces_from 0 (board_of bytes).clauses))) (entries (pieces_numbers (board_of bytes) (coming_at rules cursor))) at out₀ to out × All (mentions.Sound (board_of bytes)) (coming_at rules cursor)
 
 abbrev decreases-loop : tie.decreases-loop
 decreases-loop bytes firsts rules clauses selectors at out₀ to₀ cursor₀ out to cursor = todo cursor
 
 module _ (s : tie.Start invariant-loop decreases-loop) where
   abbrev B : Board
-  B = boardOf s.args.bytes.now
+  B = board_of s.args.bytes.now
 
 -- a piece was met: its text, and what is coming behind it
 module _ (p : tie.After-piece invariant-loop decreases-loop) where
@@ -51,16 +51,16 @@ module _ (p : tie.After-piece invariant-loop decreases-loop) where
   met = meets _ _ _ (p.before.before.next-piece.ensures _ p.before.before.before.loop.inv.0) p.piece.given.1
 
   abbrev here : List ℤ
-  here = pieceNumbers (B s) (saidPiece s.args.rules.now piece)
+  here = piece_numbers (B s) (said_piece s.args.rules.now piece)
 
   abbrev later : List ℤ
-  later = piecesNumbers (B s) (comingAt s.args.rules.now next)
+  later = pieces_numbers (B s) (coming_at s.args.rules.now next)
 
-  text-next : entries (piecesNumbers (B s) (comingAt s.args.rules.now cursor)) ≡ entries here ++ entries later
-  text-next = ap entries (numbers-met (B s) met) ∙ entries-append here later
+  text-next : entries (pieces_numbers (B s) (coming_at s.args.rules.now cursor)) ≡ entries here ++ entries later
+  text-next = ap entries (numbers_met (B s) met) ∙ entries-append here later
 
-  sound : mentions.Sound (B s) (saidPiece s.args.rules.now piece) × All (mentions.Sound (B s)) (comingAt s.args.rules.now next)
-  sound = sound-met (B s) met p.before.before.before.loop.inv.2
+  sound : mentions.Sound (B s) (said_piece s.args.rules.now piece) × All (mentions.Sound (B s)) (coming_at s.args.rules.now next)
+  sound = sound_met (B s) met p.before.before.before.loop.inv.2
 
 start-requires : tie.Need-start-requires invariant-loop decreases-loop
 start-requires c κs = search rules
@@ -70,7 +70,7 @@ loop-holds c =
     let s = c.before.before.before.before.before in
     let k = s.requires.0 in
     let all = all-coming k s.requires.2 in
-    rw c.start.ensures (starts k s.requires.2, begin _ _ (ap (λ ps. entries (piecesNumbers (B s) ps)) all), subst (All (mentions.Sound (B s))) (sym all) (pieces-sound (B s) (opens-admitted _ k.opens)))
+    rw c.start.ensures (starts k s.requires.2, begin _ _ (ap (λ ps. entries (pieces_numbers (B s) ps)) all), subst (All (mentions.Sound (B s))) (sym all) (pieces_sound (B s) (opens_admitted _ k.opens)))
 
 next-piece-requires : tie.Need-next-piece-requires invariant-loop decreases-loop
 next-piece-requires c κs = (_, c.loop.invariant.0)
@@ -88,13 +88,13 @@ returns : tie.Need-returns invariant-loop decreases-loop
 returns c =
     let s = c.before.before.before.before.before.before.before.before.before in
     let here = c.before.before.before.loop in
-    ended here.invariant.1 (ap entries (ap (piecesNumbers (B s)) (ends _ _ _ (c.before.before.next-piece.ensures _ here.invariant.0) c.enum_told.given.1) ∙ pieces_end (B s)) ∙ entries-empty)
+    ended here.invariant.1 (ap entries (ap (pieces_numbers (B s)) (ends _ _ _ (c.before.before.next-piece.ensures _ here.invariant.0) c.enum_told.given.1) ∙ pieces_end (B s)) ∙ entries-empty)
 
 add-piece-requires : tie.Need-add-piece-requires invariant-loop decreases-loop
 add-piece-requires c κs =
     let p = c.before.before in
     let q = (s p).requires in
-    (q.0, q.1, q.3, (met p).held, (met p).few, (sound p).0, counts-first p.before.before.before.loop.invariant.1 (entries (here p)) (entries (later p)) (text-next p) q.4)
+    (q.0, q.1, q.3, (met p).held, (met p).few, (sound p).0, counts_first p.before.before.before.loop.invariant.1 (entries (here p)) (entries (later p)) (text-next p) q.4)
 
 loop-less : tie.Need-loop-smaller invariant-loop decreases-loop
 loop-less c = (met c.before.before.before.before.before).onward.less

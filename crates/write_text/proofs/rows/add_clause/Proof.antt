@@ -7,7 +7,7 @@ use mir.Val.{to_z, of_z}
 use mir.Facts.{to_z-of_z}
 use Rattle.text.specs.Entries.{entries}
 use Rattle.writing.specs.Numbers.{clause, stays}
-use Rattle.write_text.specs.Adds.{retold, ◌then◌, first-counts, then-counts}
+use Rattle.write_text.specs.Adds.{retold, ◌then◌, first_counts, then_counts}
 use Rattle.write_text.proofs.Parts.{fixed-text}
 use Rattle.write_text.proofs.rows.add_clause.Statement.{statement}
 use Rattle.write_text.proofs.rows.add_clause.Tie as tie
@@ -24,13 +24,13 @@ module _ (s : tie.Start) where
   parts = rw (to_z-of_z s.fits.y, to_z-of_z s.fits.z) (fixed-text (stays s.args.lead s.args.front) (s.args.y ∷ s.args.z ∷ []))
 
 add-fixed-requires : tie.Need-add-fixed-requires
-add-fixed-requires c κs = let s = c.before.before in first-counts s.args.at s.requires (first s) (second s) (parts s)
+add-fixed-requires c κs = let s = c.before.before in first_counts s.args.at s.requires (first s) (second s) (parts s)
 
 add-pair-requires : tie.Need-add-pair-requires
 add-pair-requires c κs =
     let a = c.before.before.before in
     let s = a.before.before.before in
-    then-counts s.args.at s.requires (first s) (second s) (parts s) a.add-fixed.ensures
+    then_counts s.args.at s.requires (first s) (second s) (parts s) a.add-fixed.ensures
 
 same_length : tie.Need-same-length
 same_length c = c.before.before.add-pair.ensures.long ∙ c.before.before.before.before.before.before.add-fixed.ensures.long

@@ -3,9 +3,9 @@ use mathlib.Core.Path.{◌≡◌, sym, ◌∙◌}
 use mathlib.Core.List.{List, ◌++◌}
 use Prim.Native.Nat.{ℕ}
 use Rattle.text.specs.Entries.{entries}
-use Rattle.walk.specs.Rows.{frontOf}
+use Rattle.walk.specs.Rows.{front_of}
 use Rattle.writing.specs.Numbers.{stays}
-use Rattle.write_text.specs.Adds.{retold, ◌then◌, first-counts, then-counts}
+use Rattle.write_text.specs.Adds.{retold, ◌then◌, first_counts, then_counts}
 use Rattle.write_text.proofs.Parts.{entries-append}
 use Rattle.write_text.proofs.rows.add_fixed.Statement.{statement}
 use Rattle.write_text.proofs.rows.add_fixed.Tie as tie
@@ -13,22 +13,22 @@ use Rattle.write_text.proofs.rows.add_fixed.Tie as tie
 -- the text in its two parts
 module _ (s : tie.Start) where
   abbrev first : List ℕ
-  first = entries (frontOf s.args.lead)
+  first = entries (front_of s.args.lead)
 
   abbrev second : List ℕ
-  second = entries (frontOf s.args.front)
+  second = entries (front_of s.args.front)
 
   parts : entries (stays s.args.lead s.args.front) ≡ first ++ second
-  parts = entries-append (frontOf s.args.lead) (frontOf s.args.front)
+  parts = entries-append (front_of s.args.lead) (front_of s.args.front)
 
 add-front-requires : tie.Need-add-front-requires
-add-front-requires c κs = let s = c.before.before in first-counts s.args.at s.requires (first s) (second s) (parts s)
+add-front-requires c κs = let s = c.before.before in first_counts s.args.at s.requires (first s) (second s) (parts s)
 
 add-front-requires-2 : tie.Need-add-front-requires-2
 add-front-requires-2 c κs =
     let a = c.before.before.before in
     let s = a.before.before.before in
-    then-counts s.args.at s.requires (first s) (second s) (parts s) a.add-front.ensures
+    then_counts s.args.at s.requires (first s) (second s) (parts s) a.add-front.ensures
 
 same_length : tie.Need-same-length
 same_length c = c.before.before.add-front2.ensures.long ∙ c.before.before.before.before.before.before.add-front.ensures.long

@@ -6,7 +6,7 @@ use lib.ListN.{length}
 use mir.Facts.{to_z-of_z}
 use Rattle.definitions.specs.Dimacs.{entry}
 use Rattle.text.specs.Entries.{entries}
-use Rattle.walk.specs.Rows.{frontOf}
+use Rattle.walk.specs.Rows.{front_of}
 use Rattle.write_text.specs.Adds.{Counts, nothing, retold}
 use Rattle.write_text.proofs.Parts.{entries-one, entries-empty}
 use Rattle.write_text.proofs.rows.add_front.Statement.{statement}
@@ -28,7 +28,7 @@ add-entry-requires c κs =
     let p = c.before.before in
     let s = p.before.before.before in
     let l = p.front.given.0.0 in
-    let h = subst (λ f. Counts s.args.at (entries (frontOf f))) p.front.given.1 s.requires in
+    let h = subst (λ f. Counts s.args.at (entries (front_of f))) p.front.given.1 s.requires in
     rw (to_z-of_z (record { sfits = c.before.known-told.given.0.1 })) (omega (arith, ap length (entries-one l), h))
 
 same_length : tie.Need-same-length

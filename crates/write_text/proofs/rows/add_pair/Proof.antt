@@ -9,7 +9,7 @@ use mir.Facts.{to_z-of_z}
 use Rattle.definitions.specs.Dimacs.{entry}
 use Rattle.text.specs.Entries.{entries}
 use Rattle.writing.specs.Numbers.{clause}
-use Rattle.write_text.specs.Adds.{Counts, retold, ◌then◌, first-counts, then-counts}
+use Rattle.write_text.specs.Adds.{Counts, retold, ◌then◌, first_counts, then_counts}
 use Rattle.write_text.proofs.Parts.{pair-text}
 use Rattle.write_text.proofs.rows.add_pair.Statement.{statement}
 use Rattle.write_text.proofs.rows.add_pair.Tie as tie
@@ -27,22 +27,22 @@ module _ (s : tie.Start) where
 
 -- behind the first
 behind : (c : tie.After-add-entry) → let s = c.before.before.before in Counts c.add-entry.result (second s ++ entry (pos 0))
-behind c = let s = c.before.before.before in then-counts s.args.at s.requires (first s) (second s ++ entry (pos 0)) (parts s) c.add-entry.ensures
+behind c = let s = c.before.before.before in then_counts s.args.at s.requires (first s) (second s ++ entry (pos 0)) (parts s) c.add-entry.ensures
 
 add-entry-requires : tie.Need-add-entry-requires
-add-entry-requires c κs = let s = c.before.before in first-counts s.args.at s.requires (first s) (second s ++ entry (pos 0)) (parts s)
+add-entry-requires c κs = let s = c.before.before in first_counts s.args.at s.requires (first s) (second s ++ entry (pos 0)) (parts s)
 
 add-entry-requires-2 : tie.Need-add-entry-requires-2
 add-entry-requires-2 c κs =
     let a = c.before.before.before in
     let s = a.before.before.before in
-    first-counts _ (behind a) (second s) (entry (pos 0)) refl
+    first_counts _ (behind a) (second s) (entry (pos 0)) refl
 
 add-entry-requires-3 : tie.Need-add-entry-requires-3
 add-entry-requires-3 c κs =
     let a = c.before.before.before.before.before.before.before in
     let s = a.before.before.before in
-    then-counts _ (behind a) (second s) (entry (pos 0)) refl c.before.before.before.add-entry2.ensures
+    then_counts _ (behind a) (second s) (entry (pos 0)) refl c.before.before.before.add-entry2.ensures
 
 same_length : tie.Need-same-length
 same_length c =

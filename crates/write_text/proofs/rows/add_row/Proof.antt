@@ -2,7 +2,7 @@
 use borrow.Author.Rules.{rules}
 use mathlib.Core.Path.{sym, ap, subst}
 use Rattle.text.specs.Entries.{entries}
-use Rattle.walk.specs.Rows.{frontOf, in_row}
+use Rattle.walk.specs.Rows.{front_of, in_row}
 use Rattle.writing.specs.Numbers.{led}
 use Rattle.writing.proofs.Parts.{led-single}
 use Rattle.write_text.specs.Adds.{Counts, retold}
@@ -17,7 +17,7 @@ add-short-requires c κs =
     let r = c.before.before in
     let s = r.before.before.before in
     let h = subst (λ row. Counts s.args.at (entries (led s.args.lead (in_row row)))) r.row.given.1 s.requires.1 in
-    subst (λ l. Counts s.args.at (entries l)) (led-single s.args.lead (frontOf r.row.given.0.0)) h
+    subst (λ l. Counts s.args.at (entries l)) (led-single s.args.lead (front_of r.row.given.0.0)) h
 
 enum-known-row-2 : tie.Need-enum-known-row-2
 enum-known-row-2 c = search rules
@@ -35,7 +35,7 @@ returns : tie.Need-returns
 returns c =
     let r = c.before.before.before.before.before in
     let s = r.before.before.before in
-    rw r.row.given.1 (retold (sym (ap entries (led-single s.args.lead (frontOf r.row.given.0.0)))) c.before.before.add-short.ensures)
+    rw r.row.given.1 (retold (sym (ap entries (led-single s.args.lead (front_of r.row.given.0.0)))) c.before.before.add-short.ensures)
 
 same-length-2 : tie.Need-same-length-2
 same-length-2 c = c.before.before.add-run.ensures.long

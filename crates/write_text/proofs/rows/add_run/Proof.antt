@@ -7,22 +7,22 @@ use lib.ListN.{length, drop}
 use mir.Syntax.{w32}
 use mir.Val.{SFits, to_z, of_z}
 use mir.Facts.{to_z-of_z}
-use Rattle.laws.specs.Whole.{abs-fits}
+use Rattle.laws.specs.Whole.{abs_fits}
 use Rattle.text.specs.Entries.{entries}
 use Rattle.walk.specs.declared.Run.{Run}
-use Rattle.walk.specs.Rows.{inRun, ReadyRun, run-first}
+use Rattle.walk.specs.Rows.{in_run, ReadyRun, run-first}
 use Rattle.writing.specs.Numbers.{clause, stays, led}
-use Rattle.write_text.specs.Adds.{Adding, begin, counts-first, on, ended}
+use Rattle.write_text.specs.Adds.{Adding, begin, counts_first, on, ended}
 use Rattle.write_text.proofs.Parts.{run-text-end, run-text-more}
 use Rattle.write_text.proofs.rows.add_run.Statement.{statement}
 use Rattle.write_text.proofs.rows.add_run.Tie as tie
 
 abbrev invariant-loop : tie.invariant-loop
 invariant-loop lead at out₀ place₀ rest₀ out place rest =
-    Adding (entries (led lead (inRun rest₀))) (entries (led lead (inRun rest))) at out₀ place out × ReadyRun rest
+    Adding (entries (led lead (in_run rest₀))) (entries (led lead (in_run rest))) at out₀ place out × ReadyRun rest
 
 abbrev decreases-loop : tie.decreases-loop
-decreases-loop lead at out₀ place₀ rest₀ out place rest = length (inRun rest)
+decreases-loop lead at out₀ place₀ rest₀ out place rest = length (in_run rest)
 
 loop-holds : tie.Need-loop-init invariant-loop decreases-loop
 loop-holds c = (begin _ _ refl, c.before.requires.0)
@@ -42,18 +42,18 @@ module _ (c : tie.After-z invariant-loop decreases-loop) where
   first = entries (clause (stays s.args.lead run.front ++ (to_z w32 (of_z w32 run.y.literal) ∷ to_z w32 (of_z w32 run.z.literal) ∷ [])))
 
   y-fits : SFits w32 run.y.literal
-  y-fits = abs-fits (omega (arith, l.loop.inv.1.rising.near))
+  y-fits = abs_fits (omega (arith, l.loop.inv.1.rising.near))
 
   z-fits : SFits w32 run.z.literal
-  z-fits = abs-fits (omega (arith, l.loop.inv.1.falling.near))
+  z-fits = abs_fits (omega (arith, l.loop.inv.1.falling.near))
 
-  more : entries (led s.args.lead (inRun run)) ≡ first ++ entries (led s.args.lead (drop 1 (inRun run)))
+  more : entries (led s.args.lead (in_run run)) ≡ first ++ entries (led s.args.lead (drop 1 (in_run run)))
   more = rw (to_z-of_z y-fits, to_z-of_z z-fits) (run-text-more s.args.lead run c.before.before.if1.true)
 
 add-clause-requires : tie.Need-add-clause-requires invariant-loop decreases-loop
 add-clause-requires c κs =
     let b = c.before.before.before in
-    counts-first (l b).loop.invariant.0 (first b) (entries (led (s b).args.lead (drop 1 (inRun (run b))))) (more b) (s b).requires.1
+    counts_first (l b).loop.invariant.0 (first b) (entries (led (s b).args.lead (drop 1 (in_run (run b))))) (more b) (s b).requires.1
 
 onward-requires : tie.Need-onward-requires invariant-loop decreases-loop
 onward-requires c κs = let b = c.before.before.before.before.before.before in ((l b).loop.invariant.1, b.before.before.if1.true)

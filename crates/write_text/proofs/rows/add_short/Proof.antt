@@ -6,7 +6,7 @@ use lib.IntN.{pos}
 use Rattle.definitions.specs.Dimacs.{entry}
 use Rattle.text.specs.Entries.{entries}
 use Rattle.writing.specs.Numbers.{clause, stays}
-use Rattle.write_text.specs.Adds.{retold, ◌then◌, first-counts, then-counts}
+use Rattle.write_text.specs.Adds.{retold, ◌then◌, first_counts, then_counts}
 use Rattle.write_text.proofs.Parts.{clause-text}
 use Rattle.write_text.proofs.rows.add_short.Statement.{statement}
 use Rattle.write_text.proofs.rows.add_short.Tie as tie
@@ -23,13 +23,13 @@ module _ (s : tie.Start) where
   parts = clause-text (stays s.args.lead s.args.front)
 
 add-fixed-requires : tie.Need-add-fixed-requires
-add-fixed-requires c κs = let s = c.before.before in first-counts s.args.at s.requires (first s) (second s) (parts s)
+add-fixed-requires c κs = let s = c.before.before in first_counts s.args.at s.requires (first s) (second s) (parts s)
 
 add-entry-requires : tie.Need-add-entry-requires
 add-entry-requires c κs =
     let a = c.before.before.before in
     let s = a.before.before.before in
-    then-counts s.args.at s.requires (first s) (second s) (parts s) a.add-fixed.ensures
+    then_counts s.args.at s.requires (first s) (second s) (parts s) a.add-fixed.ensures
 
 same_length : tie.Need-same-length
 same_length c = c.before.before.add-entry.ensures.long ∙ c.before.before.before.before.before.before.add-fixed.ensures.long

@@ -4,9 +4,9 @@ use Prim.Native.Nat.{◌+◌, ◌≤◌}
 use native.Mathlib.Omega.{arith}
 use lib.ListN.{length, length-set}
 use Rattle.laws.specs.Written.{rest-length}
-use Rattle.laws.specs.Signs.{minus-fits}
+use Rattle.laws.specs.Signs.{minus_fits}
 use Rattle.writing.specs.Axioms.{axioms-length}
-use Rattle.laws.specs.Filling.{room-before, room, last}
+use Rattle.laws.specs.Filling.{room_before, room, last}
 use Rattle.writing.proofs.Parts.{headed, units}
 use Rattle.writing.proofs.axioms.put_axioms.Statement.{statement}
 use Rattle.writing.proofs.axioms.put_axioms.Tie as tie
@@ -18,7 +18,7 @@ cast-list : tie.Need-overflow-cast-list
 cast-list c = search rules
 
 sub-list : tie.Need-overflow-sub-list
-sub-list c = minus-fits c.args.first (omega (arith, c.requires.1))
+sub-list c = minus_fits c.args.first (omega (arith, c.requires.1))
 
 slice-set-from-list : tie.Need-slice-set-from-list
 slice-set-from-list c =
@@ -59,7 +59,7 @@ put-steps-requires c κs =
 
 add-result : tie.Need-overflow-add-result
 add-result c =
-    let h : 4 + c.before.put-steps.result ≤ length c.before.before.before.args.list.now = omega (arith, c.before.put-steps.ensures.0, room-before (units c.before.before.before.args.first c.before.before.before.args.width c.before.before.before.args.list.now c.before.before.before.requires.1 c.before.before.before.requires.2)) in search rules
+    let h : 4 + c.before.put-steps.result ≤ length c.before.before.before.args.list.now = omega (arith, c.before.put-steps.ensures.0, room_before (units c.before.before.before.args.first c.before.before.before.args.width c.before.before.before.args.list.now c.before.before.before.requires.1 c.before.before.before.requires.2)) in search rules
 
 same_length : tie.Need-same-length
 same_length c =

@@ -6,15 +6,15 @@ use Prim.Native.Nat.{◌+◌, ◌-◌, ◌≤◌}
 use native.Mathlib.Omega.{arith}
 use lib.ListN.{length, length-set}
 use lib.IntN.{pos}
-use Rattle.laws.specs.Signs.{plus-is, minus-fits, minus_is}
-use Rattle.writing.specs.Axioms.{stepsFrom, steps-length, steps-more, steps-none}
-use Rattle.laws.specs.Filling.{Filling, begin, room-before, room, ended, three}
+use Rattle.laws.specs.Signs.{plus_is, minus_fits, minus_is}
+use Rattle.writing.specs.Axioms.{steps_from, steps_length, steps_more, steps_none}
+use Rattle.laws.specs.Filling.{Filling, begin, room_before, room, ended, three}
 use Rattle.writing.proofs.axioms.put_steps.Statement.{statement}
 use Rattle.writing.proofs.axioms.put_steps.Tie as tie
 
 abbrev invariant-loop : tie.invariant-loop
 invariant-loop first steps list₀ number₀ left₀ at₀ list number left at =
-    Filling (stepsFrom first steps) (stepsFrom number left) list₀ list at × (number + left ≡ first + steps)
+    Filling (steps_from first steps) (steps_from number left) list₀ list at × (number + left ≡ first + steps)
 
 abbrev decreases-loop : tie.decreases-loop
 decreases-loop first steps list₀ number₀ left₀ at₀ list number left at = left
@@ -28,15 +28,15 @@ cast-list c =
 
 sub-list : tie.Need-overflow-sub-list invariant-loop decreases-loop
 sub-list c =
-    minus-fits c.before.loop.number (omega (arith, c.before.loop.invariant.1, c.before.before.requires.0))
+    minus_fits c.before.loop.number (omega (arith, c.before.loop.invariant.1, c.before.before.requires.0))
 
 mul-t10 : tie.Need-overflow-mul-t10 invariant-loop decreases-loop
 mul-t10 c =
-    let h : c.before.loop.at + 3 ≤ length c.before.before.args.list.now = omega (arith, room-before c.before.loop.invariant.0, steps-length c.before.loop.number c.before.loop.left) in search rules
+    let h : c.before.loop.at + 3 ≤ length c.before.before.args.list.now = omega (arith, room_before c.before.loop.invariant.0, steps_length c.before.loop.number c.before.loop.left) in search rules
 
 slice-set-from-list : tie.Need-slice-set-from-list invariant-loop decreases-loop
 slice-set-from-list c =
-    omega (arith, room c.before.loop.invariant.0, steps-length c.before.loop.number c.before.loop.left)
+    omega (arith, room c.before.loop.invariant.0, steps_length c.before.loop.number c.before.loop.left)
 
 add-list : tie.Need-overflow-add-list invariant-loop decreases-loop
 add-list c =
@@ -48,31 +48,31 @@ cast-list-2 c =
 
 add-t10 : tie.Need-overflow-add-t10 invariant-loop decreases-loop
 add-t10 c =
-    let h : c.before.loop.at + 3 ≤ length c.before.before.args.list.now = omega (arith, room-before c.before.loop.invariant.0, steps-length c.before.loop.number c.before.loop.left) in search rules
+    let h : c.before.loop.at + 3 ≤ length c.before.before.args.list.now = omega (arith, room_before c.before.loop.invariant.0, steps_length c.before.loop.number c.before.loop.left) in search rules
 
 mul-t13 : tie.Need-overflow-mul-t13 invariant-loop decreases-loop
 mul-t13 c =
-    let h : c.before.loop.at + 3 ≤ length c.before.before.args.list.now = omega (arith, room-before c.before.loop.invariant.0, steps-length c.before.loop.number c.before.loop.left) in search rules
+    let h : c.before.loop.at + 3 ≤ length c.before.before.args.list.now = omega (arith, room_before c.before.loop.invariant.0, steps_length c.before.loop.number c.before.loop.left) in search rules
 
 slice-set-from-list-2 : tie.Need-slice-set-from-list-2 invariant-loop decreases-loop
 slice-set-from-list-2 c =
-    simp length-set (omega (arith, room c.before.loop.invariant.0, steps-length c.before.loop.number c.before.loop.left))
+    simp length-set (omega (arith, room c.before.loop.invariant.0, steps_length c.before.loop.number c.before.loop.left))
 
 add-list-2 : tie.Need-overflow-add-list-2 invariant-loop decreases-loop
 add-list-2 c =
-    let h : c.before.loop.at + 3 ≤ length c.before.before.args.list.now = omega (arith, room-before c.before.loop.invariant.0, steps-length c.before.loop.number c.before.loop.left) in search rules
+    let h : c.before.loop.at + 3 ≤ length c.before.before.args.list.now = omega (arith, room_before c.before.loop.invariant.0, steps_length c.before.loop.number c.before.loop.left) in search rules
 
 mul-list : tie.Need-overflow-mul-list invariant-loop decreases-loop
 mul-list c =
-    let h : c.before.loop.at + 3 ≤ length c.before.before.args.list.now = omega (arith, room-before c.before.loop.invariant.0, steps-length c.before.loop.number c.before.loop.left) in search rules
+    let h : c.before.loop.at + 3 ≤ length c.before.before.args.list.now = omega (arith, room_before c.before.loop.invariant.0, steps_length c.before.loop.number c.before.loop.left) in search rules
 
 slice-set-of-list : tie.Need-slice-set-of-list invariant-loop decreases-loop
 slice-set-of-list c =
-    simp length-set (omega (arith, room c.before.loop.invariant.0, steps-length c.before.loop.number c.before.loop.left))
+    simp length-set (omega (arith, room c.before.loop.invariant.0, steps_length c.before.loop.number c.before.loop.left))
 
 add_at : tie.Need-overflow-add-at invariant-loop decreases-loop
 add_at c =
-    let h : c.before.loop.at + 3 ≤ length c.before.before.args.list.now = omega (arith, room-before c.before.loop.invariant.0, steps-length c.before.loop.number c.before.loop.left) in search rules
+    let h : c.before.loop.at + 3 ≤ length c.before.before.args.list.now = omega (arith, room_before c.before.loop.invariant.0, steps_length c.before.loop.number c.before.loop.left) in search rules
 
 add-number : tie.Need-overflow-add-number invariant-loop decreases-loop
 add-number c =
@@ -89,15 +89,15 @@ loop-again c =
     let l = c.before.loop in
     let i = l.number in
     let e = minus_is i (omega (arith, l.invariant.1, c.before.before.requires.0)) in
-    let f = plus-is (i + 1) (omega (arith, l.invariant.1, c.before.before.requires.0)) in
-    (three l.invariant.0 _ _ (pos 0) _ (steps-more i l.left c.loop-test.true ∙ ap₂ (λ u v. u ∷ v ∷ pos 0 ∷ stepsFrom (i + 1) (l.left - 1)) (sym e) (sym f)), omega (arith, l.invariant.1))
+    let f = plus_is (i + 1) (omega (arith, l.invariant.1, c.before.before.requires.0)) in
+    (three l.invariant.0 _ _ (pos 0) _ (steps_more i l.left c.loop-test.true ∙ ap₂ (λ u v. u ∷ v ∷ pos 0 ∷ steps_from (i + 1) (l.left - 1)) (sym e) (sym f)), omega (arith, l.invariant.1))
 
 same_length : tie.Need-same-length invariant-loop decreases-loop
 same_length c = c.before.loop.invariant.0.long
 
 returns : tie.Need-returns invariant-loop decreases-loop
 returns c =
-    ended c.before.loop.invariant.0 (steps-none _ _ (omega arith))
+    ended c.before.loop.invariant.0 (steps_none _ _ (omega arith))
 
 pub put-steps-spec : {M : Type 1} → statement M
 put-steps-spec =

@@ -6,8 +6,8 @@ use mir.Syntax.{w32}
 use mir.Val.{SFits}
 use mir.Facts.{to_z-of_z}
 use Rattle.laws.specs.Whole.{whole, back}
-use Rattle.walk.specs.Comparisons.{literalsOf, below-least, from-least}
-use Rattle.writing.specs.Numbers.{led, underLead, under_low, under-high}
+use Rattle.walk.specs.Comparisons.{literals_of, below-least, from-least}
+use Rattle.writing.specs.Numbers.{led, under_lead, under_low, under-high}
 use Rattle.writing.proofs.comparisons.put_comparison.Statement.{statement}
 use Rattle.writing.proofs.comparisons.put_comparison.Tie as tie
 
@@ -20,10 +20,10 @@ module _ (c : tie.After-over-least) where
   over-fits = record { sfits = c.over-least.type-inv }
 
 -- below the least sum, and from it on
-low : (c : tie.Then1) → let a = c.before.before.args in underLead a.lead a.c ≡ led a.lead ([] ∷ [])
+low : (c : tie.Then1) → let a = c.before.before.args in under_lead a.lead a.c ≡ led a.lead ([] ∷ [])
 low c = let r = c.before in under_low r.before.args.lead r.before.args.c (below-least r.before.args.c (omega (whole, back (over-fits r), r.over-least.ensures)))
 
-high : (c : tie.Else1) → let a = c.before.before.args in underLead a.lead a.c ≡ led a.lead (literalsOf a.c)
+high : (c : tie.Else1) → let a = c.before.before.args in under_lead a.lead a.c ≡ led a.lead (literals_of a.c)
 high c = let r = c.before in under-high r.before.args.lead r.before.args.c (from-least r.before.args.c (omega (whole, back (over-fits r), r.over-least.ensures)))
 
 put-row-requires : tie.Need-put-row-requires

@@ -8,9 +8,9 @@ use lib.ListN.{length, length-append}
 use lib.IntN.{ℤ}
 use mir.Facts.{to_z-of_z}
 use Rattle.laws.specs.Written.{rest-length}
-use Rattle.laws.specs.Filling.{Filling, begin, room-before, room, room_for, part, ended}
-use Rattle.walk.specs.Comparisons.{Walking, literalsOf, toCome}
-use Rattle.walk.specs.Rows.{in_row, rowClauses, row-some}
+use Rattle.laws.specs.Filling.{Filling, begin, room_before, room, room_for, part, ended}
+use Rattle.walk.specs.Comparisons.{Walking, literals_of, to_come}
+use Rattle.walk.specs.Rows.{in_row, row_clauses, row_some}
 use Rattle.writing.specs.Numbers.{led}
 use Rattle.writing.proofs.Parts.{led-end, led_on}
 use Rattle.writing.proofs.comparisons.put_tuples.Statement.{statement}
@@ -18,10 +18,10 @@ use Rattle.writing.proofs.comparisons.put_tuples.Tie as tie
 
 abbrev invariant-loop : tie.invariant-loop
 invariant-loop c t lead list₀ at₀ tuple₀ list at tuple =
-    Filling (led lead (literalsOf c)) (led lead (toCome c tuple)) list₀ list at × Walking c tuple
+    Filling (led lead (literals_of c)) (led lead (to_come c tuple)) list₀ list at × Walking c tuple
 
 abbrev decreases-loop : tie.decreases-loop
-decreases-loop c t lead list₀ at₀ tuple₀ list at tuple = length (toCome c tuple)
+decreases-loop c t lead list₀ at₀ tuple₀ list at tuple = length (to_come c tuple)
 
 first-over-requires : tie.Need-first-over-requires invariant-loop decreases-loop
 first-over-requires c κs = (c.requires.0, rw (to_z-of_z c.ranges.t) c.requires.1)
@@ -55,19 +55,19 @@ module _ (c : tie.After-row-at invariant-loop decreases-loop) where
   row = led s.args.lead (in_row c.row_at.result)
 
   abbrev behind : List ℤ
-  behind = led s.args.lead (toCome s.args.c c.before.after-row.result)
+  behind = led s.args.lead (to_come s.args.c c.before.after-row.result)
 
-  more : led s.args.lead (toCome s.args.c l.loop.tuple) ≡ row ++ behind
+  more : led s.args.lead (to_come s.args.c l.loop.tuple) ≡ row ++ behind
   more =
       let t = c.before.before.before.tuple.given in
-      let rest = toCome s.args.c c.before.after-row.result in
+      let rest = to_come s.args.c c.before.after-row.result in
       led_on s.args.c s.args.lead l.loop.tuple t.0.0 t.1 (in_row c.row_at.result) rest (c.before.after-row.ensures.1 ∙ ap (λ r. r ++ rest) (sym c.row_at.ensures.1))
 
   fits : l.loop.at + length row ≤ length l.loop.list
   fits = room_for l.loop.inv.0 row behind more
 
 mul-put-row : tie.Need-overflow-mul-put-row invariant-loop decreases-loop
-mul-put-row c = let h : (l c).loop.at ≤ length (s c).args.list.now = omega (arith, room-before (l c).loop.invariant.0) in search rules
+mul-put-row c = let h : (l c).loop.at ≤ length (s c).args.list.now = omega (arith, room_before (l c).loop.invariant.0) in search rules
 
 sub-put-row : tie.Need-overflow-sub-put-row invariant-loop decreases-loop
 sub-put-row c = omega (arith, room (l c).loop.invariant.0)
@@ -94,7 +94,7 @@ loop-less c =
     let r = c.before.before.before in
     let q = (s r).args.c in
     let t = r.before.before.before.tuple.given in
-    omega (arith, ap (λ z. length (toCome q z)) t.1, ap length r.before.after-row.ensures.1, length-append (rowClauses q t.0.0) (toCome q r.before.after-row.result), row-some q t.0.0)
+    omega (arith, ap (λ z. length (to_come q z)) t.1, ap length r.before.after-row.ensures.1, length-append (row_clauses q t.0.0) (to_come q r.before.after-row.result), row_some q t.0.0)
 
 loop-again : tie.Need-loop-preserved invariant-loop decreases-loop
 loop-again c =

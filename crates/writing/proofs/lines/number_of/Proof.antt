@@ -3,8 +3,8 @@ use mathlib.Core.Path.{sym, ap, ◌∙◌}
 use native.Mathlib.Omega.{arith}
 use lib.IntN.{pos}
 use Rattle.laws.specs.Whole.{abs_neg}
-use Rattle.laws.specs.Signs.{plus-is, minus-fits, minus_is}
-use Rattle.writing.specs.Lines.{literalHere}
+use Rattle.laws.specs.Signs.{plus_is, minus_fits, minus_is}
+use Rattle.writing.specs.Lines.{literal_here}
 use borrow.Author.Rules.{rules}
 use Rattle.writing.proofs.lines.number_of.Statement.{statement}
 use Rattle.writing.proofs.lines.number_of.Tie as tie
@@ -25,7 +25,7 @@ cast-result-2 c =
 
 sub-result : tie.Need-overflow-sub-result
 sub-result c =
-    let h = rw c.before.literal2.given.1 at c.before.before.before.requires in minus-fits c.before.literal2.given.0.0 (omega (arith, h, abs_neg (pos c.before.literal2.given.0.0)))
+    let h = rw c.before.literal2.given.1 at c.before.before.before.requires in minus_fits c.before.literal2.given.0.0 (omega (arith, h, abs_neg (pos c.before.literal2.given.0.0)))
 
 enum_told : tie.Need-enum-told
 enum_told c = search rules
@@ -36,15 +36,15 @@ cast-result-3 c =
 
 returns : tie.Need-returns
 returns c =
-    let h = rw c.before.literal.given.1 at c.before.before.before.requires in plus-is _ (omega (arith, h)) ∙ ap (literalHere c.before.before.before.args.selector) (sym c.before.literal.given.1)
+    let h = rw c.before.literal.given.1 at c.before.before.before.requires in plus_is _ (omega (arith, h)) ∙ ap (literal_here c.before.before.before.args.selector) (sym c.before.literal.given.1)
 
 returns-2 : tie.Need-returns-2
 returns-2 c =
-    let h = rw c.before.literal2.given.1 at c.before.before.before.requires in minus_is c.before.literal2.given.0.0 (omega (arith, h, abs_neg (pos c.before.literal2.given.0.0))) ∙ ap (literalHere c.before.before.before.args.selector) (sym c.before.literal2.given.1)
+    let h = rw c.before.literal2.given.1 at c.before.before.before.requires in minus_is c.before.literal2.given.0.0 (omega (arith, h, abs_neg (pos c.before.literal2.given.0.0))) ∙ ap (literal_here c.before.before.before.args.selector) (sym c.before.literal2.given.1)
 
 returns-3 : tie.Need-returns-3
 returns-3 c =
-    let h = rw c.enum_told.given.1 at c.before.before.requires in plus-is _ (omega (arith, h)) ∙ ap (literalHere c.before.before.args.selector) (sym c.enum_told.given.1)
+    let h = rw c.enum_told.given.1 at c.before.before.requires in plus_is _ (omega (arith, h)) ∙ ap (literal_here c.before.before.args.selector) (sym c.enum_told.given.1)
 
 pub number-of-spec : {M : Type 1} → statement M
 number-of-spec =

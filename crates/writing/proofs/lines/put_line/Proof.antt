@@ -7,16 +7,16 @@ use native.Mathlib.Omega.{arith}
 use lib.ListN.{length, length-set}
 use lib.IntN.{pos}
 use mir.Facts.{to_z-of_z}
-use Rattle.laws.specs.Again.{literalsAt}
-use Rattle.laws.specs.Filling.{Filling, begin, room-before, room, ended, one}
-use Rattle.writing.specs.Lines.{literalHere, takes, takes-few, lineNumbers, LineRead}
+use Rattle.laws.specs.Again.{literals_at}
+use Rattle.laws.specs.Filling.{Filling, begin, room_before, room, ended, one}
+use Rattle.writing.specs.Lines.{literal_here, takes, takes_few, line_numbers, LineRead}
 use Rattle.writing.proofs.Literals.{line-last, there, rest_read, line_first, small}
 use Rattle.writing.proofs.lines.put_line.Statement.{statement}
 use Rattle.writing.proofs.lines.put_line.Tie as tie
 
 abbrev invariant-loop : tie.invariant-loop
 invariant-loop rules place n selector list₀ next-place₀ left₀ number₀ at₀ list next_place left number at =
-    Filling (lineNumbers selector (literalsAt rules n place).value) (lineNumbers number (literalsAt rules left next_place).value) list₀ list at × LineRead rules left next_place × (number + left ≤ selector + n)
+    Filling (line_numbers selector (literals_at rules n place).value) (line_numbers number (literals_at rules left next_place).value) list₀ list at × LineRead rules left next_place × (number + left ≤ selector + n)
 
 abbrev decreases-loop : tie.decreases-loop
 decreases-loop rules place n selector list₀ next-place₀ left₀ number₀ at₀ list next_place left number at = left
@@ -26,23 +26,23 @@ module _ (r : tie.After-literal-again invariant-loop decreases-loop) where
   abbrev s : tie.Start invariant-loop decreases-loop
   s = r.before.before.before.before
 
-  line-next : lineNumbers r.before.before.loop.number (literalsAt s.args.rules.now r.before.before.loop.left r.before.before.loop.next_place).value
-      ≡ literalHere r.before.before.loop.number r.literal-again.result.literal ∷ lineNumbers (r.before.before.loop.number + takes r.literal-again.result.literal) (literalsAt s.args.rules.now (r.before.before.loop.left - 1) r.literal-again.result.next).value
+  line-next : line_numbers r.before.before.loop.number (literals_at s.args.rules.now r.before.before.loop.left r.before.before.loop.next_place).value
+      ≡ literal_here r.before.before.loop.number r.literal-again.result.literal ∷ line_numbers (r.before.before.loop.number + takes r.literal-again.result.literal) (literals_at s.args.rules.now (r.before.before.loop.left - 1) r.literal-again.result.next).value
   line-next = line_first r.before.loop-test.taken r.before.before.loop.inv.1 r.literal-again.ensures r.before.before.loop.number
 
   fits : r.before.before.loop.at < length s.args.list.now
-  fits = omega (arith, room-before r.before.before.loop.inv.0, ap length line-next)
+  fits = omega (arith, room_before r.before.before.loop.inv.0, ap length line-next)
 
 -- none is left
 module _ (l : tie.At-loop invariant-loop decreases-loop) where
   abbrev begun : tie.Start invariant-loop decreases-loop
   begun = l.before.before
 
-  line-end : l.loop.left ≤ 0 → lineNumbers l.loop.number (literalsAt begun.args.rules.now l.loop.left l.loop.next_place).value ≡ pos 0 ∷ []
+  line-end : l.loop.left ≤ 0 → line_numbers l.loop.number (literals_at begun.args.rules.now l.loop.left l.loop.next_place).value ≡ pos 0 ∷ []
   line-end h = line-last begun.args.rules.now l.loop.left l.loop.next_place l.loop.number (omega arith)
 
   end_fits : l.loop.left ≤ 0 → l.loop.at < length begun.args.list.now
-  end_fits h = omega (arith, room-before l.loop.inv.0, ap length (line-end h))
+  end_fits h = omega (arith, room_before l.loop.inv.0, ap length (line-end h))
 
 loop-holds : tie.Need-loop-init invariant-loop decreases-loop
 loop-holds c = let p = c.before.requires in (begin _ _ _ refl p.2, p.0, omega arith)
@@ -67,7 +67,7 @@ selectors-of-requires c κs = search rules
 add-number : tie.Need-overflow-add-number invariant-loop decreases-loop
 add-number c =
     let r = c.before.before in
-    omega (arith, r.before.before.loop.invariant.2, (s r).requires.1, r.before.loop-test.true, c.selectors-of.ensures, takes-few r.literal-again.result.literal)
+    omega (arith, r.before.before.loop.invariant.2, (s r).requires.1, r.before.loop-test.true, c.selectors-of.ensures, takes_few r.literal-again.result.literal)
 
 sub-left : tie.Need-overflow-sub-left invariant-loop decreases-loop
 sub-left c = search rules
@@ -84,8 +84,8 @@ loop-again c =
     let l = r.before.before.loop in
     let x = r.literal-again.result in
     let v = to_z-of_z (record { sfits = c.before.number_of_lem.type-inv }) ∙ c.before.number_of_lem.ensures in
-    let rest = ap₂ (λ z k. z ∷ lineNumbers (l.number + k) (literalsAt (s r).args.rules.now (l.left - 1) x.next).value) (sym v) (sym c.selectors-of.ensures) in
-    (one l.invariant.0 _ _ (line-next r ∙ rest), rest_read r.before.loop-test.true l.invariant.1 r.literal-again.ensures, omega (arith, l.invariant.2, r.before.loop-test.true, c.selectors-of.ensures, takes-few x.literal))
+    let rest = ap₂ (λ z k. z ∷ line_numbers (l.number + k) (literals_at (s r).args.rules.now (l.left - 1) x.next).value) (sym v) (sym c.selectors-of.ensures) in
+    (one l.invariant.0 _ _ (line-next r ∙ rest), rest_read r.before.loop-test.true l.invariant.1 r.literal-again.ensures, omega (arith, l.invariant.2, r.before.loop-test.true, c.selectors-of.ensures, takes_few x.literal))
 
 mul-list : tie.Need-overflow-mul-list invariant-loop decreases-loop
 mul-list c = let h = end_fits c.before c.loop-test.false in search rules

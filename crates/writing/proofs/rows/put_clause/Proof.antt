@@ -8,7 +8,7 @@ use lib.ListN.{length, length-append}
 use lib.IntN.{ℤ}
 use mir.Facts.{to_z-of_z}
 use Rattle.laws.specs.Written.{written, rest, rest-length}
-use Rattle.laws.specs.Filling.{Filling, room-before, room, last}
+use Rattle.laws.specs.Filling.{Filling, room_before, room, last}
 use Rattle.writing.specs.Numbers.{clause, stays, clause-length}
 use Rattle.writing.proofs.Parts.{staying}
 use Rattle.writing.proofs.rows.put_clause.Statement.{statement}
@@ -36,7 +36,7 @@ module _ (c : tie.After-put-fixed) where
   begins = staying (fixed s) s.args.list.now out c.put-fixed.result c.put-fixed.ensures.0 c.put-fixed.ensures.1 (pair s) s.pre
 
 mul-put-pair : tie.Need-overflow-mul-put-pair
-mul-put-pair c = let k : c.before.put-fixed.result ≤ length (s c.before).args.list.now = omega (arith, room-before (begins c.before)) in search rules
+mul-put-pair c = let k : c.before.put-fixed.result ≤ length (s c.before).args.list.now = omega (arith, room_before (begins c.before)) in search rules
 
 sub-put-pair : tie.Need-overflow-sub-put-pair
 sub-put-pair c = omega (arith, room (begins c.before))
@@ -59,7 +59,7 @@ module _ (c : tie.After-put-pair) where
   ends = let f = (s r).fits.y in let g = (s r).fits.z in simp to_z-of_z at c.put-pair.ensures
 
 add-result : tie.Need-overflow-add-result
-add-result c = let p = c.before in let k : (r p).put-fixed.result + p.put-pair.result ≤ length (s (r p)).args.list.now = omega (arith, (ends p).0, room-before (begins (r p))) in search rules
+add-result c = let p = c.before in let k : (r p).put-fixed.result + p.put-pair.result ≤ length (s (r p)).args.list.now = omega (arith, (ends p).0, room_before (begins (r p))) in search rules
 
 same_length : tie.Need-same-length
 same_length c = let p = c.before in (last (begins (r p)) _ _ (ends p).0 (ends p).1).2

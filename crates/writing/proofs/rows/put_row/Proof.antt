@@ -3,7 +3,7 @@ use borrow.Author.Rules.{rules}
 use mathlib.Core.Path.{ap}
 use native.Mathlib.Omega.{arith}
 use lib.ListN.{length}
-use Rattle.walk.specs.Rows.{frontOf, ReadyRun}
+use Rattle.walk.specs.Rows.{front_of, ReadyRun}
 use Rattle.writing.proofs.Parts.{led-single}
 use Rattle.writing.proofs.rows.put_row.Statement.{statement}
 use Rattle.writing.proofs.rows.put_row.Tie as tie
@@ -15,7 +15,7 @@ put-short-requires : tie.Need-put-short-requires
 put-short-requires c κs =
     let s = c.before.before.before.before in
     let row = c.before.before.row.given in
-    omega (arith, ap length (led-single s.args.lead (frontOf row.0.0)), rw row.1 at s.requires.1)
+    omega (arith, ap length (led-single s.args.lead (front_of row.0.0)), rw row.1 at s.requires.1)
 
 enum-known-row-2 : tie.Need-enum-known-row-2
 enum-known-row-2 c = search rules
@@ -47,7 +47,7 @@ returns : tie.Need-returns
 returns c =
     let r = c.before.before.before.before in
     let s = r.before.before in
-    rw (r.row.given.1, led-single s.args.lead (frontOf r.row.given.0.0)) c.before.put-short.ensures
+    rw (r.row.given.1, led-single s.args.lead (front_of r.row.given.0.0)) c.before.put-short.ensures
 
 same-length-2 : tie.Need-same-length-2
 same-length-2 c = search rules

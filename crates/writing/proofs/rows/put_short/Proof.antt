@@ -6,7 +6,7 @@ use Prim.Native.Nat.{◌<◌}
 use native.Mathlib.Omega.{arith}
 use lib.ListN.{length}
 use lib.IntN.{ℤ, pos}
-use Rattle.laws.specs.Filling.{Filling, room-before, room, one, ended}
+use Rattle.laws.specs.Filling.{Filling, room_before, room, one, ended}
 use Rattle.writing.specs.Numbers.{clause, stays, clause-length}
 use Rattle.writing.proofs.Parts.{alone}
 use Rattle.writing.proofs.rows.put_short.Statement.{statement}
@@ -27,7 +27,7 @@ module _ (c : tie.After-put-fixed) where
   begins = alone fixed s.args.list.now c.put-fixed.new.1.1.0 c.put-fixed.result c.put-fixed.ensures.0 c.put-fixed.ensures.1 s.pre
 
   inside : c.put-fixed.result < length s.args.list.now
-  inside = omega (arith, room-before begins)
+  inside = omega (arith, room_before begins)
 
 mul-list : tie.Need-overflow-mul-list
 mul-list c = let k = inside c.before in search rules

@@ -9,11 +9,11 @@ use lib.IntN.{ℤ}
 use mir.Syntax.{w32}
 use mir.Val.{SFits}
 use mir.Facts.{to_z-of_z}
-use Rattle.laws.specs.Whole.{abs-fits}
+use Rattle.laws.specs.Whole.{abs_fits}
 use Rattle.laws.specs.Written.{written, rest, rest-length}
-use Rattle.laws.specs.Filling.{Filling, begin, room-before, room, room_for, part, ended}
+use Rattle.laws.specs.Filling.{Filling, begin, room_before, room, room_for, part, ended}
 use Rattle.walk.specs.declared.Run.{Run}
-use Rattle.walk.specs.Rows.{inRun, ReadyRun, run-first}
+use Rattle.walk.specs.Rows.{in_run, ReadyRun, run-first}
 use Rattle.writing.specs.Numbers.{clause, stays, led}
 use Rattle.writing.proofs.Parts.{run_end, run_more}
 use Rattle.writing.proofs.rows.put_stepped.Statement.{statement}
@@ -21,10 +21,10 @@ use Rattle.writing.proofs.rows.put_stepped.Tie as tie
 
 abbrev invariant-loop : tie.invariant-loop
 invariant-loop lead list₀ at₀ rest₀ list at rest =
-    Filling (led lead (inRun rest₀)) (led lead (inRun rest)) list₀ list at × ReadyRun rest
+    Filling (led lead (in_run rest₀)) (led lead (in_run rest)) list₀ list at × ReadyRun rest
 
 abbrev decreases-loop : tie.decreases-loop
-decreases-loop lead list₀ at₀ rest₀ list at rest = length (inRun rest)
+decreases-loop lead list₀ at₀ rest₀ list at rest = length (in_run rest)
 
 loop-holds : tie.Need-loop-init invariant-loop decreases-loop
 loop-holds c = (begin _ _ _ refl c.requires.1, c.requires.0)
@@ -40,20 +40,20 @@ module _ (c : tie.After-z invariant-loop decreases-loop) where
   abbrev first : List ℤ
   first = clause (stays l.before.args.lead run.front ++ (run.y.literal ∷ run.z.literal ∷ []))
 
-  more : led l.before.args.lead (inRun run) ≡ first ++ led l.before.args.lead (drop 1 (inRun run))
+  more : led l.before.args.lead (in_run run) ≡ first ++ led l.before.args.lead (drop 1 (in_run run))
   more = run_more l.before.args.lead run c.before.before.if1.true
 
   fits : l.loop.at + length first ≤ length l.loop.list
-  fits = room_for l.loop.inv.0 first (led l.before.args.lead (drop 1 (inRun run))) more
+  fits = room_for l.loop.inv.0 first (led l.before.args.lead (drop 1 (in_run run))) more
 
   y-fits : SFits w32 run.y.literal
-  y-fits = abs-fits (omega (arith, l.loop.inv.1.rising.near))
+  y-fits = abs_fits (omega (arith, l.loop.inv.1.rising.near))
 
   z-fits : SFits w32 run.z.literal
-  z-fits = abs-fits (omega (arith, l.loop.inv.1.falling.near))
+  z-fits = abs_fits (omega (arith, l.loop.inv.1.falling.near))
 
 mul-put-clause : tie.Need-overflow-mul-put-clause invariant-loop decreases-loop
-mul-put-clause c = let h : (l c).loop.at ≤ length (l c).before.args.list.now = omega (arith, room-before (l c).loop.invariant.0) in search rules
+mul-put-clause c = let h : (l c).loop.at ≤ length (l c).before.args.list.now = omega (arith, room_before (l c).loop.invariant.0) in search rules
 
 sub-put-clause : tie.Need-overflow-sub-put-clause invariant-loop decreases-loop
 sub-put-clause c = omega (arith, room (l c).loop.invariant.0)

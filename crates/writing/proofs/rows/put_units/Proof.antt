@@ -9,24 +9,24 @@ use lib.IntN.{ℤ, pos, ◌+ℤ◌, ◌-ℤ◌}
 use mir.Syntax.{w32}
 use mir.Val.{SFits, to_z, of_z}
 use mir.Facts.{to_z-of_z}
-use Rattle.laws.specs.Whole.{abs-fits, abs-add, abs-sub}
+use Rattle.laws.specs.Whole.{abs_fits, abs_add, abs_sub}
 use Rattle.laws.specs.Written.{written, rest-length}
-use Rattle.laws.specs.Filling.{Filling, begin, room-before, room, room_for, part, ended}
+use Rattle.laws.specs.Filling.{Filling, begin, room_before, room, room_for, part, ended}
 use Rattle.walk.specs.declared.Front.{Front}
 use Rattle.walk.specs.declared.Run.{Run}
-use Rattle.walk.specs.Rows.{inRun, ReadyRun}
+use Rattle.walk.specs.Rows.{in_run, ReadyRun}
 use Rattle.writing.specs.Numbers.{clause, stays, led}
-use Rattle.writing.proofs.Parts.{unitRun, unit-is, units-more, units-ready, run_end}
+use Rattle.writing.proofs.Parts.{unit_run, unit_is, units_more, units_ready, run_end}
 use Rattle.writing.proofs.rows.put_units.Statement.{statement}
 use Rattle.writing.proofs.rows.put_units.Tie as tie
 
 -- the run from the present literals on
 abbrev run_at : Front → ℕ → ℕ → ℕ → Run
-run_at front p q left = unitRun front (to_z w32 p) (to_z w32 q) left
+run_at front p q left = unit_run front (to_z w32 p) (to_z w32 q) left
 
 abbrev invariant-loop : tie.invariant-loop
 invariant-loop lead list₀ front at₀ left₀ p₀ q₀ list at left p q =
-    Filling (led lead (inRun (run_at front p₀ q₀ left₀))) (led lead (inRun (run_at front p q left))) list₀ list at × ReadyRun (run_at front p q left)
+    Filling (led lead (in_run (run_at front p₀ q₀ left₀))) (led lead (in_run (run_at front p q left))) list₀ list at × ReadyRun (run_at front p q left)
 
 abbrev decreases-loop : tie.decreases-loop
 decreases-loop lead list₀ front at₀ left₀ p₀ q₀ list at left p q = left
@@ -38,14 +38,14 @@ module _ (s : tie.Start invariant-loop decreases-loop) where
 
   same : run ≡ run_at run.front (of_z w32 run.y.literal) (of_z w32 run.z.literal) run.count
   same =
-      let f : SFits w32 run.y.literal = abs-fits (omega (arith, s.pre.0.rising.near)) in
-      let g : SFits w32 run.z.literal = abs-fits (omega (arith, s.pre.0.falling.near)) in
-      rw (to_z-of_z f, to_z-of_z g) (unit-is run s.pre.0 s.pre.1)
+      let f : SFits w32 run.y.literal = abs_fits (omega (arith, s.pre.0.rising.near)) in
+      let g : SFits w32 run.z.literal = abs_fits (omega (arith, s.pre.0.falling.near)) in
+      rw (to_z-of_z f, to_z-of_z g) (unit_is run s.pre.0 s.pre.1)
 
 loop-holds : tie.Need-loop-init invariant-loop decreases-loop
 loop-holds c =
     let s = c.before.before.before.before in
-    (begin _ _ _ refl (subst (λ r. length (led s.args.lead (inRun r)) ≤ length s.args.list.now) (same s) s.requires.2), subst ReadyRun (same s) s.requires.0)
+    (begin _ _ _ refl (subst (λ r. length (led s.args.lead (in_run r)) ≤ length s.args.list.now) (same s) s.requires.2), subst ReadyRun (same s) s.requires.0)
 
 -- the first clause, and what is behind it
 module _ (c : tie.In-loop invariant-loop decreases-loop) where
@@ -71,22 +71,22 @@ module _ (c : tie.In-loop invariant-loop decreases-loop) where
   first = clause (stays lead front ++ (y ∷ z ∷ []))
 
   abbrev behind : Run
-  behind = unitRun front (y +ℤ pos 1) (z -ℤ pos 1) (l.loop.left - 1)
+  behind = unit_run front (y +ℤ pos 1) (z -ℤ pos 1) (l.loop.left - 1)
 
-  more : led lead (inRun (unitRun front y z l.loop.left)) ≡ first ++ led lead (inRun behind)
-  more = units-more lead front y z l.loop.left c.loop-test.true
+  more : led lead (in_run (unit_run front y z l.loop.left)) ≡ first ++ led lead (in_run behind)
+  more = units_more lead front y z l.loop.left c.loop-test.true
 
   fits : l.loop.at + length first ≤ length l.loop.list
-  fits = room_for l.loop.inv.0 first (led lead (inRun behind)) more
+  fits = room_for l.loop.inv.0 first (led lead (in_run behind)) more
 
   up_fits : SFits w32 (y +ℤ pos 1)
-  up_fits = abs-fits (omega (arith, abs-add y (pos 1), l.loop.inv.1.rising.near))
+  up_fits = abs_fits (omega (arith, abs_add y (pos 1), l.loop.inv.1.rising.near))
 
   down_fits : SFits w32 (z -ℤ pos 1)
-  down_fits = abs-fits (omega (arith, abs-sub z (pos 1), l.loop.inv.1.falling.near))
+  down_fits = abs_fits (omega (arith, abs_sub z (pos 1), l.loop.inv.1.falling.near))
 
 mul-put-clause : tie.Need-overflow-mul-put-clause invariant-loop decreases-loop
-mul-put-clause c = let h : (l c).loop.at ≤ length (s c).args.list.now = omega (arith, room-before (l c).loop.invariant.0) in search rules
+mul-put-clause c = let h : (l c).loop.at ≤ length (s c).args.list.now = omega (arith, room_before (l c).loop.invariant.0) in search rules
 
 sub-put-clause : tie.Need-overflow-sub-put-clause invariant-loop decreases-loop
 sub-put-clause c = omega (arith, room (l c).loop.invariant.0)
@@ -124,7 +124,7 @@ loop-again c =
     let p = c.before.put-clause in
     rw (to_z-of_z (up_fits t), to_z-of_z (down_fits t)) (
       part (l t).loop.invariant.0 _ _ (more t) _ _ p.ensures.0 p.ensures.1,
-      units-ready (front t) (y t) (z t) (l t).loop.left t.loop-test.true (l t).loop.invariant.1,
+      units_ready (front t) (y t) (z t) (l t).loop.left t.loop-test.true (l t).loop.invariant.1,
     )
 
 same_length : tie.Need-same-length invariant-loop decreases-loop
@@ -135,7 +135,7 @@ returns c =
     let here = c.before.loop in
     let a = c.before.before.before.before.before.before in
     let lead = a.args.lead in
-    subst (λ r. (here.at ≡ length (led lead (inRun r))) × (here.list ≡ written (led lead (inRun r)) a.args.list.now)) (sym (same a))
+    subst (λ r. (here.at ≡ length (led lead (in_run r))) × (here.list ≡ written (led lead (in_run r)) a.args.list.now)) (sym (same a))
     (ended here.invariant.0 (run_end lead (run_at a.args.run.front here.p here.q here.left) (omega (arith, c.loop-test.false))))
 
 pub put-units-spec : {M : Type 1} → statement M
