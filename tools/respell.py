@@ -150,8 +150,7 @@ def main():
         return
     after_dot = {f for f in fields if f in new}
     for path, text in texts.items():
-        here = {**new, **GIVEN_AT.get(path, {})}
-        write(path, text, turned(text, here, after_dot))
+        write(path, text, in_proofs(path, text, new, after_dot))
     for path in sorted(glob.glob("crates/*/src/**/*.rt", recursive=True)):
         text = open(path, encoding="utf-8").read()
         write(path, text, in_clauses(text, new, after_dot))
@@ -184,15 +183,32 @@ def beside(declared, new):
         write(path, text, re.sub(r"`[^`\n]+`", lambda m: m.group(0) if ".antt" in m.group(0) else TOKEN.sub(one, m.group(0)), text))
 
 
+def operations_seen(text):
+    """The outcome functions that a file declares or takes from the definitions: elsewhere the word is another's."""
+    seen = set()
+    for m in re.finditer(r"use Rattle\.definitions\.specs\.(?:Operations|Closing|TextOperations)\.\{([^}]*)\}", text):
+        seen |= {n.split(" as ")[0].strip() for n in m.group(1).split(",")}
+    return {n for n in GIVEN if n[0].isupper() and (n in seen or re.search(r"(?m)^unfoldable pub " + n + " :", text))}
+
+
+def in_proofs(path, text, new, after_dot):
+    seen = operations_seen(text)
+    here = {o: t for o, t in new.items() if not (o in GIVEN and o[0].isupper() and o not in seen)}
+    here.update(GIVEN_AT.get(path, {}))
+    plain = {o: t for o, t in here.items() if not (o in GIVEN and o[0].isupper())}
+    return "\n".join(turned(line, plain if line.lstrip().startswith("--") else here, after_dot) for line in text.split("\n"))
+
+
 def in_clauses(text, new, after_dot):
     """Clauses, `ghost use` lines and comments: names of specs/ with a capital inside or a dash are never the code's."""
-    own = {o: t for o, t in new.items() if o not in GIVEN}
+    own = {o: t for o, t in new.items() if not o[0].isupper() and o != o.lower() or "-" in o}
     text = turned(text, own, after_dot)
     out, inside = [], 0
     for line in text.split("\n"):
-        ghost = line.lstrip().startswith(("ghost use", "requires", "ensures", "//"))
+        ghost = line.lstrip().startswith(("ghost use", "requires", "ensures"))
         if ghost or inside:
-            line = turned(line, {o: t for o, t in new.items() if o in GIVEN}, after_dot)
+            seen = operations_seen(text)
+            line = turned(line, {o: t for o, t in new.items() if o in seen or o == "word_in"}, after_dot)
         if ghost and line.lstrip().startswith(("requires", "ensures")) or inside:
             inside = inside + line.count("{") - line.count("}")
         out.append(line)

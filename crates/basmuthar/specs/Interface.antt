@@ -4,17 +4,17 @@ use Rattle.definitions.specs.Result.{Result, done, refused}
 use Rattle.definitions.specs.Operations.{Sizes}
 use Rattle.definitions.specs.Closing.{Earliest, found, none, unfinished}
 
--- size_outcome, compile_outcome and the reader of text: 0, N, M and K
+-- Size, Compile and the reader of text: 0, N, M and K
 abbrev pub sizes_written : Result Sizes → List ℕ
 sizes_written (done z) = 0 ∷ z.n ∷ z.m ∷ z.k ∷ []
 sizes_written (refused number detail) = number ∷ detail ∷ 0 ∷ 0 ∷ []
 
--- decode_outcome, judge_outcome and image_outcome: only zeros
+-- Decode, Judge and Image: only zeros
 abbrev pub verdict_written : Result (Unit {0}) → List ℕ
 verdict_written (done tt) = 0 ∷ 0 ∷ 0 ∷ 0 ∷ []
 verdict_written (refused number detail) = number ∷ detail ∷ 0 ∷ 0 ∷ []
 
--- closing_outcome: 0, and then 0 found, 1 none, 2 unfinished
+-- Closing: 0, and then 0 found, 1 none, 2 unfinished
 abbrev pub hour_written : Result Earliest → List ℕ
 hour_written (done (found v)) = 0 ∷ 0 ∷ 0 ∷ 0 ∷ []
 hour_written (done none) = 0 ∷ 1 ∷ 0 ∷ 0 ∷ []

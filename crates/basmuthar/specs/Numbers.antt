@@ -60,7 +60,7 @@ verdict_told v v' h = one_verdict v v' (sym (is v) ∙ ap (read_as tt) h ∙ is 
     is Verdict.Accepted = refl
     is (Verdict.Refused r) = rw (not_zero r)
 
--- so do the four numbers and the hours of closing_outcome
+-- so do the four numbers and the hours of Closing
 pub hour_told : (h h' : Hour) (hours : List ℤ) → hour_written (said_hour h) ≡ hour_written (said_hour h') → hours_written (said_hour h) hours ≡ hours_written (said_hour h') hours → h ≡ h'
 hour_told h h' hours e f = one_hour h h' (sym (is h) ∙ ap₂ back e f ∙ is h')
   where

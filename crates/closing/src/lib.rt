@@ -1,4 +1,4 @@
-// closing_outcome: the least value of a variable over all solutions, by a solver's replies to questions 'at most h?'.
+// Closing: the least value of a variable over all solutions, by a solver's replies to questions 'at most h?'.
 ghost use Rattle.closing.specs.Outcome.{Allowed};
 
 use crate::checks::checked;

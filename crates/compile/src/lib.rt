@@ -1,4 +1,4 @@
-// compile_outcome: the clause list of a record, number for number.
+// Compile: the clause list of a record, number for number.
 ghost use Rattle.std.specs.Prelude.{◌≡◌, ◌≤◌, length};
 ghost use Rattle.definitions.specs.Encoding.{clause_list};
 ghost use Rattle.laws.specs.Boards.{board_of};

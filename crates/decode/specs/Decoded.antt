@@ -1,4 +1,4 @@
--- What decode_outcome answers to an accepted record, check by check. Assumes nothing.
+-- What Decode answers to an accepted record, check by check. Assumes nothing.
 use Rattle.std.specs.Prelude.{◌≡◌, List, ℕ, length, ℤ}
 use Rattle.std.proofs.Math.Path.{refl, ap}
 use Rattle.std.proofs.Common.{◌∙◌}

@@ -1,4 +1,4 @@
-// Reading a model back (01, decode_outcome): the search for a clause that does not hold, then the values and the Booleans.
+// Reading a model back (01, Decode): the search for a clause that does not hold, then the values and the Booleans.
 ghost use Rattle.std.specs.Prelude.{◌≡◌};
 ghost use Rattle.definitions.specs.Encoding.{N};
 ghost use Rattle.definitions.specs.Answers.{said_verdict};
@@ -77,7 +77,7 @@ fn read_back(
     Verdict::Accepted
 }
 
-// 01, decode_outcome: a refusal leaves both lists as they were.
+// 01, Decode: a refusal leaves both lists as they were.
 pub fn decode(bytes: &[u8], model: &[u8], values: &mut [i32], booleans: &mut [u8]) -> Verdict
     ensures { Allowed bytes.now model.now values.old booleans.old result values.new booleans.new }
 {

@@ -411,14 +411,14 @@ table =
     (refusal 8 detail 11 ∶ read "01 00000007 0000 0000 0000 00") ∷  -- a byte after the counts
     (refusal 8 detail 15 ∶ read "01 0000000C 0001 0000 0000 0005 0005 00 00") ∷  -- two bytes after the variable table: the first
     (refusal 8 detail 15 ∶ read "01 0000000B 0000 0001 0001 01 00 0001 01") ∷  -- a byte after the last clause
-    -- 11 to 14. decode_outcome: model, values, Booleans; then 12, 13
+    -- 11 to 14. Decode: model, values, Booleans; then 12, 13
     (refusal 11 detail 6 ∶ to_decode flags (0 ∷ 0 ∷ 0 ∷ 0 ∷ 2 ∷ []) (pos 7 ∷ pos 7 ∷ []) (7 ∷ [])) ∷  -- model of 5; the other lengths and a byte are wrong too
     (refusal 11 detail 6 ∶ to_decode flags (0 ∷ 0 ∷ 0 ∷ 0 ∷ 2 ∷ 0 ∷ 0 ∷ []) (pos 7 ∷ pos 7 ∷ []) (7 ∷ [])) ∷  -- model of 7
     (refusal 11 detail 1 ∶ to_decode flags (0 ∷ 0 ∷ 0 ∷ 0 ∷ 2 ∷ 0 ∷ []) (pos 7 ∷ pos 7 ∷ []) (7 ∷ [])) ∷  -- 2 values
     (refusal 11 detail 2 ∶ to_decode flags (0 ∷ 0 ∷ 0 ∷ 0 ∷ 2 ∷ 0 ∷ []) (pos 7 ∷ []) (7 ∷ [])) ∷  -- 1 Boolean
     (refusal 12 detail 4 ∶ to_decode flags (0 ∷ 0 ∷ 0 ∷ 0 ∷ 2 ∷ 0 ∷ []) (pos 7 ∷ []) (7 ∷ 7 ∷ [])) ∷  -- byte 4; clause 1 does not hold either
     (refusal 13 detail 4 ∶ to_decode flags (0 ∷ 0 ∷ 0 ∷ 1 ∷ 1 ∷ 0 ∷ []) (pos 7 ∷ []) (7 ∷ 7 ∷ [])) ∷  -- the axioms hold; the first Boolean
-    -- judge_outcome: values, Booleans; then 12, 14, 13
+    -- Judge: values, Booleans; then 12, 14, 13
     (refusal 11 detail 1 ∶ to_judge flags (pos 2 ∷ pos 2 ∷ []) (2 ∷ [])) ∷  -- 2 values; all else is wrong too
     (refusal 11 detail 2 ∶ to_judge flags (pos 2 ∷ []) (2 ∷ [])) ∷  -- 1 Boolean
     (refusal 12 detail 1 ∶ to_judge flags (pos 2 ∷ []) (0 ∷ 2 ∷ [])) ∷  -- byte 1
@@ -427,7 +427,7 @@ table =
     (refusal 13 detail 0 ∶ to_judge flags (pos 1 ∷ []) (0 ∷ 1 ∷ [])) ∷  -- neither clause holds: the first
     (refusal 13 detail 1 ∶ to_judge flags (pos 1 ∷ []) (1 ∷ 1 ∷ [])) ∷  -- the second
     (refusal 14 detail 1 ∶ to_judge thirteen (pos 1 ∷ pos 3 ∷ []) []) ∷  -- value 1 above its upper
-    -- image_outcome: values, Booleans, model; then as judge_outcome
+    -- Image: values, Booleans, model; then as Judge
     (refusal 11 detail 1 ∶ to_image flags (pos 2 ∷ pos 2 ∷ []) (2 ∷ []) (7 ∷ [])) ∷  -- 2 values; all else is wrong too
     (refusal 11 detail 2 ∶ to_image flags (pos 2 ∷ []) (2 ∷ []) (7 ∷ [])) ∷  -- 1 Boolean
     (refusal 11 detail 6 ∶ to_image flags (pos 2 ∷ []) (0 ∷ 2 ∷ []) (7 ∷ [])) ∷  -- model of 1

@@ -26,7 +26,7 @@ lines : {A : Type 0} (f : A → Bool) (ls : List (List A)) → (each 13 0 (map (
 lines f = for_each 13 (any f) (some_true f)
 
 module _ (s : List ℕ) (B : Board) (e : accepted s ≡ done B) where
-  -- ---- size_outcome and compile_outcome
+  -- ---- Size and Compile
   pub size_gives : size_outcome s ≡ done (sizes_of B)
   unfolding size_outcome
   size_gives = rw e
@@ -42,7 +42,7 @@ module _ (s : List ℕ) (B : Board) (e : accepted s ≡ done B) where
   unfolding compile_outcome
   compile_gives list h = rw (e, (room (K B) list).1 h)
 
-  -- ---- judge_outcome and image_outcome
+  -- ---- Judge and Image
   judged_is : (values : List ℤ) (bools : List ℕ) (also : Board → Result (Unit {0})) (B' : Board) →
       (judged s values bools also ≡ done B') ↔ (Solution B values bools × (also B ≡ done tt) × (◌≡◌ {A = Result Board} (done B) (done B')))
   unfolding judged Solution
@@ -74,7 +74,7 @@ module _ (s : List ℕ) (B : Board) (e : accepted s ≡ done B) where
             let k = (judged_is values bools (λ B. long (N B) model) j.0).0 j.1 in
             (k.0, (of_length (N B) model).0 k.1)
 
-  -- ---- decode_outcome
+  -- ---- Decode
   module _ (model : List ℕ) (values : List ℤ) (bools : List ℕ) where
     pub decode_is : ((decode_outcome s model values bools).answer ≡ done tt) ↔ (Model B model × (length values ≡ length B.bounds) × (length bools ≡ B.bools))
     unfolding decode_outcome Model

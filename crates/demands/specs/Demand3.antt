@@ -1,4 +1,4 @@
--- The third demand, for every accepted record; and what it says of decode_outcome, judge_outcome and image_outcome. Assumes nothing.
+-- The third demand, for every accepted record; and what it says of Decode, Judge and Image. Assumes nothing.
 use Rattle.std.specs.Prelude.{◌≡◌, refl, ◌↔◌, Bool, List, map, ℕ, ◌-◌, ◌≤◌, ◌<◌, T, get_or, take, ℤ, pos, ◌*ℤ◌, ◌≤ℤ◌}
 use Rattle.std.proofs.Common.{sym, ap, ap₂, ◌∙◌, arith}
 use Rattle.std.proofs.Math.ListN.{length}

@@ -1,4 +1,4 @@
--- P9, the earliest closing hour: where the replies are true, closing_outcome finds the least value of the variable over all solutions,
+-- P9, the earliest closing hour: where the replies are true, Closing finds the least value of the variable over all solutions,
 -- within 14 questions. Assumes nothing.
 use Rattle.std.specs.Prelude.{◌≡◌, ◌↔◌, ◌≢◌, Bool, List, [], ◌∷◌, ◌++◌, T, get_or, take, drop, ℤ, pos, ◌≤ℤ◌}
 use Rattle.std.proofs.Math.Path.{refl, ap}
@@ -70,7 +70,7 @@ unfolding closing_outcome
 closing_passes_it_on s n d e x replies = rw e
 
 module _ (s : List ℕ) (B : Board) (e : accepted s ≡ done B) (x : ℕ) where
-  -- ---- closing_outcome from its first question on
+  -- ---- Closing from its first question on
   abbrev start : Earliest
   start = unfinished (bounds_of B x) (bounds_of B x).hi
 
@@ -117,7 +117,7 @@ module _ (s : List ℕ) (B : Board) (e : accepted s ≡ done B) (x : ℕ) where
 
   -- ---- true replies
   -- "every reply is true of the record with that clause added": the reply to question h is 1 exactly where the board has a solution with
-  -- 'x is at most h' added. The question is the one that closing_outcome puts after the replies before it
+  -- 'x is at most h' added. The question is the one that Closing puts after the replies before it
   pub record Truthful (replies : List ℕ) : Type 0 where
     pub each : (i : ℕ) → i < length replies → (r : Bounds) (h : ℤ) → closing_outcome s x (take i replies) ≡ done (unfinished r h) →
         (get_or replies i 0 ≡ 1) ↔ Solved (adding B x h)
@@ -225,7 +225,7 @@ module _ (s : List ℕ) (B : Board) (e : accepted s ≡ done B) (x : ℕ) where
         (ending k.last replies (closing_is replies known b ∙ k.is) k.finished
         (bisection.after-tells (Met B x) (bounds_of B x) start replies k.last (begins_inside known) (begins_true known) t k.is))
 
--- ---- the first demand: what closing_outcome accepts
+-- ---- the first demand: what Closing accepts
 pub closing_accepts_exactly : (s : List ℕ) → All (λ b. b < 256) s → (x : ℕ) (replies : List ℕ) → ((a : Earliest) × (closing_outcome s x replies ≡ done a))
     ↔ ((B : Board) × Admits s B × ((x < length B.bounds) × All (λ b. b ≤ 1) replies × bisection.Wanted (closing_outcome s x) replies))
 closing_accepts_exactly s small x replies = (

@@ -1,4 +1,4 @@
--- What is written for an accepted record is good text, and reading it gives what compile_outcome gives (02, P2). Assumes nothing.
+-- What is written for an accepted record is good text, and reading it gives what Compile gives (02, P2). Assumes nothing.
 use Rattle.std.specs.Prelude.{◌≡◌, Bool, true, false, ℕ, zero, suc, ◌+◌, ◌≤◌, T, length, drop, replicate, ℤ, pos, negsuc, nat_abs}
 use Rattle.std.proofs.Math.Path.{refl, sym, ap}
 use Rattle.std.proofs.Common.{◌∙◌, subst, arith, take_all, take_at}
@@ -109,7 +109,7 @@ module _ (s : List ℕ) (B : Board) (e : accepted s ≡ done B) where
   pub reading_what_was_written_gives_the_list : read_text (text_of B) ≡ done (record { n = N B; m = M B; list = clause_list B })
   reading_what_was_written_gives_the_list = good_text_is_read (N B) (M B) (clause_list B) (text_of B) what_is_written_is_good
 
-  -- the reader answers and leaves what compile_outcome does, 10 included
+  -- the reader answers and leaves what Compile does, 10 included
   pub reading_what_was_written_is_compiling : (list : List ℤ) → read_text_outcome (text_of B) list ≡ compile_outcome s list
   unfolding read_text_outcome compile_outcome sizes_of
   reading_what_was_written_is_compiling list = rw (reading_what_was_written_gives_the_list, e, ← K_is B)

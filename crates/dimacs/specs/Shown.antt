@@ -25,7 +25,7 @@ abbrev counted : Result Sizes → ℕ
 counted (done z) = z.k
 counted (refused n d) = 0
 
--- from the board on, the rest of compile_outcome
+-- from the board on, the rest of Compile
 abbrev rest : List ℤ → Board → Bool → Result (Sizes × List ℤ)
 rest list B good = result.◌>>◌ (need 10 (K B) good) (done (sizes_of B, clause_list B ++ drop (K B) list))
 

@@ -1,4 +1,4 @@
-// closing_outcome, run: ranges around 0, of one value and of 8,192, every kind of answer, and its refusals in their order.
+// Closing, run: ranges around 0, of one value and of 8,192, every kind of answer, and its refusals in their order.
 ghost use Rattle.std.specs.Prelude.{◌≤◌, length};
 
 use crate::records::{AROUND_ZERO, MAKESPAN, ONE_VALUE, WIDE_SUM, WIDEST};

@@ -1,4 +1,4 @@
-// image_outcome: the plain model of a solution.
+// Image: the plain model of a solution.
 ghost use Rattle.std.specs.Prelude.{◌≡◌};
 ghost use Rattle.definitions.specs.Meaning.{assigned, plain_model};
 ghost use Rattle.definitions.specs.Answers.{said_verdict};

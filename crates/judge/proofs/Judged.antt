@@ -1,4 +1,4 @@
--- judge_outcome in the parts that the code has: the record, the lengths (refusal 11), the other checks. Assumes nothing.
+-- Judge in the parts that the code has: the record, the lengths (refusal 11), the other checks. Assumes nothing.
 use mathlib.Core.Path.{◌≡◌, refl, ◌∙◌}
 use mathlib.Core.Logic.{◌≢◌}
 use mathlib.Core.Bool.{Bool, true, false}

@@ -1,4 +1,4 @@
-// judge_outcome: whether values and Booleans are a solution of a record's board.
+// Judge: whether values and Booleans are a solution of a record's board.
 ghost use Rattle.judge.specs.Outcome.{Allowed};
 
 use crate::checks::{lengths, solved};

@@ -13,7 +13,7 @@ use Rattle.laws.specs.Decide.{Decides, apart, both, at-most, at_most_z, is_withi
 use Rattle.laws.specs.Some.{new}
 use Rattle.laws.specs.Admitted.{Differ, GoodBounds, GoodTerm, GoodComparison, GoodLiteral, GoodClause, Admitted}
 use Rattle.laws.specs.Spelling.{several, natural, integer, bounds_fields, term_fields, comparison_fields, literal_fields, clause_fields, body_fields}
-use Rattle.laws.specs.Grammar.{Grammar, ◌⇒◌, Just, just, Spelt, spelt, Then, ◌then◌, image_outcome, image, Reads, reads_as, reads-give, reads-asked, reads_bind, reads-mapped, reads_times, reads-unsigned, reads-signed, reads-tested, Many}
+use Rattle.laws.specs.Grammar.{Grammar, ◌⇒◌, Just, just, Spelt, spelt, Then, ◌then◌, Image, image, Reads, reads_as, reads-give, reads-asked, reads_bind, reads-mapped, reads_times, reads-unsigned, reads-signed, reads-tested, Many}
 
 -- ---- tests
 pub equals_z : (a b : ℤ) → Decides (eq_z a b) (a ≡ b)
@@ -56,7 +56,7 @@ reads_bounds = reads_as (reads_bind reads-bound λ l. reads-mapped (λ u. record
     Raw : Grammar Bounds
     Raw =
         Then (Signed (Within (neg 4096) (pos 4095)) 2) λ l.
-        image_outcome (λ u. record { lo = l; hi = u }) (Signed (λ u. Within (neg 4096) (pos 4095) u × (l ≤ℤ u)) 2)
+        Image (λ u. record { lo = l; hi = u }) (Signed (λ u. Within (neg 4096) (pos 4095) u × (l ≤ℤ u)) 2)
 
     to : Raw ⇒ Spelt GoodBounds bounds_fields
     to b fs (spelt l then image (spelt u)) = spelt (record { lowest = l.0; ordered = u.1; highest = u.0.1 })
@@ -102,7 +102,7 @@ module _ (ctx : Context) where
       Raw =
           Then (Signed (λ a. Within (neg 64) (pos 64) a × (a ≢ pos 0)) 1) λ a.
           Then (Natural (λ x. (x < ctx.ints) × All (λ y. x ≢ y) seen) 2) λ x.
-          image_outcome (λ ts. record { coef = a; var = x } ∷ ts) (Spelt (GoodTerms ctx.ints (x ∷ seen) n) (several term_fields))
+          Image (λ ts. record { coef = a; var = x } ∷ ts) (Spelt (GoodTerms ctx.ints (x ∷ seen) n) (several term_fields))
 
       to : Raw ⇒ Spelt (GoodTerms ctx.ints seen (suc n)) (several term_fields)
       to ts fs (spelt a then ◌then◌ {a = v} (spelt x) (image {a = us} (spelt g))) =
@@ -132,7 +132,7 @@ module _ (ctx : Context) where
       Raw =
           Then (Natural (FromTo 1 3) 1) λ n.
           Then (Spelt (GoodTerms ctx.ints [] n) (several term_fields)) λ ts.
-          image_outcome (λ k. record { terms = ts; constant = k }) (Signed (Within (neg 1000000) (pos 1000000)) 4)
+          Image (λ k. record { terms = ts; constant = k }) (Signed (Within (neg 1000000) (pos 1000000)) 4)
 
       to : Raw ⇒ Spelt (GoodComparison ctx.ints) comparison_fields
       to q fs (spelt n then spelt g then image (spelt k)) =
@@ -149,9 +149,9 @@ module _ (ctx : Context) where
   reads-boolean = reads-tested 6 (reads-unsigned 2) (from-to 1 ctx.bools)
 
   abbrev OfKind : ℕ → Grammar Literal
-  OfKind zero = image_outcome is_true (Natural (FromTo 1 ctx.bools) 2)
-  OfKind (suc zero) = image_outcome is_false (Natural (FromTo 1 ctx.bools) 2)
-  OfKind (suc (suc k)) = image_outcome at_most (Spelt (GoodComparison ctx.ints) comparison_fields)
+  OfKind zero = Image is_true (Natural (FromTo 1 ctx.bools) 2)
+  OfKind (suc zero) = Image is_false (Natural (FromTo 1 ctx.bools) 2)
+  OfKind (suc (suc k)) = Image at_most (Spelt (GoodComparison ctx.ints) comparison_fields)
 
   reads_kind : (k : ℕ) → Reads (of_kind ctx k) (OfKind k)
   unfolding of_kind
@@ -206,7 +206,7 @@ reads-body version = reads_as (
         Then (Natural (FromTo 0 4096) 2) λ m.
         Then (Natural (FromTo 0 4096) 2) λ c.
         Then (Spelt (Many GoodBounds v) (several bounds_fields)) λ bs.
-        image_outcome (λ cs. record { bounds = bs; bools = m; clauses = cs }) (Spelt (Many (GoodClause v m) c) (several clause_fields))
+        Image (λ cs. record { bounds = bs; bools = m; clauses = cs }) (Spelt (Many (GoodClause v m) c) (several clause_fields))
 
     to : Raw ⇒ Spelt Admitted body_fields
     to B fs (spelt v then spelt m then spelt c then spelt bs then image (spelt cs)) =

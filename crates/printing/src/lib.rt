@@ -101,7 +101,7 @@ fn put_number(number: i32) {
     io::print_decimal(STDOUT_FILENO, without_sign(number));
 }
 
-// What closing_outcome answers: the value, none, or the range so far and the next question.
+// What Closing answers: the value, none, or the range so far and the next question.
 pub fn put_hour(name: &[u8], hour: Hour) {
     put(name);
     match hour {

@@ -1,7 +1,7 @@
 // Text read into a lent list.
 ghost use Rattle.std.specs.Prelude.{◌≡◌, ◌≤◌, ◌<◌, length};
 ghost use Rattle.laws.specs.Written.{written};
-ghost use Rattle.definitions.specs.TextReading.{number_read_lem};
+ghost use Rattle.definitions.specs.TextReading.{number_read};
 ghost use Rattle.laws.specs.Stepping.{num};
 ghost use Rattle.replies.specs.Lists.{numbers_from, Fits};
 ghost use Rattle.replies.specs.Outcome.{TextAllowed};
@@ -14,7 +14,7 @@ use definitions::{Refusal, Sizing};
 
 fn signed_of(minus: bool, size: u32) -> i32
     requires { size < 2147483648 }
-    ensures { result ≡ number_read_lem (num 0 minus size) }
+    ensures { result ≡ number_read (num 0 minus size) }
 {
     if minus {
         return -(size as i32);
@@ -53,7 +53,7 @@ fn put_numbers(text: &[u8], n: u32, m: u32, from: usize, list: &mut [i32]) -> us
     }
 }
 
-// read_text_outcome: N, M and K, and the list.
+// ReadText: N, M and K, and the list.
 pub fn read_text(text: &[u8], list: &mut [i32]) -> Sizing
     ensures { TextAllowed text.now list.old result list.new }
 {

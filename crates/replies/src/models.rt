@@ -95,7 +95,7 @@ fn take_model(
     }
 }
 
-// read_reply_outcome: a model, or that there is none; a refusal leaves the lent bytes as they were.
+// ReadReply: a model, or that there is none; a refusal leaves the lent bytes as they were.
 pub fn read_reply(n: u32, text: &[u8], model: &mut [u8]) -> Replied
     ensures { ReplyAllowed n text.now model.old result model.new }
 {

@@ -1,4 +1,4 @@
-// size_outcome: N, M and K, which `measure` counts.
+// Size: N, M and K, which `measure` counts.
 ghost use Rattle.size.specs.Outcome.{Allowed};
 
 use definitions::Sizing;
