@@ -1,7 +1,7 @@
 -- The numbering (01, "Numbering of SAT variables"): the board's atoms have the numbers 1 to N, each once, and N counts them.
 use Rattle.std.specs.Prelude.{◌≡◌, refl, ℕ, zero, suc, ◌+◌, ◌-◌, ◌≤◌, ◌<◌, length, get_or, take, drop, ℤ, pos, ◌+ℤ◌, ◌-ℤ◌, ◌≤ℤ◌}
 use Rattle.std.proofs.Common.{sym, ap, ap₂, ◌∙◌, inl, inr, add-zero, arith, take-append-drop, drop_of_length-le, drop-cons}
-use mathlib.Core.List.{List, ◌∷◌, ◌++◌, map, flatten, map-map, map-append, map-id, cons≢nil, head-eq_of_cons-eq, tail-eq_of_cons-eq}
+use mathlib.Core.List.{[], List, ◌∷◌, ◌++◌, map, flatten, map-map, map-append, map-id, cons≢nil, head-eq_of_cons-eq, tail-eq_of_cons-eq}
 use Rattle.std.proofs.Math.Nat.{sub_self}
 use Rattle.std.proofs.lemmas.List.{length-map}
 use Rattle.std.proofs.Math.Seq.{take-length}
@@ -180,6 +180,7 @@ listed B a h = go a h
 -- an entry whose numbers are counted up stands where its number says
 counted-at : {A : Type 0} (f : A → ℕ) (d : A) (l : List A) (i n : ℕ) → map f l ≡ count_up i n → (a : A) → Any (λ v. v ≡ a) l
     → (i ≤ f a) × (f a < i + n) × (get_or l (f a - i) d ≡ a)
+counted-at f d [] i n e a h = elim h [ ]
 counted-at f d (x ∷ l) i zero e a h = absurd (cons≢nil e)
 counted-at f d (x ∷ l) i (suc n) e a (inl h) =
     let k : f a ≡ i = ap f (sym h) ∙ head-eq_of_cons-eq e in

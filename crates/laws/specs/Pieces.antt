@@ -127,7 +127,7 @@ recorded_clause j (at_most q ∷ l ∷ C) ps = ap (λ Cs. (at_most q ∷ l ∷ C
 pub recorded_all : (j : ℕ) (Cs : List Clause) → clauses_recorded (pieces_from j Cs) ≡ Cs
 unfolding clauses_recorded pieces_from
 recorded_all j [] = refl
-recorded_all j (C ∷ Cs) = recorded_clause j C _ ∙ ap (λ z. C ∷ z) (recorded_all _ Cs)
+recorded_all j (C ∷ Cs) = recorded_clause j C _ ∙ ap (λ z. C ∷ z) (recorded_all (j + used (not (lone C)) (length (comparisons C))) Cs)
 
 -- ---- they are the definition's
 pub selected-count : (C : Clause) → length (selected C) ≡ used (not (lone C)) (length (comparisons C))

@@ -1,7 +1,7 @@
 -- What each reader of the record reads: a good part (01, "The record"), by its fields. Assumes nothing.
 use Rattle.std.specs.Prelude.{◌≡◌, refl, ◌≢◌, ◌&&◌, length, leb, ℤ, pos, ◌≤ℤ◌}
 use Rattle.std.proofs.Common.{sym, ap, arith}
-use mathlib.Core.List.{List, [], ◌∷◌, map, flatten}
+use mathlib.Core.List.{List, [], ◌∷◌, ◌++◌, map, flatten}
 use Prim.Native.Nat.{ℕ, zero, suc, ◌≤◌, ◌<◌, zero-le}
 use Rattle.std.specs.Int.Signed.{le_z}
 use Rattle.definitions.specs.Tools.{All, neg, eq_z}
@@ -12,7 +12,7 @@ use Rattle.laws.specs.Lists.{all_impl, all_both, all_every}
 use Rattle.laws.specs.Decide.{Decides, apart, both, at-most, at_most_z, is_within}
 use Rattle.laws.specs.Some.{new}
 use Rattle.laws.specs.Admitted.{Differ, GoodBounds, GoodTerm, GoodComparison, GoodLiteral, GoodClause, Admitted}
-use Rattle.laws.specs.Spelling.{several, natural, integer, bounds_fields, term_fields, comparison_fields, literal_fields, clause_fields, body_fields}
+use Rattle.laws.specs.Spelling.{Field, several, natural, integer, bounds_fields, term_fields, comparison_fields, literal_fields, clause_fields, body_fields}
 use Rattle.laws.specs.Grammar.{Grammar, ◌⇒◌, Just, just, Spelt, spelt, Then, ◌then◌, Image, image, Reads, reads_as, reads-give, reads-asked, reads_bind, reads-mapped, reads_times, reads-unsigned, reads-signed, reads-tested, Many}
 
 -- ---- tests
@@ -134,9 +134,14 @@ module _ (ctx : Context) where
           Then (Spelt (GoodTerms ctx.ints [] n) (several term_fields)) λ ts.
           Image (λ k. record { terms = ts; constant = k }) (Signed (Within (neg 1000000) (pos 1000000)) 4)
 
-      to : Raw ⇒ Spelt (GoodComparison ctx.ints) comparison_fields
-      to q fs (spelt n then spelt g then image (spelt k)) =
+      joined : {n : ℕ} {ts : List Term} {q : Comparison} {fs gs : List Field} → FromTo 1 3 n → Spelt (GoodTerms ctx.ints [] n) (several term_fields) ts fs
+          → Image (λ k. record { terms = ts; constant = k }) (Signed (Within (neg 1000000) (pos 1000000)) 4) q gs
+          → Spelt (GoodComparison ctx.ints) comparison_fields q (natural 1 n ∷ (fs ++ gs))
+      joined n (spelt g) (image (spelt k)) =
           rw (← g.many) (spelt (record { some = omega (arith, g.many); few = omega (arith, g.many); terms = g.good; differ = g.differ; least = k.0; most = k.1 }))
+
+      to : Raw ⇒ Spelt (GoodComparison ctx.ints) comparison_fields
+      to q fs (spelt n then g then k) = joined n g k
 
       from : Spelt (GoodComparison ctx.ints) comparison_fields ⇒ Raw
       from q fs (spelt g) =
@@ -208,9 +213,15 @@ reads-body version = reads_as (
         Then (Spelt (Many GoodBounds v) (several bounds_fields)) λ bs.
         Image (λ cs. record { bounds = bs; bools = m; clauses = cs }) (Spelt (Many (GoodClause v m) c) (several clause_fields))
 
-    to : Raw ⇒ Spelt Admitted body_fields
-    to B fs (spelt v then spelt m then spelt c then spelt bs then image (spelt cs)) =
+    joined : {v m c : ℕ} {bs : List Bounds} {B : Board} {fs gs : List Field} → FromTo 0 1024 v → FromTo 0 4096 m → FromTo 0 4096 c
+        → Spelt (Many GoodBounds v) (several bounds_fields) bs fs
+        → Image (λ cs. record { bounds = bs; bools = m; clauses = cs }) (Spelt (Many (GoodClause v m) c) (several clause_fields)) B gs
+        → Spelt Admitted body_fields B (natural 2 v ∷ natural 2 m ∷ natural 2 c ∷ (fs ++ gs))
+    joined v m c (spelt bs) (image (spelt cs)) =
         rw (← bs.0, ← cs.0) (spelt (record { ints = omega (arith, bs.0); bools = m.1; rules = omega (arith, cs.0); bounds = bs.1; clauses = rw bs.0 cs.1 }))
+
+    to : Raw ⇒ Spelt Admitted body_fields
+    to B fs (spelt v then spelt m then spelt c then bs then cs) = joined v m c bs cs
 
     from : Spelt Admitted body_fields ⇒ Raw
     from B fs (spelt g) =

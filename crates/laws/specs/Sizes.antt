@@ -75,6 +75,8 @@ piece_places of (under lead q) =
 length_zip : (of : ℕ → Bounds) (ts : List Term) (bs : List ℤ) → Within (ranges of ts) bs → length (zip_with sharp ts bs) ≡ length ts
 unfolding zip_with
 length_zip of [] [] w = refl
+length_zip of [] (b ∷ bs) w = elim w [ ]
+length_zip of (t ∷ ts) [] w = elim w [ ]
 length_zip of (t ∷ ts) (b ∷ bs) w = ap suc (length_zip of ts bs w.2)
 
 module _ (of : ℕ → Bounds) (lead : SatClause) (q : Comparison) where
