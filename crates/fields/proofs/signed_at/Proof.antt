@@ -9,31 +9,31 @@ use Rattle.fields.specs.Said.{said_unsigned}
 use Rattle.fields.proofs.signed_at.Statement.{statement}
 use Rattle.fields.proofs.signed_at.Tie as tie
 
-unsigned-at-requires : tie.Need-unsigned-at-requires
+unsigned-at-requires : tie.Need-unsigned_at-requires
 unsigned-at-requires c κs = search rules
 
-enum-known-value : tie.Need-enum-known-value
+enum-known-value : tie.Need-enum_known-value
 enum-known-value c = search rules
 
-enum_told : tie.Need-enum-told
+enum_told : tie.Need-enum_told-1
 enum_told c = search rules
 
-returns : tie.Need-returns
+returns : tie.Need-returns-in_default
 unfolding signed
 returns c =
-    rw (told (said_unsigned c.before.before.before.before.args.at) c.before.before.unsigned-at.ensures c.enum_told.given.1)
+    rw (told (said_unsigned c.args.at) c.unsigned_at.ensures c.in_default.is)
 
-twos-complement-requires : tie.Need-twos-complement-requires
+twos-complement-requires : tie.Need-twos_complement-requires
 twos-complement-requires c κs =
-    (c.before.before.before.before.before.requires, rw (ap (λ g. g.value) (unsigned_got _ _ _ (told (said_unsigned c.before.before.before.before.before.args.at) c.before.before.before.unsigned-at.ensures c.before.value.given.1)).0) (big-below _ (λ i. (c.before.before.before.before.shared-slice-known.given i).fits) _ _))
+    (c.requires, rw (ap (λ g. g.value) (unsigned_got _ _ _ (told (said_unsigned c.args.at) c.unsigned_at.ensures c.in-Value.is)).0) (big-below _ (λ i. (c.shared_slice_known-1.given i).fits) _ _))
 
-returns-2 : tie.Need-returns-2
+returns-2 : tie.Need-returns
 unfolding signed
 returns-2 c =
-    rw (told (said_unsigned c.before.before.before.before.before.before.args.at) c.before.before.before.before.unsigned-at.ensures c.before.before.value.given.1, to_z-of_z (record { sfits = c.twos-complement.type-inv }), c.twos-complement.ensures)
+    rw (told (said_unsigned c.args.at) c.unsigned_at.ensures c.in-Value.is, to_z-of_z (record { sfits = c.twos_complement.type_inv }), c.twos_complement.ensures)
 
-pub signed-at-spec : {M : Type 1} → statement M
-signed-at-spec =
+pub signed_at_spec : {M : Type 1} → statement M
+signed_at_spec =
     tie.close
     (tie.spec
     unsigned-at-requires

@@ -6,42 +6,42 @@ use Rattle.fields.proofs.Laws.{low_fits, twos_low, twos-high, twos_fits}
 use Rattle.fields.proofs.twos_complement.Statement.{statement}
 use Rattle.fields.proofs.twos_complement.Tie as tie
 
-power-requires : tie.Need-power-requires
+power-requires : tie.Need-power-numbers-requires
 power-requires c κs = search rules
 
-mul-if1 : tie.Need-overflow-mul-if1
+mul-if1 : tie.Need-overflow_mul-value
 mul-if1 c = search rules
 
-cast-result : tie.Need-overflow-cast-result
+cast-result : tie.Need-overflow_cast-result
 cast-result c =
-    low_fits c.before.before.args.width _ c.before.before.requires.0 c.before.before.requires.1 (omega arith)
+    low_fits c.args.width _ c.requires.0 c.requires.1 (omega arith)
 
-returns : tie.Need-returns
+returns : tie.Need-returns-then-value-numbers
 returns c =
-    twos_low c.before.before.args.width _ c.before.before.requires.0 c.before.before.requires.1 (omega arith)
+    twos_low c.args.width _ c.requires.0 c.requires.1 (omega arith)
 
-cast-result-2 : tie.Need-overflow-cast-result-2
+cast-result-2 : tie.Need-overflow_cast-result-2
 cast-result-2 c = search rules
 
-cast-result-3 : tie.Need-overflow-cast-result-3
+cast-result-3 : tie.Need-overflow_cast-result-3
 cast-result-3 c = search rules
 
-sub-result : tie.Need-overflow-sub-result
+sub-result : tie.Need-overflow_sub-result
 sub-result c =
-    rw (c.before.power.ensures, twos-high _ _ c.before.before.requires.0 c.before.before.requires.1 (omega arith)) (sfits_widen tt (twos_fits _ _ c.before.before.requires.0 c.before.before.requires.1))
+    rw (c.power-numbers.ensures, twos-high _ _ c.requires.0 c.requires.1 (omega arith)) (sfits_widen tt (twos_fits _ _ c.requires.0 c.requires.1))
 
-cast-result-4 : tie.Need-overflow-cast-result-4
+cast-result-4 : tie.Need-overflow_cast-result-4
 cast-result-4 c =
-    let f = twos_fits _ _ c.before.before.requires.0 c.before.before.requires.1 in
-    rw (c.before.power.ensures, twos-high _ _ c.before.before.requires.0 c.before.before.requires.1 (omega arith), to_z-of_z (sfits_widen tt f)) f
+    let f = twos_fits _ _ c.requires.0 c.requires.1 in
+    rw (c.power-numbers.ensures, twos-high _ _ c.requires.0 c.requires.1 (omega arith), to_z-of_z (sfits_widen tt f)) f
 
-returns-2 : tie.Need-returns-2
+returns-2 : tie.Need-returns
 returns-2 c =
-    let f = twos_fits _ _ c.before.before.requires.0 c.before.before.requires.1 in
-    rw (c.before.power.ensures, twos-high _ _ c.before.before.requires.0 c.before.before.requires.1 (omega arith), to_z-of_z (sfits_widen tt f), to_z-of_z f)
+    let f = twos_fits _ _ c.requires.0 c.requires.1 in
+    rw (c.power-numbers.ensures, twos-high _ _ c.requires.0 c.requires.1 (omega arith), to_z-of_z (sfits_widen tt f), to_z-of_z f)
 
-pub twos-complement-spec : {M : Type 1} → statement M
-twos-complement-spec =
+pub twos_complement_spec : {M : Type 1} → statement M
+twos_complement_spec =
     tie.close
     (tie.spec
     power-requires
