@@ -118,6 +118,18 @@ def turned(text, entry, function):
             return "." + to[0]
         return m.group(0)
 
+    # what a `&mut` argument holds after a call: by the argument's name, and no longer by its place
+    callees = {new_step: callee for (_, _, (_, new_step), callee, _) in entry["places"] if callee}
+
+    def argument(m):
+        index = m.group(3).count(".1")
+        by_step = callees.get(m.group(1))
+        named = [by_step] if by_step else sorted(set(callees.values()))
+        found = sorted({entry["params"][c][index] for c in named if c in entry["params"] and index < len(entry["params"][c])})
+        if len(found) != 1:
+            said.append(f"{m.group(0)} may be {', '.join(found)}")
+        return f"{m.group(1)}.{m.group(2)}.{found[0]}" if found else m.group(0)
+
     lines = []
     for line in text.split("\n"):
         if not line.startswith("use "):
@@ -125,6 +137,7 @@ def turned(text, entry, function):
             line = re.sub(r"(?<=[\w)'₀-₉])\.([A-Za-z][\w-]*)\.(given(?:\.[01])+|ensures)(?![\w.]*\w)", arm_of, line)
             line = re.sub(r"(?<=[\w)'₀-₉])\.([A-Za-z][\w-]*)\.(given(?:\.[01])+)", arm_of, line)
             line = re.sub(r"(?<=[\w)'₀-₉])\.([A-Za-z][\w-]*)", step, line)
+            line = re.sub(r"([\w'-]+)\.(new|auto|last)((?:\.1)*)\.0(?![\w.]*\.before)", argument, line)
             line = re.sub(r"(?<![\w.-])tie\.(Need-|At|In|After|Then|Else)", r"tie.\1", line)
         lines.append(line)
     text = "\n".join(lines)

@@ -117,15 +117,20 @@ def words(text):
     return set(TOKEN.findall(text))
 
 
-def turned(text, new, after_dot):
+def turned(text, new, after_dot, whole=None):
     """Every whole word of `text` that has a new name; behind a dot only a field's, and a module's in a `use`."""
+    modules = set(re.findall(r"use [\w.]+ as ([a-z_]+)", text)) if whole is None else whole
+
     def one(m):
         word = m.group(0)
         if word not in new:
             return word
-        before = text[max(0, m.start() - 4):m.start()]
-        if before.endswith(".") and word not in after_dot or before.endswith("mod "):
+        before = text[max(0, m.start() - 40):m.start()]
+        if before.endswith("mod "):
             return word
+        if before.endswith(".") and word not in after_dot:
+            behind = re.search(r"(?:^|[^\w.])([a-z_]+)\.$", before)
+            return new[word] if behind and behind.group(1) in modules else word
         return new[word]
     return TOKEN.sub(one, text)
 
@@ -196,7 +201,8 @@ def in_proofs(path, text, new, after_dot):
     here = {o: t for o, t in new.items() if not (o in GIVEN and o[0].isupper() and o not in seen)}
     here.update(GIVEN_AT.get(path, {}))
     plain = {o: t for o, t in here.items() if not (o in GIVEN and o[0].isupper())}
-    return "\n".join(turned(line, plain if line.lstrip().startswith("--") else here, after_dot) for line in text.split("\n"))
+    modules = set(re.findall(r"use [\w.]+ as ([a-z_]+)", text))
+    return "\n".join(turned(line, plain if line.lstrip().startswith("--") else here, after_dot, modules) for line in text.split("\n"))
 
 
 def in_clauses(text, new, after_dot):

@@ -46,7 +46,7 @@ unfolding axioms_from
 axioms_next B g x h b i w o ei ew =
     let e = axioms_are B x (good_bounds B g.bounds x h).ordered ∙ ap₂ axiom_numbers (sym ei) (ap width (sym (bounds_same B x b o)) ∙ sym ew) in
     ap (numbers_of B) (axioms-more B x h)
-    ∙ numbers-append B (axioms_of (bounds_of B) x) (laws.axiomsFrom B (x + 1))
+    ∙ numbers-append B (axioms_of (bounds_of B) x) (laws.axioms_from B (x + 1))
     ∙ ap (λ l. l ++ axioms_from B (x + 1)) e
 
 -- ---- the numbers of a piece

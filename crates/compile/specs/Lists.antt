@@ -11,7 +11,7 @@ use Rattle.writing.specs.Numbers.{numbers_of, numbers-append}
 
 -- ---- axioms, from variable x on
 unfoldable pub axioms_from : Board → ℕ → List ℤ
-axioms_from B x = numbers_of B (laws.axiomsFrom B x)
+axioms_from B x = numbers_of B (laws.axioms_from B x)
 
 pub axioms-end : (B : Board) (x : ℕ) → length B.bounds ≤ x → axioms_from B x ≡ []
 unfolding axioms_from numbers_of flatten

@@ -17,7 +17,7 @@ use measure::{Measured, measure};
 use opening::Header;
 
 // The first clause that does not hold, or that all do, and the number of the clause after them.
-#[derive(Drop)]
+#[derive(Clone, Copy)]
 pub enum Checked {
     Fails(usize),
     Hold(usize),

@@ -88,11 +88,11 @@ module _ (s : List ℕ) (B : Board) (e : accepted s ≡ done B) where
   pub each_solution_is_paired : (values : List ℤ) (bools : List ℕ) → Solution B values bools → Paired B (plain_model B (assigned values bools)) values bools
   each_solution_is_paired values bools h =
       record {
-        satisfies = pairing.image-model B good values bools h;
-        plain = pairing.image-plain B good values bools h;
+        satisfies = pairing.image_model B good values bools h;
+        plain = pairing.image_plain B good values bools h;
         solution = h;
-        ints = pairing.image-values B good values bools h;
-        booleans = pairing.image-bools B good values bools h;
+        ints = pairing.image_values B good values bools h;
+        booleans = pairing.image_bools B good values bools h;
       }
 
   -- "one to one"
@@ -100,7 +100,7 @@ module _ (s : List ℕ) (B : Board) (e : accepted s ≡ done B) where
   one_solution_each model values values' bools bools' p q = (cc, cc)
 
   pub its_plain_model : (model : List ℕ) (values : List ℤ) (bools : List ℕ) → Paired B model values bools → plain_model B (assigned values bools) ≡ model
-  its_plain_model model values bools p = ap (λ a. plain_model B a) (ap₂ assigned (sym p.ints) (sym p.booleans)) ∙ pairing.plain-image B good model p.satisfies p.plain
+  its_plain_model model values bools p = ap (λ a. plain_model B a) (ap₂ assigned (sym p.ints) (sym p.booleans)) ∙ pairing.plain_image B good model p.satisfies p.plain
 
   pub one_plain_model_each : (model model' : List ℕ) (values : List ℤ) (bools : List ℕ) → Paired B model values bools → Paired B model' values bools → model ≡ model'
   one_plain_model_each model model' values bools p q = sym (its_plain_model model values bools p) ∙ its_plain_model model' values bools q

@@ -140,7 +140,7 @@ module _ (s : List ℕ) (B : Board) (e : accepted s ≡ done B) (x : ℕ) where
 
   -- "a no there ends with 'none'", and nothing else does
   pub a_first_no_ends_with_none : x < length B.bounds → closing_outcome s x (0 ∷ []) ≡ done none
-  a_first_no_ends_with_none h = closing_is (0 ∷ []) h refl ∙ bisection.first-no (bounds_of B x) 0 [] (λ z. omega arith) ∙ after-end none
+  a_first_no_ends_with_none h = closing_is (0 ∷ []) h refl ∙ bisection.first_no (bounds_of B x) 0 [] (λ z. omega arith) ∙ after-end none
 
   pub none_comes_of_a_first_no : (replies : List ℕ) → closing_outcome s x replies ≡ done none → replies ≡ 0 ∷ []
   none_comes_of_a_first_no replies d =
@@ -163,7 +163,7 @@ module _ (s : List ℕ) (B : Board) (e : accepted s ≡ done B) (x : ℕ) where
           let k = passed (b ∷ bs) d in
           let first = t.each 0 (omega arith) (bounds_of B x) (bounds_of B x).hi (closing_is [] k.0 refl ∙ after-end start) in
           let no : b ≢ 1 = λ y. (let q = (a_question_means B x (bounds_of B x).hi).0 (first.0 y) in n (record { values = q.values; bools = q.bools; solution = q.solution })) in
-          (bisection.after_none bs a (sym (bisection.first-no (bounds_of B x) b bs no) ∙ k.2)).1
+          (bisection.after_none bs a (sym (bisection.first_no (bounds_of B x) b bs no) ∙ k.2)).1
 
   -- "the range so far" has the least value in it
   pub the_least_is_in_the_range : (replies : List ℕ) (r : Bounds) (h : ℤ) → Truthful replies → closing_outcome s x replies ≡ done (unfinished r h) →
@@ -182,14 +182,14 @@ module _ (s : List ℕ) (B : Board) (e : accepted s ≡ done B) (x : ℕ) where
   pub no_question_is_left_after_14 : (replies : List ℕ) → 14 ≤ length replies → (r : Bounds) (h : ℤ) → ¬ (closing_outcome s x replies ≡ done (unfinished r h))
   no_question_is_left_after_14 replies l r h d =
       let k = passed replies d in
-      bisection.no-question 14 start replies (ends k.0) l r h k.2
+      bisection.no_question 14 start replies (ends k.0) l r h k.2
 
   -- the range so far lies within the variable's bounds, and the question in it: there is a p(x,h)
   pub every_question_lies_within_the_bounds : (replies : List ℕ) (r : Bounds) (h : ℤ) → closing_outcome s x replies ≡ done (unfinished r h) →
       ((bounds_of B x).lo ≤ℤ r.lo) × (r.lo ≤ℤ h) × (h ≤ℤ r.hi) × (r.hi ≤ℤ (bounds_of B x).hi)
   every_question_lies_within_the_bounds replies r h d =
       let k = passed replies d in
-      bisection.after-inside (bounds_of B x) start replies (unfinished r h) (begins_inside k.0) k.2
+      bisection.after_inside (bounds_of B x) start replies (unfinished r h) (begins_inside k.0) k.2
 
   -- ---- a driver
   -- f says of each question whether the board with its clause has a solution: then the replies that f gives to the questions put, 14 of them at
@@ -208,7 +208,7 @@ module _ (s : List ℕ) (B : Board) (e : accepted s ≡ done B) (x : ℕ) where
         ap (λ l. l ++ driving.reply f (closing_outcome s x l)) (alike n) ∙ ap (λ r. driven f (after start) n ++ driving.reply f r) (closing_is (driven f (after start) n) known b)
 
     pub a_driver_asks_14_questions_at_most : length (driven f (closing_outcome s x) 14) ≤ 14
-    a_driver_asks_14_questions_at_most = rw (alike 14) (driving.driven-few f 14 start)
+    a_driver_asks_14_questions_at_most = rw (alike 14) (driving.driven_few f 14 start)
 
     ending : (last : Earliest) (replies : List ℕ) → closing_outcome s x replies ≡ done last → bisection.Finished last → bisection.Tells (Met B x) last → Found (closing_outcome s x replies)
     ending (found v) replies d z k = least v d (least-of B x v k)
@@ -219,8 +219,8 @@ module _ (s : List ℕ) (B : Board) (e : accepted s ≡ done B) (x : ℕ) where
     a_driver_finds_the_least =
         let replies = driven f (after start) 14 in
         let b = (bytes replies).1 (driving.driven-bits f 14 start) in
-        let k = driving.driven-ends f 14 start (ends known) in
-        let t = driving.driven-true f (Met B x) (λ h. let q = at-most B x h in let y = right h in (λ z. q.0 (y.0 z), λ z. y.1 (q.1 z))) 14 start in
+        let k = driving.driven_ends f 14 start (ends known) in
+        let t = driving.driven_true f (Met B x) (λ h. let q = at-most B x h in let y = right h in (λ z. q.0 (y.0 z), λ z. y.1 (q.1 z))) 14 start in
         rw (alike 14)
         (ending k.last replies (closing_is replies known b ∙ k.is) k.finished
         (bisection.after-tells (Met B x) (bounds_of B x) start replies k.last (begins_inside known) (begins_true known) t k.is))

@@ -4,13 +4,13 @@ ghost use Rattle.definitions.specs.Reading.{big, twos, unsigned, signed};
 ghost use Rattle.fields.specs.Said.{said_unsigned, said_signed};
 
 // A field's value and the place after it, or that its bytes are not all there.
-#[derive(Drop)]
+#[derive(Clone, Copy)]
 pub enum Unsigned {
     Value { value: u32, next: usize },
     Missing,
 }
 
-#[derive(Drop)]
+#[derive(Clone, Copy)]
 pub enum Signed {
     Value { value: i32, next: usize },
     Missing,

@@ -5,7 +5,7 @@ ghost use Rattle.definitions.specs.Operations.{bits};
 ghost use Rattle.lent.specs.Said.{said_found};
 
 // The first index that fails a test.
-#[derive(Drop)]
+#[derive(Clone, Copy)]
 pub enum Found {
     At(usize),
     Nothing,

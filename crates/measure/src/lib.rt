@@ -10,7 +10,7 @@ pub mod pieces; // pieces.rt: what a piece of the rules adds
 pub mod sums; // sums.rt: the pieces and the variables together
 
 // What a piece of the rules adds, or several: clauses, places in the list, selectors.
-#[derive(Drop)]
+#[derive(Clone, Copy)]
 pub struct Share {
     pub clauses: u64,
     pub places: u64,
@@ -18,14 +18,14 @@ pub struct Share {
 }
 
 // Clauses, and their places in the list.
-#[derive(Drop)]
+#[derive(Clone, Copy)]
 pub struct Part {
     pub clauses: usize,
     pub places: usize,
 }
 
 // The sizes by kind: SAT variables that are Booleans, order variables and selectors; the axioms and the rules.
-#[derive(Drop)]
+#[derive(Clone, Copy)]
 pub struct Kinds {
     pub booleans: usize,
     pub orders: usize,
@@ -35,14 +35,14 @@ pub struct Kinds {
 }
 
 // SAT variables, clauses, list length.
-#[derive(Drop)]
+#[derive(Clone, Copy)]
 pub struct Totals {
     pub n: usize,
     pub m: usize,
     pub k: usize,
 }
 
-#[derive(Drop)]
+#[derive(Clone, Copy)]
 pub enum Measured {
     Accepted(Header, Totals),
     Refused(Refusal),

@@ -15,7 +15,7 @@ pub mod table; // table.rt: the variables' bounds
 pub mod body; // body.rt: counts, table and clauses
 
 // The three counts.
-#[derive(Drop)]
+#[derive(Clone, Copy)]
 pub struct Counts {
     pub ints: u32,
     pub bools: u32,
@@ -23,14 +23,14 @@ pub struct Counts {
 }
 
 // The counts and the place after them.
-#[derive(Drop)]
+#[derive(Clone, Copy)]
 pub enum CountsRead {
     Got(Counts, usize),
     Refused(Fault),
 }
 
 // What later passes over an accepted record need: version, counts, and where the variable table and the clauses begin.
-#[derive(Drop)]
+#[derive(Clone, Copy)]
 pub struct Header {
     pub version: u32,
     pub ints: usize,
@@ -41,14 +41,14 @@ pub struct Header {
 }
 
 // The header, or why and where there is none.
-#[derive(Drop)]
+#[derive(Clone, Copy)]
 pub enum HeaderRead {
     Got(Header),
     Refused(Fault),
 }
 
 // The same in 01's words.
-#[derive(Drop)]
+#[derive(Clone, Copy)]
 pub enum Opening {
     Opened(Header),
     Refused(Refusal),

@@ -7,7 +7,7 @@ pub mod clauses; // clauses.rt: literals and clauses
 pub mod rereading; // rereading.rt: a literal of an accepted record, without checks
 
 // What the record has said before.
-#[derive(Drop)]
+#[derive(Clone, Copy)]
 pub struct Context {
     pub version: u32,
     pub ints: u32,
@@ -15,7 +15,7 @@ pub struct Context {
 }
 
 // What a field is refused for: 4 to 8, and 15 to 17 for a term's variable, unknown or repeated, and a comparison's constant.
-#[derive(Drop)]
+#[derive(Clone, Copy)]
 pub enum Why {
     Count,
     Bound,
@@ -28,27 +28,27 @@ pub enum Why {
 }
 
 // Why, and the place of the field's first byte.
-#[derive(Drop)]
+#[derive(Clone, Copy)]
 pub struct Fault {
     pub why: Why,
     pub place: usize,
 }
 
 // A field's value and the place after it.
-#[derive(Drop)]
+#[derive(Clone, Copy)]
 pub enum Number {
     Value { value: u32, next: usize },
     Refused(Fault),
 }
 
-#[derive(Drop)]
+#[derive(Clone, Copy)]
 pub enum Whole {
     Value { value: i32, next: usize },
     Refused(Fault),
 }
 
 // A comparison is known by the place of its term count, and its constant.
-#[derive(Drop)]
+#[derive(Clone, Copy)]
 pub enum Literal {
     Boolean(u32),
     Negated(u32),
@@ -56,21 +56,21 @@ pub enum Literal {
 }
 
 // A literal and the place after it.
-#[derive(Drop)]
+#[derive(Clone, Copy)]
 pub enum LiteralRead {
     Got(Literal, usize),
     Refused(Fault),
 }
 
 // The same of a literal that was read before.
-#[derive(Drop)]
+#[derive(Clone, Copy)]
 pub struct Reread {
     pub literal: Literal,
     pub next: usize,
 }
 
 // Of a part that is only tested: the place after it.
-#[derive(Drop)]
+#[derive(Clone, Copy)]
 pub enum Step {
     Next(usize),
     Refused(Fault),

@@ -10,32 +10,32 @@ pub mod lists; // lists.rt: text read into a lent list
 pub mod marks; // marks.rt: a variable that does not stand in a reply exactly once
 pub mod models; // models.rt: a reply read into a lent model
 
-#[derive(Drop)]
+#[derive(Clone, Copy)]
 pub enum Word {
     Past(usize),
     Bad(usize),
 }
 
-#[derive(Drop)]
+#[derive(Clone, Copy)]
 pub enum Count {
     Value { value: u32, next: usize },
     Bad(usize),
 }
 
-#[derive(Drop)]
+#[derive(Clone, Copy)]
 pub enum Grown {
     To(u32),
     Bad(usize),
 }
 
-#[derive(Drop)]
+#[derive(Clone, Copy)]
 pub enum Numeral {
     Number { minus: bool, size: u32, next: usize },
     Bad(usize),
 }
 
 // What stands past blanks.
-#[derive(Drop)]
+#[derive(Clone, Copy)]
 pub enum Next {
     End(usize),
     Number {
@@ -47,20 +47,20 @@ pub enum Next {
     Bad(usize),
 }
 
-#[derive(Drop)]
+#[derive(Clone, Copy)]
 pub enum Head {
     Sizes { n: u32, m: u32, next: usize },
     Bad(usize),
 }
 
-#[derive(Drop)]
+#[derive(Clone, Copy)]
 pub enum Counted {
     Numbers(usize),
     Bad(usize),
 }
 
 // A reply's number: a literal, with whether a line begins after it, or the 0 that is the last.
-#[derive(Drop)]
+#[derive(Clone, Copy)]
 pub enum Value {
     Literal {
         minus: bool,
@@ -73,14 +73,14 @@ pub enum Value {
 }
 
 // A reply's literals: how many, and whether they are of 1, 2, .. in this order.
-#[derive(Drop)]
+#[derive(Clone, Copy)]
 pub enum Listed {
     Literals { count: usize, rising: bool },
     Bad(usize),
 }
 
 // A reply: that there is no model, or its literals, whose lines begin at `from`.
-#[derive(Drop)]
+#[derive(Clone, Copy)]
 pub enum Heard {
     Nothing,
     Literals {

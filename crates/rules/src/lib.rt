@@ -12,7 +12,7 @@ use reader::rereading::literal_again;
 const COMPARISON: u32 = 2;
 
 // Where a pass stands in the rules, the record's tail.
-#[derive(Drop)]
+#[derive(Clone, Copy)]
 pub struct Cursor {
     pub place: usize,
     // of the present clause, still to come
@@ -26,7 +26,7 @@ pub struct Cursor {
 }
 
 // A line of literals with its first selector, or a comparison: alone, or under its selector.
-#[derive(Drop)]
+#[derive(Clone, Copy)]
 pub enum Piece {
     Line {
         place: usize,
@@ -45,14 +45,14 @@ pub enum Piece {
 }
 
 // The next piece of the rules and where the pass stands behind it.
-#[derive(Drop)]
+#[derive(Clone, Copy)]
 pub enum Ahead {
     Met(Piece, Cursor),
     Nothing,
 }
 
 // A step comes to a piece, or past something that has none, or to the end.
-#[derive(Drop)]
+#[derive(Clone, Copy)]
 pub enum Stepped {
     Met(Piece, Cursor),
     Passed(Cursor),

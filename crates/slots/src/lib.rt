@@ -1,20 +1,20 @@
 // What later passes read, plainly and without checks, from a record that was accepted before.
 
 // The bounds of an integer variable.
-#[derive(Drop)]
+#[derive(Clone, Copy)]
 pub struct Bounds {
     pub lower: i32,
     pub upper: i32,
 }
 
-#[derive(Drop)]
+#[derive(Clone, Copy)]
 pub struct Term {
     pub coefficient: i32,
     pub variable: usize,
 }
 
 // A comparison's terms are the first n.
-#[derive(Drop)]
+#[derive(Clone, Copy)]
 pub struct Terms {
     pub n: usize,
     pub terms: [Term; 3],

@@ -1,7 +1,7 @@
 // A comparison's tuples one after another, and the literal of each term at the present one.
 
 // A term: its coefficient, its variable's bounds and the number of p(x, lower - 1).
-#[derive(Drop)]
+#[derive(Clone, Copy)]
 pub struct Slot {
     pub coefficient: i32,
     pub lower: i32,
@@ -10,7 +10,7 @@ pub struct Slot {
 }
 
 // The sum of the first n slots is at most the constant.
-#[derive(Drop)]
+#[derive(Clone, Copy)]
 pub struct Comparison {
     pub n: usize,
     pub slots: [Slot; 3],
@@ -18,14 +18,14 @@ pub struct Comparison {
 }
 
 // The least and the greatest bound of a term.
-#[derive(Drop)]
+#[derive(Clone, Copy)]
 pub struct Range {
     pub lo: i32,
     pub hi: i32,
 }
 
 // A bound as its offset k from the least bound lo; the largest offset is w.
-#[derive(Drop)]
+#[derive(Clone, Copy)]
 pub struct Place {
     pub lo: i32,
     pub k: u32,
@@ -33,7 +33,7 @@ pub struct Place {
 }
 
 // A tuple of three bounds. The places of terms that a comparison lacks stand in front.
-#[derive(Drop)]
+#[derive(Clone, Copy)]
 pub struct Walk {
     pub a: Place,
     pub b: Place,
@@ -42,7 +42,7 @@ pub struct Walk {
 
 // A term's literal at an offset, and how far it is from there to the next multiple of d, the coefficient's magnitude: behind that
 // offset the literal rises by 1.
-#[derive(Drop)]
+#[derive(Clone, Copy)]
 pub struct Spot {
     pub d: u32,
     pub r: u32,
@@ -50,14 +50,14 @@ pub struct Spot {
 }
 
 // A literal in front of others, or none.
-#[derive(Drop)]
+#[derive(Clone, Copy)]
 pub enum Front {
     Nothing,
     Literal(i32),
 }
 
 // Clauses that differ in the literals of the last two terms alone: so many, from these two literals on.
-#[derive(Drop)]
+#[derive(Clone, Copy)]
 pub struct Run {
     pub front: Front,
     pub y: Spot,
@@ -66,14 +66,14 @@ pub struct Run {
 }
 
 // The clauses of a row: one clause of one literal or none where there are fewer than two terms, else a run.
-#[derive(Drop)]
+#[derive(Clone, Copy)]
 pub enum Row {
     One(Front),
     Many(Run),
 }
 
 // Where a walk stands: at a tuple, or behind the last.
-#[derive(Drop)]
+#[derive(Clone, Copy)]
 pub enum At {
     Tuple(Walk),
     End,

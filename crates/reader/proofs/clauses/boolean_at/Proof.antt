@@ -9,35 +9,35 @@ use Rattle.reader.proofs.Literals.{kind_boolean}
 use Rattle.reader.proofs.clauses.boolean_at.Statement.{statement}
 use Rattle.reader.proofs.clauses.boolean_at.Tie as tie
 
-number-at-requires : tie.Need-number-at-requires
+number-at-requires : tie.Need-number_at-read-requires
 number-at-requires c κs = search rules
 
-enum-known-read : tie.Need-enum-known-read
+enum-known-read : tie.Need-enum_known-read
 enum-known-read c = search rules
 
-enum_told : tie.Need-enum-told
+enum_told : tie.Need-enum_told-1
 enum_told c = search rules
 
-of-number-requires : tie.Need-of-number-requires
+of-number-requires : tie.Need-of_number-requires
 of-number-requires c κs = search rules
 
-returns : tie.Need-returns
+returns : tie.Need-returns-in_default
 unfolding boolean number_from
 returns c =
-    (rw (kind_boolean _ _ _ _ c.before.before.before.before.before.requires, told said_number c.before.before.before.number_at.ensures c.of_number.ensures), tt)
+    (rw (kind_boolean _ _ _ _ c.requires, told said_number c.number_at-read.ensures c.of_number.ensures), tt)
 
-returns-2 : tie.Need-returns-2
+returns-2 : tie.Need-returns-then-kind-eq0
 unfolding boolean number_from
 returns-2 c =
-    (rw (kind_boolean _ _ _ _ c.before.before.before.before.before.before.requires, told said_number c.before.before.before.before.number_at.ensures c.before.before.read.given.1, eq-eqb _ _ c.if1.true), tt)
+    (rw (kind_boolean _ _ _ _ c.requires, told said_number c.number_at-read.ensures c.in-Value.is, eq-eqb _ _ c.if-kind-eq0.true), tt)
 
-returns-3 : tie.Need-returns-3
+returns-3 : tie.Need-returns
 unfolding boolean number_from
 returns-3 c =
-    (rw (kind_boolean _ _ _ _ c.before.before.before.before.before.before.requires, told said_number c.before.before.before.before.number_at.ensures c.before.before.read.given.1, ne_eqb _ _ c.if1.false), tt)
+    (rw (kind_boolean _ _ _ _ c.requires, told said_number c.number_at-read.ensures c.in-Value.is, ne_eqb _ _ c.if-kind-eq0.false), tt)
 
-pub boolean-at-spec : {M : Type 1} → statement M
-boolean-at-spec =
+pub boolean_at_spec : {M : Type 1} → statement M
+boolean_at_spec =
     tie.close
     (tie.spec
     number-at-requires

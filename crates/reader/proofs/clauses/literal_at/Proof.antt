@@ -9,42 +9,42 @@ use Rattle.reader.proofs.Literals.{literal_is, kind_comparison}
 use Rattle.reader.proofs.clauses.literal_at.Statement.{statement}
 use Rattle.reader.proofs.clauses.literal_at.Tie as tie
 
-number-at-requires : tie.Need-number-at-requires
+number-at-requires : tie.Need-number_at-read-requires
 number-at-requires c κs = search rules
 
-enum-known-read : tie.Need-enum-known-read
+enum-known-read : tie.Need-enum_known-read
 enum-known-read c = search rules
 
-enum_told : tie.Need-enum-told
+enum_told : tie.Need-enum_told-1
 enum_told c = search rules
 
-of-number-requires : tie.Need-of-number-requires
+of-number-requires : tie.Need-of_number-requires
 of-number-requires c κs = search rules
 
-returns : tie.Need-returns
+returns : tie.Need-returns-in_default
 returns c =
-    (rw (literal_is, told said_number c.before.before.before.number_at.ensures c.of_number.ensures), tt)
+    (rw (literal_is, told said_number c.number_at-read.ensures c.of_number.ensures), tt)
 
-boolean-at-requires : tie.Need-boolean-at-requires
+boolean-at-requires : tie.Need-boolean_at-requires
 boolean-at-requires c κs = search rules
 
-returns-2 : tie.Need-returns-2
+returns-2 : tie.Need-returns-then-kind-lt2
 returns-2 c =
-    let at = c.before.before.before.before.before.before.before.args.at in
-    let e = told said_number c.before.before.before.before.before.number_at.ensures c.before.before.before.read.given.1 in
-    (rw (literal_is, e) c.boolean-at.ensures.0, rw (ap (λ g. g.next) (number_got Why.Literal 0 2 1 _ at e).0) at c.boolean-at.ensures.1)
+    let at = c.args.at in
+    let e = told said_number c.number_at-read.ensures c.in-Value.is in
+    (rw (literal_is, e) c.boolean_at.ensures.0, rw (ap (λ g. g.next) (number_got Why.Literal 0 2 1 _ at e).0) at c.boolean_at.ensures.1)
 
-comparison-at-requires : tie.Need-comparison-at-requires
+comparison-at-requires : tie.Need-comparison_at-requires
 comparison-at-requires c κs = search rules
 
-returns-3 : tie.Need-returns-3
+returns-3 : tie.Need-returns
 returns-3 c =
-    let at = c.before.before.before.before.before.before.before.args.at in
-    let e = told said_number c.before.before.before.before.before.number_at.ensures c.before.before.before.read.given.1 in
-    (rw (literal_is, e, kind_comparison _ _ _ _ c.before.if1.false) c.comparison-at.ensures.0, rw (ap (λ g. g.next) (number_got Why.Literal 0 2 1 _ at e).0) at c.comparison-at.ensures.1)
+    let at = c.args.at in
+    let e = told said_number c.number_at-read.ensures c.in-Value.is in
+    (rw (literal_is, e, kind_comparison _ _ _ _ c.if-kind-lt2.false) c.comparison_at.ensures.0, rw (ap (λ g. g.next) (number_got Why.Literal 0 2 1 _ at e).0) at c.comparison_at.ensures.1)
 
-pub literal-at-spec : {M : Type 1} → statement M
-literal-at-spec =
+pub literal_at_spec : {M : Type 1} → statement M
+literal_at_spec =
     tie.close
     (tie.spec
     number-at-requires

@@ -11,48 +11,48 @@ use Rattle.reader.proofs.Terms.{seen_turn, seen_none}
 use Rattle.reader.proofs.comparisons.is_repeated.Statement.{statement}
 use Rattle.reader.proofs.comparisons.is_repeated.Tie as tie
 
-abbrev invariant-loop : tie.invariant-loop
+abbrev invariant-loop : tie.invariant-loop-left
 invariant-loop rules first n variable left₀ left =
     (left ≤ n) × (any (eqb variable) (seen_at rules first n) ≡ any (eqb variable) (seen_at rules first left))
 
-abbrev decreases-loop : tie.decreases-loop
+abbrev decreases-loop : tie.decreases-loop-left
 decreases-loop rules first n variable left₀ left = left
 
-loop-holds : tie.Need-loop-init invariant-loop decreases-loop
+loop-holds : tie.Need-loop-left-init invariant-loop decreases-loop
 loop-holds c = (omega arith, refl)
 
-sub-left : tie.Need-overflow-sub-left invariant-loop decreases-loop
+sub-left : tie.Need-overflow_sub-left invariant-loop decreases-loop
 sub-left c = search rules
 
-mul-unchecked : tie.Need-overflow-mul-unchecked invariant-loop decreases-loop
+mul-unchecked : tie.Need-overflow_mul-left invariant-loop decreases-loop
 mul-unchecked c = search rules
 
-add-unchecked : tie.Need-overflow-add-unchecked invariant-loop decreases-loop
+add-unchecked : tie.Need-overflow_add-first invariant-loop decreases-loop
 add-unchecked c = search rules
 
-add-unchecked-2 : tie.Need-overflow-add-unchecked-2 invariant-loop decreases-loop
+add-unchecked-2 : tie.Need-overflow_add-first-in-loop-left invariant-loop decreases-loop
 add-unchecked-2 c = search rules
 
 unchecked-requires : tie.Need-unchecked-requires invariant-loop decreases-loop
 unchecked-requires c κs = search rules
 
-returns : tie.Need-returns invariant-loop decreases-loop
+returns : tie.Need-returns-then-unchecked-variable invariant-loop decreases-loop
 returns c =
-    sym (c.before.before.before.loop.invariant.1 ∙ rw (seen_turn _ _ _ _ c.before.before.loop-test.true, eq-eqb _ _ (sym c.if1.true ∙ c.before.unchecked.ensures)))
+    sym (c.loop-left.invariant.1 ∙ rw (seen_turn _ _ _ _ c.loop-left-test.true, eq-eqb _ _ (sym c.if-unchecked-variable.true ∙ c.unchecked.ensures)))
 
-loop-less : tie.Need-loop-smaller invariant-loop decreases-loop
+loop-less : tie.Need-loop-left-smaller invariant-loop decreases-loop
 loop-less c = search rules
 
-loop-again : tie.Need-loop-preserved invariant-loop decreases-loop
+loop-again : tie.Need-loop-left-preserved invariant-loop decreases-loop
 loop-again c =
-    (omega arith, c.before.before.before.loop.invariant.1 ∙ rw (seen_turn _ _ _ _ c.before.before.loop-test.true, ne_eqb _ _ (λ e. c.if1.false (c.before.unchecked.ensures ∙ sym e))))
+    (omega arith, c.loop-left.invariant.1 ∙ rw (seen_turn _ _ _ _ c.loop-left-test.true, ne_eqb _ _ (λ e. c.if-unchecked-variable.false (c.unchecked.ensures ∙ sym e))))
 
-returns-2 : tie.Need-returns-2 invariant-loop decreases-loop
+returns-2 : tie.Need-returns invariant-loop decreases-loop
 returns-2 c =
-    sym (c.before.loop.invariant.1 ∙ seen_none _ _ _ _ c.loop-test.false)
+    sym (c.loop-left.invariant.1 ∙ seen_none _ _ _ _ c.loop-left-test.false)
 
-pub is-repeated-spec : {M : Type 1} → statement M
-is-repeated-spec =
+pub is_repeated_spec : {M : Type 1} → statement M
+is_repeated_spec =
     tie.close
     (tie.spec
     invariant-loop

@@ -8,44 +8,44 @@ use Rattle.reader.proofs.Terms.{Passing, passing_none, passing-more, passing_sto
 use Rattle.reader.proofs.comparisons.past_terms.Statement.{statement}
 use Rattle.reader.proofs.comparisons.past_terms.Tie as tie
 
-abbrev invariant-loop : tie.invariant-loop
+abbrev invariant-loop : tie.invariant-loop-i
 invariant-loop rules known first n place₀ i₀ place i = Passing (context_of known) rules first n i place
 
-abbrev decreases-loop : tie.decreases-loop
+abbrev decreases-loop : tie.decreases-loop-i
 decreases-loop rules known first n place₀ i₀ place i = n - i
 
-loop-holds : tie.Need-loop-init invariant-loop decreases-loop
-loop-holds c = passing_none _ _ _ _ c.before.requires
+loop-holds : tie.Need-loop-i-init invariant-loop decreases-loop
+loop-holds c = passing_none _ _ _ _ c.requires
 
-past-term-requires : tie.Need-past-term-requires invariant-loop decreases-loop
+past-term-requires : tie.Need-past_term-step-requires invariant-loop decreases-loop
 past-term-requires c κs = search rules
 
-enum-known-step : tie.Need-enum-known-step invariant-loop decreases-loop
+enum-known-step : tie.Need-enum_known-step invariant-loop decreases-loop
 enum-known-step c = search rules
 
-enum_told : tie.Need-enum-told invariant-loop decreases-loop
+enum_told : tie.Need-enum_told-1 invariant-loop decreases-loop
 enum_told c = search rules
 
-returns : tie.Need-returns invariant-loop decreases-loop
+returns : tie.Need-returns-in_default invariant-loop decreases-loop
 returns c =
-    rw c.enum_told.given.1 (sym (passing_stop _ _ _ _ c.before.before.before.loop-test.true c.before.before.before.before.loop.invariant (told said_step c.before.before.past-term.ensures c.enum_told.given.1)))
+    rw c.in_default.is (sym (passing_stop _ _ _ _ c.loop-i-test.true c.loop-i.invariant (told said_step c.past_term-step.ensures c.in_default.is)))
 
-add-i : tie.Need-overflow-add-i invariant-loop decreases-loop
+add-i : tie.Need-overflow_add-i invariant-loop decreases-loop
 add-i c = search rules
 
-loop-less : tie.Need-loop-smaller invariant-loop decreases-loop
+loop-less : tie.Need-loop-i-smaller invariant-loop decreases-loop
 loop-less c = search rules
 
-loop-again : tie.Need-loop-preserved invariant-loop decreases-loop
+loop-again : tie.Need-loop-i-preserved invariant-loop decreases-loop
 loop-again c =
-    passing-more _ _ _ _ c.before.before.before.before.loop-test.true c.before.before.before.before.before.loop.invariant (told said_step c.before.before.before.past-term.ensures c.before.step.given.1)
+    passing-more _ _ _ _ c.loop-i-test.true c.loop-i.invariant (told said_step c.past_term-step.ensures c.in-Next.is)
 
-returns-2 : tie.Need-returns-2 invariant-loop decreases-loop
+returns-2 : tie.Need-returns invariant-loop decreases-loop
 returns-2 c =
-    sym (passing-all _ _ _ _ c.loop-test.false c.before.loop.invariant)
+    sym (passing-all _ _ _ _ c.loop-i-test.false c.loop-i.invariant)
 
-pub past-terms-spec : {M : Type 1} → statement M
-past-terms-spec =
+pub past_terms_spec : {M : Type 1} → statement M
+past_terms_spec =
     tie.close
     (tie.spec
     invariant-loop

@@ -8,40 +8,40 @@ use mathlib.Core.Path.{sym, ◌∙◌}
 use Rattle.reader.proofs.comparisons.past_variable.Statement.{statement}
 use Rattle.reader.proofs.comparisons.past_variable.Tie as tie
 
-unsigned-at-requires : tie.Need-unsigned-at-requires
+unsigned-at-requires : tie.Need-unsigned_at-requires
 unsigned-at-requires c κs = search rules
 
-enum-known-value : tie.Need-enum-known-value
+enum-known-value : tie.Need-enum_known-value
 enum-known-value c = search rules
 
-enum_told : tie.Need-enum-told
+enum_told : tie.Need-enum_told-1
 enum_told c = search rules
 
-returns : tie.Need-returns
+returns : tie.Need-returns-in_default
 unfolding variable
 returns c =
-    rw (told (said_unsigned c.before.before.before.before.args.at) c.before.before.unsigned-at.ensures c.enum_told.given.1)
+    rw (told (said_unsigned c.args.at) c.unsigned_at.ensures c.in_default.is)
 
-returns-2 : tie.Need-returns-2
+returns-2 : tie.Need-returns-then-known-value
 unfolding variable
 returns-2 c =
-    rw (told (said_unsigned c.before.before.before.before.before.before.before.args.at) c.before.before.before.before.before.unsigned-at.ensures c.before.before.before.value.given.1, le-ltb _ _ c.if1.true)
+    rw (told (said_unsigned c.args.at) c.unsigned_at.ensures c.in-Value.is, le-ltb _ _ c.if-known-value.true)
 
-is-repeated-requires : tie.Need-is-repeated-requires
+is-repeated-requires : tie.Need-is_repeated-requires
 is-repeated-requires c κs = search rules
 
-returns-3 : tie.Need-returns-3
+returns-3 : tie.Need-returns-then-is_repeated
 unfolding variable
 returns-3 c =
-    rw (told (said_unsigned c.before.before.before.before.before.before.before.before.before.args.at) c.before.before.before.before.before.before.before.unsigned-at.ensures c.before.before.before.before.before.value.given.1, lt-ltb _ _ c.before.before.if1.false, sym c.before.is-repeated.ensures ∙ c.if2.true)
+    rw (told (said_unsigned c.args.at) c.unsigned_at.ensures c.in-Value.is, lt-ltb _ _ c.if-known-value.false, sym c.is_repeated.ensures ∙ c.if-is_repeated.true)
 
-returns-4 : tie.Need-returns-4
+returns-4 : tie.Need-returns
 unfolding variable
 returns-4 c =
-    rw (told (said_unsigned c.before.before.before.before.before.before.before.before.before.args.at) c.before.before.before.before.before.before.before.unsigned-at.ensures c.before.before.before.before.before.value.given.1, lt-ltb _ _ c.before.before.if1.false, sym c.before.is-repeated.ensures ∙ c.if2.false)
+    rw (told (said_unsigned c.args.at) c.unsigned_at.ensures c.in-Value.is, lt-ltb _ _ c.if-known-value.false, sym c.is_repeated.ensures ∙ c.if-is_repeated.false)
 
-pub past-variable-spec : {M : Type 1} → statement M
-past-variable-spec =
+pub past_variable_spec : {M : Type 1} → statement M
+past_variable_spec =
     tie.close
     (tie.spec
     unsigned-at-requires

@@ -21,41 +21,41 @@ module _ (z : ℤ) (f : SFits w32 z) where
   turned : SFits w64 (pos 0 -ℤ z)
   turned = abs_fits (omega (arith, size_same z, Fits-nat_abs {w' = w32} tt f))
 
-cast-result : tie.Need-overflow-cast-result
+cast-result : tie.Need-overflow_cast-result
 cast-result c =
-    let f = c.before.ranges.number in simp to_z-of_z (sfits_widen tt f)
+    let f = c.ranges.number in simp to_z-of_z (sfits_widen tt f)
 
-sub-result : tie.Need-overflow-sub-result
+sub-result : tie.Need-overflow_sub-result
 sub-result c =
-    let f = c.before.ranges.number in
-    let g = wide c.before.args.number f in
-    simp to_z-of_z (turned c.before.args.number f)
+    let f = c.ranges.number in
+    let g = wide c.args.number f in
+    simp to_z-of_z (turned c.args.number f)
 
-cast-result-2 : tie.Need-overflow-cast-result-2
+cast-result-2 : tie.Need-overflow_cast-result-then-number-lt0
 cast-result-2 c =
-    let z = c.before.args.number in
-    let f = c.before.ranges.number in
+    let z = c.args.number in
+    let f = c.ranges.number in
     let g = wide z f in
     let h = turned z f in
     simp to_z-of_z (yes_non_neg {z = pos 0 -ℤ z} (omega (whole, back f, sub_law (pos 0) z)), Fits-nat_abs tt h)
 
-returns : tie.Need-returns
+returns : tie.Need-returns-then-number-lt0
 returns c =
-    let z = c.before.args.number in
-    let f = c.before.ranges.number in
+    let z = c.args.number in
+    let f = c.ranges.number in
     let g = wide z f in
     let h = turned z f in
     simp to_z-of_z (size_same z)
 
-cast-result-3 : tie.Need-overflow-cast-result-3
+cast-result-3 : tie.Need-overflow_cast-result-2
 cast-result-3 c =
-    let z = c.before.args.number in
-    let f = c.before.ranges.number in
+    let z = c.args.number in
+    let f = c.ranges.number in
     simp to_z-of_z (yes_non_neg {z = z} (omega (whole, back f)), Fits-nat_abs tt f)
 
-returns-2 : tie.Need-returns-2
-returns-2 c = let f = c.before.ranges.number in simp to_z-of_z
+returns-2 : tie.Need-returns
+returns-2 c = let f = c.ranges.number in simp to_z-of_z
 
-pub magnitude-spec : {M : Type 1} → statement M
-magnitude-spec =
+pub magnitude_spec : {M : Type 1} → statement M
+magnitude_spec =
     tie.close (tie.spec cast-result sub-result cast-result-2 returns cast-result-3 returns-2)

@@ -11,32 +11,32 @@ use Rattle.text.proofs.numbers.put_ended.Statement.{statement}
 use Rattle.text.proofs.numbers.put_ended.Tie as tie
 
 -- the digits are written
-digits-put : (c : tie.After-put-decimal) → let a = c.before.before.before.args in
-    Filling (with_end a.n a.end) (a.end ∷ []) a.out.now c.put-decimal.new.1.0 c.put-decimal.result
+digits-put : (c : tie.After-put_decimal-at) → let a = c.args in
+    Filling (with_end a.n a.end) (a.end ∷ []) a.out.now c.put_decimal-at.new.out c.put_decimal-at.result
 digits-put c =
     let s = c.before.before.before in
-    begun (decimal s.args.n) _ _ _ _ s.requires c.put-decimal.ensures.0 c.put-decimal.ensures.1
+    begun (decimal s.args.n) _ _ _ _ s.requires c.put_decimal-at.ensures.0 c.put_decimal-at.ensures.1
 
-put-decimal-requires : tie.Need-put-decimal-requires
+put-decimal-requires : tie.Need-put_decimal-at-requires
 put-decimal-requires c κs =
     let s = c.before.before in
     omega (arith, s.requires, length-append (decimal s.args.n) (s.args.end ∷ []))
 
-slice-write-out : tie.Need-slice-write-out
+slice-write-out : tie.Need-bounds-out-at
 slice-write-out c = omega (arith, room (digits-put c.before.before))
 
-add-result : tie.Need-overflow-add-result
+add-result : tie.Need-overflow_add-result
 add-result c =
-    omega (arith, c.before.before.put-decimal.ensures.0, digits-length 19 c.before.before.before.before.before.args.n)
+    omega (arith, c.put_decimal-at.ensures.0, digits-length 19 c.args.n)
 
-same_length : tie.Need-same-length
+same_length : tie.Need-shape_of-out
 same_length c =
-    let d = c.before.before.put-decimal in
-    length-set d.new.1.0 d.result c.before.before.before.before.before.args.end ∙ d.auto.1.0
+    let d = c.put_decimal-at in
+    length-set d.new.out d.result c.args.end ∙ d.auto.out
 
 returns : tie.Need-returns
-returns c = ended (one (digits-put c.before.before) c.before.before.before.before.before.args.end [] refl) refl
+returns c = ended (one (digits-put c.before.before) c.args.end [] refl) refl
 
-pub put-ended-spec : {M : Type 1} → statement M
-put-ended-spec =
+pub put_ended_spec : {M : Type 1} → statement M
+put_ended_spec =
     tie.close (tie.spec put-decimal-requires slice-write-out add-result same_length returns)

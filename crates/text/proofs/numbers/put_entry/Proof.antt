@@ -18,23 +18,23 @@ use Rattle.text.proofs.numbers.put_entry.Statement.{statement}
 use Rattle.text.proofs.numbers.put_entry.Tie as tie
 
 -- the text, by sign
-above : (c : tie.After-magnitude) → with_end c.magnitude.result 32 ≡ entry c.before.before.before.args.number
+above : (c : tie.After-magnitude) → with_end c.magnitude.result 32 ≡ entry c.args.number
 above c =
-    let f = c.before.before.before.ranges.number in
-    sym (entry-above c.before.before.before.args.number c.magnitude.result (simp to_z-of_z at c.magnitude.ensures) (omega (whole, back f)))
+    let f = c.ranges.number in
+    sym (entry-above c.args.number c.magnitude.result (simp to_z-of_z at c.magnitude.ensures) (omega (whole, back f)))
 
-below : (c : tie.After-magnitude2) → 45 ∷ with_end c.magnitude2.result 32 ≡ entry c.before.before.before.before.args.number
+below : (c : tie.After-magnitude-then-number-lt0) → 45 ∷ with_end c.magnitude-then-number-lt0.result 32 ≡ entry c.args.number
 below c =
-    let f = c.before.before.before.before.ranges.number in
-    sym (entry-below c.before.before.before.before.args.number c.magnitude2.result (simp to_z-of_z at c.magnitude2.ensures) (omega (whole, back f)))
+    let f = c.ranges.number in
+    sym (entry-below c.args.number c.magnitude-then-number-lt0.result (simp to_z-of_z at c.magnitude-then-number-lt0.ensures) (omega (whole, back f)))
 
-zero : (c : tie.Else2) → with_end 0 10 ≡ entry c.before.before.before.args.number
+zero : (c : tie.Else-number-lt0) → with_end 0 10 ≡ entry c.args.number
 zero c =
-    let f = c.before.before.before.ranges.number in
-    sym (entry_zero c.before.before.before.args.number (omega (whole, back f)) (omega (whole, back f)))
+    let f = c.ranges.number in
+    sym (entry_zero c.args.number (omega (whole, back f)) (omega (whole, back f)))
 
 -- the minus is written
-minus-put : (c : tie.After-magnitude2) → let text = with_end c.magnitude2.result 32 in let out = c.before.before.before.before.args.out.now in
+minus-put : (c : tie.After-magnitude-then-number-lt0) → let text = with_end c.magnitude-then-number-lt0.result 32 in let out = c.args.out.now in
     Filling (45 ∷ text) text out (set out 0 45) 1
 minus-put c =
     let s = c.before.before.before.before in
@@ -43,66 +43,66 @@ minus-put c =
 magnitude-requires : tie.Need-magnitude-requires
 magnitude-requires c κs = search rules
 
-put-ended-requires : tie.Need-put-ended-requires
-put-ended-requires c κs = omega (arith, c.before.before.before.before.requires, ap length (above c.before))
+put-ended-requires : tie.Need-put_ended-requires
+put-ended-requires c κs = omega (arith, c.requires, ap length (above c.before))
 
-same_length : tie.Need-same-length
+same_length : tie.Need-shape_of-out-then-number-gt0
 same_length c = search rules
 
-returns : tie.Need-returns
-returns c = retold _ _ _ _ _ (above c.before.before.before.before) c.before.before.put_ended.ensures
+returns : tie.Need-returns-then-number-gt0
+returns c = retold _ _ _ _ _ (above c.before.before.before.before) c.put_ended.ensures
 
-slice-write-out : tie.Need-slice-write-out
+slice-write-out : tie.Need-bounds-out-0
 slice-write-out c =
     let s = c.before.before.before in
     let f = s.ranges.number in
     omega (arith, s.requires, ap length (entry-below s.args.number (nat_abs s.args.number) refl (omega (whole, back f))))
 
-magnitude-requires-2 : tie.Need-magnitude-requires-2
+magnitude-requires-2 : tie.Need-magnitude-requires-then-number-lt0
 magnitude-requires-2 c κs = search rules
 
-sub-put-ended : tie.Need-overflow-sub-put-ended
+sub-put-ended : tie.Need-slice_bounds-put_ended-count
 sub-put-ended c = omega (arith, room (minus-put c))
 
-part-put-ended-start : tie.Need-slice-bounds-put-ended-start
+part-put-ended-start : tie.Need-slice_bounds-put_ended-start
 part-put-ended-start c = omega (arith, room (minus-put c))
 
-part-put-ended-end : tie.Need-slice-bounds-put-ended-end
+part-put-ended-end : tie.Need-slice_bounds-put_ended-end
 part-put-ended-end c = search rules
 
-put-ended-requires-2 : tie.Need-put-ended-requires-2
+put-ended-requires-2 : tie.Need-put_ended-requires-then-number-lt0
 put-ended-requires-2 c κs =
-    omega (arith, room (minus-put c.before), rest-length (set c.before.before.before.before.before.args.out.now 0 45) 1)
+    omega (arith, room (minus-put c.before), rest-length (set c.args.out.now 0 45) 1)
 
-add-result : tie.Need-overflow-add-result
+add-result : tie.Need-overflow_add-result
 add-result c =
-    let n = c.before.before.put-ended2 in
+    let n = c.put_ended-then-number-lt0 in
     let m = c.before.before.before.before in
-    let k : 1 + n.result ≤ length m.before.before.before.before.args.out.now = omega (arith, room_before (minus-put m), n.ensures.0) in
+    let k : 1 + n.result ≤ length m.args.out.now = omega (arith, room_before (minus-put m), n.ensures.0) in
     search rules
 
-same-length-2 : tie.Need-same-length-2
+same-length-2 : tie.Need-shape_of-out-then-number-lt0
 same-length-2 c =
-    let n = c.before.before.put-ended2 in
+    let n = c.put_ended-then-number-lt0 in
     (last (minus-put c.before.before.before.before) _ _ n.ensures.0 n.ensures.1).2
 
-returns-2 : tie.Need-returns-2
+returns-2 : tie.Need-returns-then-number-lt0
 returns-2 c =
-    let n = c.before.before.put-ended2 in
+    let n = c.put_ended-then-number-lt0 in
     let r = last (minus-put c.before.before.before.before) _ _ n.ensures.0 n.ensures.1 in
     retold _ _ _ _ _ (below c.before.before.before.before) (r.0, r.1)
 
-put-ended-requires-3 : tie.Need-put-ended-requires-3
-put-ended-requires-3 c κs = omega (arith, c.before.before.before.before.requires, ap length (zero c.before))
+put-ended-requires-3 : tie.Need-put_ended-requires-2
+put-ended-requires-3 c κs = omega (arith, c.requires, ap length (zero c.before))
 
-same-length-3 : tie.Need-same-length-3
+same-length-3 : tie.Need-shape_of-out
 same-length-3 c = search rules
 
-returns-3 : tie.Need-returns-3
-returns-3 c = retold _ _ _ _ _ (zero c.before.before.before.before) c.before.before.put-ended3.ensures
+returns-3 : tie.Need-returns
+returns-3 c = retold _ _ _ _ _ (zero c.before.before.before.before) c.put_ended-2.ensures
 
-pub put-entry-spec : {M : Type 1} → statement M
-put-entry-spec =
+pub put_entry_spec : {M : Type 1} → statement M
+put_entry_spec =
     tie.close
     (tie.spec
     magnitude-requires

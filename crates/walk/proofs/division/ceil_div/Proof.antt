@@ -12,10 +12,10 @@ use Rattle.walk.proofs.Fits.{less_small, fits}
 use Rattle.walk.proofs.division.ceil_div.Statement.{statement}
 use Rattle.walk.proofs.division.ceil_div.Tie as tie
 
-sub-floor-div : tie.Need-overflow-sub-floor-div
+sub-floor-div : tie.Need-overflow_sub-b
 sub-floor-div c = search fits
 
-floor-div-requires : tie.Need-floor-div-requires
+floor-div-requires : tie.Need-floor_div-requires
 floor-div-requires c κs =
     let fa = c.ranges.a in
     let fb = c.ranges.b in
@@ -23,28 +23,28 @@ floor-div-requires c κs =
     simp to_z-of_z (omega (arith, abs_sub (pos 0) c.args.b))
 
 -- what the call returned
-got : (c : tie.After-floor-div) → c.floor-div.result ≡ floor (pos 0 -ℤ c.before.args.b) c.before.args.a
+got : (c : tie.After-floor_div) → c.floor_div.result ≡ floor (pos 0 -ℤ c.args.b) c.args.a
 got c =
-    let fa = c.before.ranges.a in
-    let fb = c.before.ranges.b in
-    let mb = less_small (pos 0) c.before.args.b (omega arith) (omega arith) in
-    simp to_z-of_z at c.floor-div.ensures
+    let fa = c.ranges.a in
+    let fb = c.ranges.b in
+    let mb = less_small (pos 0) c.args.b (omega arith) (omega arith) in
+    simp to_z-of_z at c.floor_div.ensures
 
-minus : (c : tie.After-floor-div) → SFits w32 (pos 0 -ℤ c.floor-div.result)
+minus : (c : tie.After-floor_div) → SFits w32 (pos 0 -ℤ c.floor_div.result)
 minus c =
-    let b = c.before.args.b in
-    less_small (pos 0) c.floor-div.result (omega arith) (omega (arith, ap nat_abs (got c), abs_floor (pos 0 -ℤ b) c.before.args.a, abs_sub (pos 0) b))
+    let b = c.args.b in
+    less_small (pos 0) c.floor_div.result (omega arith) (omega (arith, ap nat_abs (got c), abs_floor (pos 0 -ℤ b) c.args.a, abs_sub (pos 0) b))
 
-sub-result : tie.Need-overflow-sub-result
+sub-result : tie.Need-overflow_sub-result
 sub-result c =
-    let f : SFits w32 c.floor-div.result = record { sfits = c.floor-div.type-inv } in
+    let f : SFits w32 c.floor_div.result = record { sfits = c.floor_div.type_inv } in
     simp to_z-of_z (minus c)
 
 returns : tie.Need-returns
 returns c =
-    let f : SFits w32 c.floor-div.result = record { sfits = c.floor-div.type-inv } in
+    let f : SFits w32 c.floor_div.result = record { sfits = c.floor_div.type_inv } in
     let m = minus c in
-    simp to_z-of_z (ap (λ (z : ℤ). pos 0 -ℤ z) (got c) ∙ ceil_is c.before.args.b c.before.args.a)
+    simp to_z-of_z (ap (λ (z : ℤ). pos 0 -ℤ z) (got c) ∙ ceil_is c.args.b c.args.a)
 
-pub ceil-div-spec : {M : Type 1} → statement M
-ceil-div-spec = tie.close (tie.spec sub-floor-div floor-div-requires sub-result returns)
+pub ceil_div_spec : {M : Type 1} → statement M
+ceil_div_spec = tie.close (tie.spec sub-floor-div floor-div-requires sub-result returns)

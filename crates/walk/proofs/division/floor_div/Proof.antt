@@ -1,4 +1,5 @@
 -- `walk::division::floor_div` meets its contract.
+use mir.Syntax.{w32}
 use mathlib.Core.Path.{◌∙◌}
 use native.Mathlib.Omega.{arith}
 use Prim.Native.Nat.{◌≤◌}
@@ -13,13 +14,13 @@ use Rattle.walk.proofs.division.floor_div.Tie as tie
 few : (z : ℤ) → nat_abs z ≤ 64 → Small z
 few z h = omega arith
 
-sub-floor-positive : tie.Need-overflow-sub-floor-positive
+sub-floor-positive : tie.Need-overflow_sub-b
 sub-floor-positive c = search fits
 
-sub-floor-positive-2 : tie.Need-overflow-sub-floor-positive-2
+sub-floor-positive-2 : tie.Need-overflow_sub-a
 sub-floor-positive-2 c = search (fits, few)
 
-floor-positive-requires : tie.Need-floor-positive-requires
+floor-positive-requires : tie.Need-floor_positive-requires
 floor-positive-requires c κs =
     let s = c.before in
     let fa = s.ranges.a in
@@ -28,28 +29,28 @@ floor-positive-requires c κs =
     let mb = less_small (pos 0) s.args.b (omega arith) (omega arith) in
     simp to_z-of_z (omega (whole, back fa, sub_law (pos 0) s.args.a, abs_sub (pos 0) s.args.b))
 
-returns : tie.Need-returns
+returns : tie.Need-returns-then-a-lt0
 returns c =
     let s = c.before.before in
     let fa = s.ranges.a in
     let fb = s.ranges.b in
     let ma = less_small (pos 0) s.args.a (omega arith) (omega arith) in
     let mb = less_small (pos 0) s.args.b (omega arith) (omega arith) in
-    to_z-of_z (record { sfits = c.floor-positive.type-inv }) ∙ (simp to_z-of_z at c.floor-positive.ensures) ∙ floor_flip s.args.b s.args.a (omega (whole, back fa))
+    to_z-of_z {w = w32} (record { sfits = c.floor_positive.type_inv }) ∙ (simp to_z-of_z at c.floor_positive.ensures) ∙ floor_flip s.args.b s.args.a (omega (whole, back fa))
 
-floor-positive-requires-2 : tie.Need-floor-positive-requires-2
+floor-positive-requires-2 : tie.Need-floor_positive-requires-2
 floor-positive-requires-2 c κs =
     let s = c.before in
     let fa = s.ranges.a in
     let fb = s.ranges.b in
     simp to_z-of_z (omega (whole, back fa, abs_law s.args.a, part_law s.args.a))
 
-returns-2 : tie.Need-returns-2
+returns-2 : tie.Need-returns
 returns-2 c =
     let s = c.before.before in
     let fa = s.ranges.a in
     let fb = s.ranges.b in
-    to_z-of_z (record { sfits = c.floor-positive2.type-inv }) ∙ (simp to_z-of_z at c.floor-positive2.ensures)
+    to_z-of_z {w = w32} (record { sfits = c.floor_positive-2.type_inv }) ∙ (simp to_z-of_z at c.floor_positive-2.ensures)
 
-pub floor-div-spec : {M : Type 1} → statement M
-floor-div-spec = tie.close (tie.spec sub-floor-positive sub-floor-positive-2 floor-positive-requires returns floor-positive-requires-2 returns-2)
+pub floor_div_spec : {M : Type 1} → statement M
+floor_div_spec = tie.close (tie.spec sub-floor-positive sub-floor-positive-2 floor-positive-requires returns floor-positive-requires-2 returns-2)

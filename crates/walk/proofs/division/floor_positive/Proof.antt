@@ -33,24 +33,24 @@ by_one b =
     let high = (below_floor (pos 1) b (floor b (pos 1)) (omega whole)).1 (omega whole) in
     omega (whole, low, high, mul_law (pos 1) (floor b (pos 1)))
 
-returns : tie.Need-returns
+returns : tie.Need-returns-then-a-eq1
 returns c =
     let s = c.before in
     let fa = s.ranges.a in
     let fb = s.ranges.b in
-    let e : s.args.a ≡ pos 1 = sym (to_z-of_z fa) ∙ ap (to_z w32) c.if1.true in
+    let e : s.args.a ≡ pos 1 = sym (to_z-of_z fa) ∙ ap (to_z w32) c.if-a-eq1.true in
     simp to_z-of_z (rw e (sym (by_one s.args.b)))
 
-sub-result : tie.Need-overflow-sub-result
+sub-result : tie.Need-overflow_sub-result
 sub-result c = search all_fit
 
-div-result : tie.Need-nonzero-div-result
+div-result : tie.Need-nonzero_div-result
 div-result c = search all_fit
 
-sub-result-2 : tie.Need-overflow-sub-result-2
+sub-result-2 : tie.Need-overflow_sub-result-then-b-lt0
 sub-result-2 c = search all_fit
 
-returns-2 : tie.Need-returns-2
+returns-2 : tie.Need-returns-then-b-lt0
 returns-2 c =
     let s = c.before.before in
     let b = s.args.b in
@@ -64,10 +64,10 @@ returns-2 c =
     let fr = less_small (negsuc 0) (quot_z (negsuc 0 -ℤ b) a) (omega arith) q in
     simp to_z-of_z (floor_down b a (omega (whole, back fb)) s.requires.0)
 
-div-result-2 : tie.Need-nonzero-div-result-2
+div-result-2 : tie.Need-nonzero_div-result-2
 div-result-2 c = search all_fit
 
-returns-3 : tie.Need-returns-3
+returns-3 : tie.Need-returns
 returns-3 c =
     let s = c.before.before in
     let b = s.args.b in
@@ -77,5 +77,5 @@ returns-3 c =
     let fq = small (quot_z b a) (divided b a (million b s.requires.1)) in
     simp to_z-of_z (floor_up b a (omega (whole, back fb)) s.requires.0)
 
-pub floor-positive-spec : {M : Type 1} → statement M
-floor-positive-spec = tie.close (tie.spec returns sub-result div-result sub-result-2 returns-2 div-result-2 returns-3)
+pub floor_positive_spec : {M : Type 1} → statement M
+floor_positive_spec = tie.close (tie.spec returns sub-result div-result sub-result-2 returns-2 div-result-2 returns-3)

@@ -11,26 +11,26 @@ use borrow.Author.Rules.{rules}
 use Rattle.walk.proofs.rows.down.Statement.{statement}
 use Rattle.walk.proofs.rows.down.Tie as tie
 
-add-if1 : tie.Need-overflow-add-if1
+add-if1 : tie.Need-overflow_add-r
 add-if1 c = search rules
 
-add-t6 : tie.Need-overflow-add-t6
+add-t6 : tie.Need-overflow_add-result
 add-t6 c = search rules
 
-returns : tie.Need-returns
+returns : tie.Need-returns-then-r-d
 returns c =
     let s = c.before.before in
-    let f : SFits w32 s.args.p.literal = abs_fits (omega (arith, s.requires.near)) in simp to_z-of_z (sym (lower_on s.args.p (omega (arith, c.before.if1.true))))
+    let f : SFits w32 s.args.p.literal = abs_fits (omega (arith, s.requires.near)) in simp to_z-of_z (sym (lower_on s.args.p (omega (arith, c.if-r-d.true))))
 
-sub-t7 : tie.Need-overflow-sub-t7
+sub-t7 : tie.Need-overflow_sub-result
 sub-t7 c =
     let s = c.before.before.before in
     let f : SFits w32 s.args.p.literal = abs_fits (omega (arith, s.requires.near)) in simp to_z-of_z (abs_fits (omega (arith, abs_sub s.args.p.literal (pos 1), s.requires.near)))
 
-returns-2 : tie.Need-returns-2
+returns-2 : tie.Need-returns
 returns-2 c =
     let s = c.before.before.before in
-    let f : SFits w32 s.args.p.literal = abs_fits (omega (arith, s.requires.near)) in let g : SFits w32 (s.args.p.literal -ℤ pos 1) = abs_fits (omega (arith, abs_sub s.args.p.literal (pos 1), s.requires.near)) in simp to_z-of_z (sym (lower_at s.args.p (omega (arith, c.before.before.if1.false))))
+    let f : SFits w32 s.args.p.literal = abs_fits (omega (arith, s.requires.near)) in let g : SFits w32 (s.args.p.literal -ℤ pos 1) = abs_fits (omega (arith, abs_sub s.args.p.literal (pos 1), s.requires.near)) in simp to_z-of_z (sym (lower_at s.args.p (omega (arith, c.if-r-d.false))))
 
-pub down-spec : {M : Type 1} → statement M
-down-spec = tie.close (tie.spec add-if1 add-t6 returns sub-t7 returns-2)
+pub down_spec : {M : Type 1} → statement M
+down_spec = tie.close (tie.spec add-if1 add-t6 returns sub-t7 returns-2)

@@ -17,7 +17,7 @@ down-requires c κs =
     let s = c.before.before.before in
     steady_one s.args.run.z s.args.run.count s.requires.1 s.requires.0.falling
 
-sub-t7 : tie.Need-overflow-sub-t7
+sub-t7 : tie.Need-overflow_sub-result
 sub-t7 c = search rules
 
 returns : tie.Need-returns
@@ -25,11 +25,11 @@ unfolding in_run
 returns c =
     let s = c.before.before.before.before.before in
     let run = s.args.run in
-    rw (c.before.before.up.ensures, c.before.down.ensures) (
+    rw (c.up.ensures, c.down.ensures) (
       record { rising = raised_steady run.y run.count s.requires.1 s.requires.0.rising; falling = lowered_steady run.z run.count s.requires.1 s.requires.0.falling },
       refl,
       sym (ap (drop 1) (row_next (front_of run.front) run.y run.z run.count s.requires.1)),
     )
 
-pub onward-spec : {M : Type 1} → statement M
-onward-spec = tie.close (tie.spec up-requires down-requires sub-t7 returns)
+pub onward_spec : {M : Type 1} → statement M
+onward_spec = tie.close (tie.spec up-requires down-requires sub-t7 returns)

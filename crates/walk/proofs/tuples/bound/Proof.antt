@@ -23,14 +23,14 @@ module _ (p : Place) (f : Fine p) where
   bound_fits : SFits w32 (p.lo +ℤ pos p.k)
   bound_fits = small (p.lo +ℤ pos p.k) (omega (arith, abs_add p.lo (pos p.k)))
 
-cast-result : tie.Need-overflow-cast-result
+cast-result : tie.Need-overflow_cast-result
 cast-result c = search rules
 
-add-result : tie.Need-overflow-add-result
+add-result : tie.Need-overflow_add-result
 add-result c = search (to_z-of_z, low_fits, offset-is, bound_fits)
 
 returns : tie.Need-returns
 returns c = search (to_z-of_z, low_fits, offset-is, bound_fits)
 
-pub bound-spec : {M : Type 1} → statement M
-bound-spec = tie.close (tie.spec cast-result add-result returns)
+pub bound_spec : {M : Type 1} → statement M
+bound_spec = tie.close (tie.spec cast-result add-result returns)

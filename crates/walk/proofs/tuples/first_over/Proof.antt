@@ -16,10 +16,10 @@ use Rattle.walk.proofs.Starts.{start-end, places_fine, three-places, start-at}
 use Rattle.walk.proofs.tuples.first_over.Statement.{statement}
 use Rattle.walk.proofs.tuples.first_over.Tie as tie
 
-returns : tie.Need-returns
+returns : tie.Need-returns-then-t-lt0
 returns c =
-    let f = c.before.ranges.t in
-    start-end c.before.args.c c.before.requires.0 (omega (whole, back f, c.before.requires.1))
+    let f = c.ranges.t in
+    start-end c.args.c c.requires.0 (omega (whole, back f, c.requires.1))
 
 place-requires : tie.Need-place-requires
 place-requires c κs = search rules
@@ -31,28 +31,28 @@ place-requires-3 : tie.Need-place-requires-3
 place-requires-3 c κs = search rules
 
 -- the sum is not below 0, and the three places are those of the comparison
-module _ (c : tie.After-place3) where
+module _ (c : tie.After-place-3) where
   abbrev start : tie.Start
   start = c.before.before.before.before
 
   sum_fits : SFits w32 start.args.t
-  sum_fits = start.fits.t
+  sum_fits = start.ranges.t
 
   sum-sign : pos 0 ≤ℤ start.args.t
   sum-sign = omega (whole, back sum_fits)
 
-  three : map placed (padded_ranges start.args.c) ≡ c.before.before.place.result ∷ c.before.place2.result ∷ c.place3.result ∷ []
+  three : map placed (padded_ranges start.args.c) ≡ c.place.result ∷ c.place-2.result ∷ c.place-3.result ∷ []
   three =
-      three-places start.args.c start.pre.0 c.before.before.place.result c.before.place2.result c.place3.result
-      c.before.before.place.ensures c.before.place2.ensures c.place3.ensures
+      three-places start.args.c start.requires.0 c.place.result c.place-2.result c.place-3.result
+      c.place.ensures c.place-2.ensures c.place-3.ensures
 
-cast-lowest : tie.Need-overflow-cast-lowest
+cast-lowest : tie.Need-overflow_cast-t
 cast-lowest c = let f = sum_fits c in simp to_z-of_z (yes_non_neg (sum-sign c), Fits-nat_abs tt f)
 
 lowest-requires : tie.Need-lowest-requires
 lowest-requires c κs = subst (All Fine) (three c) (places_fine (start c).args.c (start c).requires.0)
 
-returns-2 : tie.Need-returns-2
+returns-2 : tie.Need-returns
 unfolding Walking
 returns-2 c =
     let d = c.before in
@@ -64,8 +64,8 @@ returns-2 c =
       start-at (start d).args.c (start d).requires.0 t r (e ∙ (start d).requires.1) (c.lowest.ensures.1 ∙ ap (λ ps. above ps t) (sym (three d))),
     )
 
-pub first-over-spec : {M : Type 1} → statement M
-first-over-spec =
+pub first_over_spec : {M : Type 1} → statement M
+first_over_spec =
     tie.close
     (tie.spec
     returns

@@ -9,42 +9,42 @@ use Rattle.walk.proofs.tuples.next.Tie as tie
 room-requires : tie.Need-room-requires
 room-requires c κs = search rules
 
-add-b : tie.Need-overflow-add-b
+add-b : tie.Need-overflow_add-b
 add-b c = search rules
 
-sub-c : tie.Need-overflow-sub-c
+sub-c : tie.Need-overflow_sub-c
 sub-c c = search rules
 
-returns : tie.Need-returns
+returns : tie.Need-returns-then-room-gt0
 returns c =
-    move_second c.before.before.before.before.before.before.before.args.w c.before.before.before.before.before.before.before.requires (omega (arith, c.before.before.before.room.ensures))
+    move_second c.args.w c.requires (omega (arith, c.room.ensures))
 
-add-after : tie.Need-overflow-add-after
+add-after : tie.Need-overflow_add-after
 add-after c = search rules
 
 room-requires-2 : tie.Need-room-requires-2
 room-requires-2 c κs = search rules
 
-add_a : tie.Need-overflow-add-a
+add_a : tie.Need-overflow_add-a
 add_a c = search rules
 
-sub-refilled : tie.Need-overflow-sub-refilled
+sub-refilled : tie.Need-overflow_sub-after
 sub-refilled c = search rules
 
 refilled-requires : tie.Need-refilled-requires
 refilled-requires c κs = search rules
 
-returns-2 : tie.Need-returns-2
+returns-2 : tie.Need-returns-then-room-gt0-2
 returns-2 c =
-    subst (Steps c.before.before.before.before.before.before.before.before.before.before.before.args.w c.before.before.before.before.before.before.before.before.before.before.before.requires) (sym c.refilled.ensures)
-    (move_first c.before.before.before.before.before.before.before.before.before.before.before.args.w c.before.before.before.before.before.before.before.before.before.before.before.requires (omega (arith, c.before.before.before.before.before.before.before.room.ensures)) (omega (arith, c.before.before.before.room2.ensures)))
+    subst (Steps c.args.w c.requires) (sym c.refilled.ensures)
+    (move_first c.args.w c.requires (omega (arith, c.room.ensures)) (omega (arith, c.room-2.ensures)))
 
-returns-3 : tie.Need-returns-3
+returns-3 : tie.Need-returns
 returns-3 c =
-    move_none c.before.before.before.before.before.before.before.before.before.args.w c.before.before.before.before.before.before.before.before.before.requires (omega (arith, c.before.before.before.before.before.room.ensures)) (omega (arith, c.before.room2.ensures))
+    move_none c.args.w c.requires (omega (arith, c.room.ensures)) (omega (arith, c.room-2.ensures))
 
-pub next-spec : {M : Type 1} → statement M
-next-spec =
+pub next_spec : {M : Type 1} → statement M
+next_spec =
     tie.close
     (tie.spec
     room-requires

@@ -35,18 +35,18 @@ module _ (c : Comparison) (f : FairComparison c) (l : ℤ) (e : l ≡ least_of c
 least-requires : tie.Need-least-requires
 least-requires c κs = search rules
 
-sub-result : tie.Need-overflow-sub-result
+sub-result : tie.Need-overflow_sub-result
 sub-result c =
     let s = c.before.before.before in
-    let l = c.before.before.least in
+    let l = c.least in
     let fc = constant-fits s.args.c s.requires l.result l.ensures in
     let fl = least_fits s.args.c s.requires l.result l.ensures in
     simp to_z-of_z (above_fits s.args.c s.requires l.result l.ensures)
 
-add-result : tie.Need-overflow-add-result
+add-result : tie.Need-overflow_add-result
 add-result c =
     let s = c.before.before.before in
-    let l = c.before.before.least in
+    let l = c.least in
     let fc = constant-fits s.args.c s.requires l.result l.ensures in
     let fl = least_fits s.args.c s.requires l.result l.ensures in
     let fa = above_fits s.args.c s.requires l.result l.ensures in
@@ -56,12 +56,12 @@ returns : tie.Need-returns
 unfolding over_least
 returns c =
     let s = c.before.before.before in
-    let l = c.before.before.least in
+    let l = c.least in
     let fc = constant-fits s.args.c s.requires l.result l.ensures in
     let fl = least_fits s.args.c s.requires l.result l.ensures in
     let fa = above_fits s.args.c s.requires l.result l.ensures in
     let fm = more-fits s.args.c s.requires l.result l.ensures in
     simp to_z-of_z (ap (λ z. s.args.c.constant -ℤ z +ℤ pos 1) l.ensures)
 
-pub over-least-spec : {M : Type 1} → statement M
-over-least-spec = tie.close (tie.spec least-requires sub-result add-result returns)
+pub over_least_spec : {M : Type 1} → statement M
+over_least_spec = tie.close (tie.spec least-requires sub-result add-result returns)
