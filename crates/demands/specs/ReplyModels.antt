@@ -123,6 +123,7 @@ abbrev pub In : ℤ → List ℤ → Type 0
 In x ns = Any (λ n. x ≡ n) ns
 
 often_in : (x : ℤ) (ns : List ℤ) → In x ns → 1 ≤ often (nat_abs x) ns
+often_in x [] i = elim i [ ]
 often_in x (n ∷ ns) (inl e) = rw (eq-eqb (nat_abs n) (nat_abs x) (ap nat_abs (sym e))) (omega arith)
 often_in x (n ∷ ns) (inr i) = go (eqb (nat_abs n) (nat_abs x)) (often_in x ns i)
   where
@@ -132,6 +133,7 @@ often_in x (n ∷ ns) (inr i) = go (eqb (nat_abs n) (nat_abs x)) (often_in x ns 
 
 -- each sign counts
 both_signs : (w : ℕ) (ns : List ℤ) → In (pos (suc w)) ns → In (negsuc w) ns → 2 ≤ often (suc w) ns
+both_signs w [] i j = elim i [ ]
 both_signs w (n ∷ ns) (inl e) (inl e') = absurd (let z : pos (suc w) ≡ negsuc w = e ∙ sym e' in let y : ◌≡◌ {A = ℕ} 0 1 = cc in omega arith)
 both_signs w (n ∷ ns) (inl e) (inr i) = rw (eq-eqb (nat_abs n) (suc w) (ap nat_abs (sym e))) (omega (arith, often_in (negsuc w) ns i))
 both_signs w (n ∷ ns) (inr i) (inl e) = rw (eq-eqb (nat_abs n) (suc w) (ap nat_abs (sym e))) (omega (arith, often_in (pos (suc w)) ns i))

@@ -8,52 +8,52 @@ use Rattle.opening.proofs.Moved.{fault_inside, rules_refused, end_inside, rules-
 use Rattle.opening.proofs.body.past_rules.Statement.{statement}
 use Rattle.opening.proofs.body.past_rules.Tie as tie
 
-sub-past-clauses : tie.Need-overflow-sub-past-clauses
+sub-past-clauses : tie.Need-slice_bounds-past_clauses-count
 sub-past-clauses c = search rules
 
-part-past-clauses-start : tie.Need-slice-bounds-past-clauses-start
+part-past-clauses-start : tie.Need-slice_bounds-past_clauses-start
 part-past-clauses-start c = search rules
 
-part-past-clauses-end : tie.Need-slice-bounds-past-clauses-end
+part-past-clauses-end : tie.Need-slice_bounds-past_clauses-end
 part-past-clauses-end c = search rules
 
-context-of-requires : tie.Need-context-of-requires
+context-of-requires : tie.Need-context_of-requires
 context-of-requires c κs = search rules
 
-past-clauses-requires : tie.Need-past-clauses-requires
+past-clauses-requires : tie.Need-past_clauses-passed-requires
 past-clauses-requires c κs = search rules
 
-enum-known-passed : tie.Need-enum-known-passed
+enum-known-passed : tie.Need-enum_known-passed
 enum-known-passed c = search rules
 
-enum_told : tie.Need-enum-told
+enum_told : tie.Need-enum_told-1
 enum_told c = search rules
 
-of-step-requires : tie.Need-of-step-requires
+of-step-requires : tie.Need-of_step-fault-requires
 of-step-requires c κs = search rules
 
-add-t14 : tie.Need-overflow-add-t14
+add-t14 : tie.Need-overflow_add-result
 add-t14 c =
-    omega (arith, fault_inside c.before.before.before.before.before.before.before.before.args.header c.before.before.before.before.before.before.before.before.args.bytes.now c.before.before.before.before.before.before.before.before.requires.0 _ c.before.before.before.before.before.context-of.ensures (told said_step c.before.before.before.before.past-clauses.ensures c.before.of-step.ensures))
+    omega (arith, fault_inside c.args.header c.args.bytes.now c.requires.0 _ c.context_of.ensures (told said_step c.past_clauses-passed.ensures c.of_step-fault.ensures))
 
-returns : tie.Need-returns
+returns : tie.Need-returns-in_default
 returns c =
-    sym (rules_refused _ _ c.before.before.before.before.before.before.before.before.requires.0 _ c.before.before.before.before.before.context-of.ensures (told said_step c.before.before.before.before.past-clauses.ensures c.before.of-step.ensures))
+    sym (rules_refused _ _ c.requires.0 _ c.context_of.ensures (told said_step c.past_clauses-passed.ensures c.of_step-fault.ensures))
 
-add-place : tie.Need-overflow-add-place
+add-place : tie.Need-overflow_add-place
 add-place c =
-    omega (arith, end_inside c.before.before.before.before.before.before.before.args.header c.before.before.before.before.before.before.before.args.bytes.now c.before.before.before.before.before.before.before.requires.0 _ c.before.before.before.before.context-of.ensures (told said_step c.before.before.before.past-clauses.ensures c.before.passed.given.1))
+    omega (arith, end_inside c.args.header c.args.bytes.now c.requires.0 _ c.context_of.ensures (told said_step c.past_clauses-passed.ensures c.in-Next.is))
 
-returns-2 : tie.Need-returns-2
+returns-2 : tie.Need-returns-then-place-bytes
 returns-2 c =
-    sym (rules-left-over _ _ c.before.before.before.before.before.before.before.before.requires.0 _ c.before.before.before.before.before.context-of.ensures (told said_step c.before.before.before.before.past-clauses.ensures c.before.before.passed.given.1) c.if1.true)
+    sym (rules-left-over _ _ c.requires.0 _ c.context_of.ensures (told said_step c.past_clauses-passed.ensures c.in-Next.is) c.if-place-bytes.true)
 
-returns-3 : tie.Need-returns-3
+returns-3 : tie.Need-returns
 returns-3 c =
-    sym (rules_done _ _ c.before.before.before.before.before.before.before.before.requires.0 _ c.before.before.before.before.before.context-of.ensures (told said_step c.before.before.before.before.past-clauses.ensures c.before.before.passed.given.1) c.if1.false)
+    sym (rules_done _ _ c.requires.0 _ c.context_of.ensures (told said_step c.past_clauses-passed.ensures c.in-Next.is) c.if-place-bytes.false)
 
-pub past-rules-spec : {M : Type 1} → statement M
-past-rules-spec =
+pub past_rules_spec : {M : Type 1} → statement M
+past_rules_spec =
     tie.close
     (tie.spec
     sub-past-clauses

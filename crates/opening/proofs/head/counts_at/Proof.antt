@@ -6,64 +6,64 @@ use Rattle.opening.specs.Parts.{read_counts}
 use Rattle.opening.proofs.head.counts_at.Statement.{statement}
 use Rattle.opening.proofs.head.counts_at.Tie as tie
 
-count-at-requires : tie.Need-count-at-requires
+count-at-requires : tie.Need-count_at-first-requires
 count-at-requires c κs = search rules
 
-enum-known-first : tie.Need-enum-known-first
+enum-known-first : tie.Need-enum_known-first
 enum-known-first c = search rules
 
-enum_told : tie.Need-enum-told
+enum_told : tie.Need-enum_told-1
 enum_told c = search rules
 
-of-number-requires : tie.Need-of-number-requires
+of-number-requires : tie.Need-of_number-requires
 of-number-requires c κs = search rules
 
-returns : tie.Need-returns
+returns : tie.Need-returns-in_default
 unfolding read_counts
 returns c =
-    rw (told said_number c.before.before.before.count_at.ensures c.of_number.ensures)
+    rw (told said_number c.count_at-first.ensures c.of_number.ensures)
 
-count-at-requires-2 : tie.Need-count-at-requires-2
+count-at-requires-2 : tie.Need-count_at-second-requires
 count-at-requires-2 c κs = search rules
 
-enum-known-second : tie.Need-enum-known-second
+enum-known-second : tie.Need-enum_known-second
 enum-known-second c = search rules
 
-enum-told-2 : tie.Need-enum-told-2
+enum-told-2 : tie.Need-enum_told-in_default-second
 enum-told-2 c = search rules
 
-of-number-requires-2 : tie.Need-of-number-requires-2
+of-number-requires-2 : tie.Need-of_number-requires-in_default-second
 of-number-requires-2 c κs = search rules
 
-returns-2 : tie.Need-returns-2
+returns-2 : tie.Need-returns-in_default-second
 unfolding read_counts
 returns-2 c =
-    rw (told said_number c.before.before.before.before.before.before.before.count_at.ensures c.before.before.before.before.before.first.given.1, told said_number c.before.before.before.count-at2.ensures c.of-number2.ensures)
+    rw (told said_number c.count_at-first.ensures c.in-Value.is, told said_number c.count_at-second.ensures c.of_number-in_default-second.ensures)
 
-count-at-requires-3 : tie.Need-count-at-requires-3
+count-at-requires-3 : tie.Need-count_at-third-requires
 count-at-requires-3 c κs = search rules
 
-enum-known-third : tie.Need-enum-known-third
+enum-known-third : tie.Need-enum_known-third
 enum-known-third c = search rules
 
-enum-told-3 : tie.Need-enum-told-3
+enum-told-3 : tie.Need-enum_told-in_default-third
 enum-told-3 c = search rules
 
-of-number-requires-3 : tie.Need-of-number-requires-3
+of-number-requires-3 : tie.Need-of_number-requires-in_default-third
 of-number-requires-3 c κs = search rules
 
-returns-3 : tie.Need-returns-3
+returns-3 : tie.Need-returns-in_default-third
 unfolding read_counts
 returns-3 c =
-    rw (told said_number c.before.before.before.before.before.before.before.before.before.before.before.count_at.ensures c.before.before.before.before.before.before.before.before.before.first.given.1, told said_number c.before.before.before.before.before.before.before.count-at2.ensures c.before.before.before.before.before.second.given.1, told said_number c.before.before.before.count-at3.ensures c.of-number3.ensures)
+    rw (told said_number c.count_at-first.ensures c.in-Value.is, told said_number c.count_at-second.ensures c.in-Value-second.is, told said_number c.count_at-third.ensures c.of_number-in_default-third.ensures)
 
-returns-4 : tie.Need-returns-4
+returns-4 : tie.Need-returns
 unfolding read_counts
 returns-4 c =
-    rw (told said_number c.before.before.before.before.before.before.before.before.before.before.before.count_at.ensures c.before.before.before.before.before.before.before.before.before.first.given.1, told said_number c.before.before.before.before.before.before.before.count-at2.ensures c.before.before.before.before.before.second.given.1, told said_number c.before.before.before.count-at3.ensures c.before.third.given.1)
+    rw (told said_number c.count_at-first.ensures c.in-Value.is, told said_number c.count_at-second.ensures c.in-Value-second.is, told said_number c.count_at-third.ensures c.in-Value-third.is)
 
-pub counts-at-spec : {M : Type 1} → statement M
-counts-at-spec =
+pub counts_at_spec : {M : Type 1} → statement M
+counts_at_spec =
     tie.close
     (tie.spec
     count-at-requires

@@ -1,5 +1,7 @@
 -- Each bound in its range, then the upper against the lower.
 use borrow.Author.Rules.{rules}
+use mir.Syntax.{w32}
+use mir.Val.{SFits}
 use Rattle.definitions.specs.Reading.{read_bounds}
 use Rattle.fields.proofs.Laws.{told}
 use Rattle.reader.specs.Said.{said_whole}
@@ -7,52 +9,56 @@ use Rattle.reader.proofs.Tests.{bound_fits, tested}
 use Rattle.opening.proofs.table.past_bounds.Statement.{statement}
 use Rattle.opening.proofs.table.past_bounds.Tie as tie
 
-bound-at-requires : tie.Need-bound-at-requires
+bound-at-requires : tie.Need-bound_at-first-requires
 bound-at-requires c κs = search rules
 
-enum-known-first : tie.Need-enum-known-first
+enum-known-first : tie.Need-enum_known-first
 enum-known-first c = search rules
 
-enum_told : tie.Need-enum-told
+enum_told : tie.Need-enum_told-1
 enum_told c = search rules
 
-of-whole-requires : tie.Need-of-whole-requires
+of-whole-requires : tie.Need-of_whole-requires
 of-whole-requires c κs = search rules
 
-returns : tie.Need-returns
+returns : tie.Need-returns-in_default
 unfolding read_bounds
 returns c =
-    rw (told said_whole c.before.before.before.bound_at.ensures c.of-whole.ensures)
+    rw (told said_whole c.bound_at-first.ensures c.of_whole.ensures)
 
-bound-at-requires-2 : tie.Need-bound-at-requires-2
+bound-at-requires-2 : tie.Need-bound_at-second-requires
 bound-at-requires-2 c κs = search rules
 
-enum-known-second : tie.Need-enum-known-second
+enum-known-second : tie.Need-enum_known-second
 enum-known-second c = search rules
 
-enum-told-2 : tie.Need-enum-told-2
+enum-told-2 : tie.Need-enum_told-in_default-second
 enum-told-2 c = search rules
 
-of-whole-requires-2 : tie.Need-of-whole-requires-2
+of-whole-requires-2 : tie.Need-of_whole-requires-in_default-second
 of-whole-requires-2 c κs = search rules
 
-returns-2 : tie.Need-returns-2
+returns-2 : tie.Need-returns-in_default-second
 unfolding read_bounds
 returns-2 c =
-    rw (told said_whole c.before.before.before.before.before.before.before.bound_at.ensures c.before.before.before.before.before.first.given.1, told said_whole c.before.before.before.bound-at2.ensures c.of-whole2.ensures)
+    rw (told said_whole c.bound_at-first.ensures c.in-Value.is, told said_whole c.bound_at-second.ensures c.of_whole-in_default-second.ensures)
 
-returns-3 : tie.Need-returns-3
+returns-3 : tie.Need-returns-then-upper-lower
 unfolding read_bounds
 returns-3 c =
-    rw (told said_whole c.before.before.before.before.before.before.before.before.bound_at.ensures c.before.before.before.before.before.before.first.given.1, told said_whole c.before.before.before.before.bound-at2.ensures c.before.before.second.given.1, tested (bound_fits c.before.before.second.given.0.0 c.before.known-told2.given.0.1) (bound_fits c.before.before.before.before.before.before.first.given.0.0 c.before.before.before.before.before.known-told.given.0.1) c.if1.true)
+    let f : SFits w32 c.in-Value-second.upper = search rules in
+    let g : SFits w32 c.in-Value.lower = search rules in
+    rw (told said_whole c.bound_at-first.ensures c.in-Value.is, told said_whole c.bound_at-second.ensures c.in-Value-second.is, tested f g c.if-upper-lower.true)
 
-returns-4 : tie.Need-returns-4
+returns-4 : tie.Need-returns
 unfolding read_bounds
 returns-4 c =
-    rw (told said_whole c.before.before.before.before.before.before.before.before.bound_at.ensures c.before.before.before.before.before.before.first.given.1, told said_whole c.before.before.before.before.bound-at2.ensures c.before.before.second.given.1, tested (bound_fits c.before.before.second.given.0.0 c.before.known-told2.given.0.1) (bound_fits c.before.before.before.before.before.before.first.given.0.0 c.before.before.before.before.before.known-told.given.0.1) c.if1.false)
+    let f : SFits w32 c.in-Value-second.upper = search rules in
+    let g : SFits w32 c.in-Value.lower = search rules in
+    rw (told said_whole c.bound_at-first.ensures c.in-Value.is, told said_whole c.bound_at-second.ensures c.in-Value-second.is, tested f g c.if-upper-lower.false)
 
-pub past-bounds-spec : {M : Type 1} → statement M
-past-bounds-spec =
+pub past_bounds_spec : {M : Type 1} → statement M
+past_bounds_spec =
     tie.close
     (tie.spec
     bound-at-requires

@@ -9,45 +9,45 @@ use Rattle.reader.proofs.Loops.{next_part, part_refused, no_part}
 use Rattle.opening.proofs.table.past_table.Statement.{statement}
 use Rattle.opening.proofs.table.past_table.Tie as tie
 
-abbrev invariant-loop : tie.invariant-loop
+abbrev invariant-loop : tie.invariant-loop-left
 invariant-loop bytes n at place₀ left₀ place left =
     past (times left read_bounds bytes place) ≡ past (times n read_bounds bytes at)
 
-abbrev decreases-loop : tie.decreases-loop
+abbrev decreases-loop : tie.decreases-loop-left
 decreases-loop bytes n at place₀ left₀ place left = left
 
-loop-holds : tie.Need-loop-init invariant-loop decreases-loop
+loop-holds : tie.Need-loop-left-init invariant-loop decreases-loop
 loop-holds c = refl
 
-past-bounds-requires : tie.Need-past-bounds-requires invariant-loop decreases-loop
+past-bounds-requires : tie.Need-past_bounds-step-requires invariant-loop decreases-loop
 past-bounds-requires c κs = search rules
 
-enum-known-step : tie.Need-enum-known-step invariant-loop decreases-loop
+enum-known-step : tie.Need-enum_known-step invariant-loop decreases-loop
 enum-known-step c = search rules
 
-enum_told : tie.Need-enum-told invariant-loop decreases-loop
+enum_told : tie.Need-enum_told-1 invariant-loop decreases-loop
 enum_told c = search rules
 
-returns : tie.Need-returns invariant-loop decreases-loop
+returns : tie.Need-returns-in_default invariant-loop decreases-loop
 returns c =
-    rw c.enum_told.given.1 (sym (part_refused read_bounds _ _ _ c.before.before.before.loop-test.true (told said_step c.before.before.past-bounds.ensures c.enum_told.given.1)) ∙ c.before.before.before.before.loop.invariant)
+    rw c.in_default.is (sym (part_refused read_bounds _ _ _ c.loop-left-test.true (told said_step c.past_bounds-step.ensures c.in_default.is)) ∙ c.loop-left.invariant)
 
-sub-left : tie.Need-overflow-sub-left invariant-loop decreases-loop
+sub-left : tie.Need-overflow_sub-left invariant-loop decreases-loop
 sub-left c = search rules
 
-loop-less : tie.Need-loop-smaller invariant-loop decreases-loop
+loop-less : tie.Need-loop-left-smaller invariant-loop decreases-loop
 loop-less c = search rules
 
-loop-again : tie.Need-loop-preserved invariant-loop decreases-loop
+loop-again : tie.Need-loop-left-preserved invariant-loop decreases-loop
 loop-again c =
-    sym (next_part read_bounds _ _ _ c.before.before.before.before.loop-test.true (told said_step c.before.before.before.past-bounds.ensures c.before.step.given.1)) ∙ c.before.before.before.before.before.loop.invariant
+    sym (next_part read_bounds _ _ _ c.loop-left-test.true (told said_step c.past_bounds-step.ensures c.in-Next.is)) ∙ c.loop-left.invariant
 
-returns-2 : tie.Need-returns-2 invariant-loop decreases-loop
+returns-2 : tie.Need-returns invariant-loop decreases-loop
 returns-2 c =
-    sym (no_part read_bounds _ _ _ c.loop-test.false) ∙ c.before.loop.invariant
+    sym (no_part read_bounds _ _ _ c.loop-left-test.false) ∙ c.loop-left.invariant
 
-pub past-table-spec : {M : Type 1} → statement M
-past-table-spec =
+pub past_table_spec : {M : Type 1} → statement M
+past_table_spec =
     tie.close
     (tie.spec
     invariant-loop

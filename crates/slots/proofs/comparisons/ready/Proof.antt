@@ -30,27 +30,27 @@ module _ (B : Board) (f : ℕ → ℕ) (s : List ℕ) (place n : ℕ) (e : n ≡
       h k ∙ ap (slot_of B f) (sym (terms_at_lem s place i d (omega (arith, e, terms_count s place)))) ∙ sym (get_or-map (slot_of B f) (terms_at s place) i d)
 
 -- the count
-module _ (u : tie.After-unchecked) where
+module _ (u : tie.After-unchecked-n) where
   abbrev s : tie.Start
   s = u.before.before.before.before
 
-  counted : u.unchecked.result ≡ length (terms_at s.args.rules.now s.args.place)
-  counted = u.unchecked.ensures ∙ sym (terms_count s.args.rules.now s.args.place)
+  counted : u.unchecked-n.result ≡ length (terms_at s.args.rules.now s.args.place)
+  counted = u.unchecked-n.ensures ∙ sym (terms_count s.args.rules.now s.args.place)
 
-unchecked-requires : tie.Need-unchecked-requires
+unchecked-requires : tie.Need-unchecked-n-requires
 unchecked-requires c κs = search rules
 
-cast-n : tie.Need-overflow-cast-n
+cast-n : tie.Need-overflow_cast-n
 cast-n c = search rules
 
-slot-at-requires : tie.Need-slot-at-requires
-slot-at-requires c κs = let a = s c in (a.pre.0, a.pre.2.terms, a.pre.2.good.terms, counted c)
+slot-at-requires : tie.Need-slot_at-a-requires
+slot-at-requires c κs = let a = s c in (a.requires.0, a.requires.2.terms, a.requires.2.good.terms, counted c)
 
-slot-at-requires-2 : tie.Need-slot-at-requires-2
-slot-at-requires-2 c κs = let a = s c.before in (a.pre.0, a.pre.2.terms, a.pre.2.good.terms, counted c.before)
+slot-at-requires-2 : tie.Need-slot_at-b-requires
+slot-at-requires-2 c κs = let a = s c.before in (a.requires.0, a.requires.2.terms, a.requires.2.good.terms, counted c.before)
 
-slot-at-requires-3 : tie.Need-slot-at-requires-3
-slot-at-requires-3 c κs = let a = s c.before.before in (a.pre.0, a.pre.2.terms, a.pre.2.good.terms, counted c.before.before)
+slot-at-requires-3 : tie.Need-slot_at-c-requires
+slot-at-requires-3 c κs = let a = s c.before.before in (a.requires.0, a.requires.2.terms, a.requires.2.good.terms, counted c.before.before)
 
 returns : tie.Need-returns
 returns c =
@@ -60,19 +60,19 @@ returns c =
     let f = numbered a.args.firsts.now in
     let r = a.args.rules.now in
     let p = a.args.place in
-    let n = u.unchecked.result in
-    shows_ready B (opens_admitted _ a.pre.0) f a.pre.1 _ _ a.pre.2.good (record {
+    let n = u.unchecked-n.result in
+    shows_ready B (opens_admitted _ a.requires.0) f a.requires.1 _ _ a.requires.2.good (record {
       counted = counted u;
       terms =
-          first_three (map (slot_of B f) (terms_at r p)) n (counted u ∙ sym (length-map (terms_at r p) (slot_of B f))) (omega (arith, counted u, a.pre.2.good.few)) (slot_of B f d) _ _ _
-          (entry B f r p n (counted u) 0 _ c.before.before.slot_at.ensures)
-          (entry B f r p n (counted u) 1 _ c.before.slot-at2.ensures)
-          (entry B f r p n (counted u) 2 _ c.slot-at3.ensures);
-      constant = to_z-of_z a.fits.constant;
+          first_three (map (slot_of B f) (terms_at r p)) n (counted u ∙ sym (length-map (terms_at r p) (slot_of B f))) (omega (arith, counted u, a.requires.2.good.few)) (slot_of B f d) _ _ _
+          (entry B f r p n (counted u) 0 _ c.slot_at-a.ensures)
+          (entry B f r p n (counted u) 1 _ c.slot_at-b.ensures)
+          (entry B f r p n (counted u) 2 _ c.slot_at-c.ensures);
+      constant = to_z-of_z a.ranges.constant;
     })
 
-pub ready-spec : {M : Type 1} → statement M
-ready-spec =
+pub ready_spec : {M : Type 1} → statement M
+ready_spec =
     tie.close
     (tie.spec
     unchecked-requires

@@ -23,35 +23,35 @@ counted s = s.requires.3 ∙ terms_count s.args.rules.now s.args.place
 inside : (s : tie.Start) → s.args.i < s.args.n → s.args.place + 1 + 3 * s.args.i + 3 ≤ length s.args.rules.now
 inside s h = omega (arith, counted s, s.requires.1.room)
 
-returns : tie.Need-returns
-returns c = λ h. absurd (omega (arith, c.if1.true))
+returns : tie.Need-returns-then-n-i
+returns c = λ h. absurd (omega (arith, c.if-n-i.true))
 
-add-term-at : tie.Need-overflow-add-term-at
+add-term-at : tie.Need-overflow_add-place
 add-term-at c =
     let h = inside c.before.before.before.before (omega arith) in search rules
 
-mul-term-at : tie.Need-overflow-mul-term-at
+mul-term-at : tie.Need-overflow_mul-i
 mul-term-at c =
     let h = inside c.before.before.before.before (omega arith) in search rules
 
-add-term-at-2 : tie.Need-overflow-add-term-at-2
+add-term-at-2 : tie.Need-overflow_add-place-2
 add-term-at-2 c =
     let h = inside c.before.before.before.before (omega arith) in search rules
 
-term-at-requires : tie.Need-term-at-requires
+term-at-requires : tie.Need-term_at-requires
 term-at-requires c κs =
-    omega (arith, inside c.before.before.before.before (omega (arith, c.if1.false)))
+    omega (arith, inside c.before.before.before.before (omega (arith, c.if-n-i.false)))
 
-slot-of-requires : tie.Need-slot-of-requires
+slot-of-requires : tie.Need-slot_of-requires
 slot-of-requires c κs =
-    (c.before.before.before.before.before.requires.0, subst (GoodTerm _) (sym (c.term-at.ensures ∙ sym (terms_at_lem c.before.before.before.before.before.args.rules.now c.before.before.before.before.before.args.place c.before.before.before.before.before.args.i (term_read c.term-at.result) (omega (arith, c.before.if1.false, counted c.before.before.before.before.before))))) (all-at (GoodTerm _) (term_read c.term-at.result) (terms_at c.before.before.before.before.before.args.rules.now c.before.before.before.before.before.args.place) c.before.before.before.before.before.requires.2 c.before.before.before.before.before.args.i (omega (arith, c.before.if1.false, c.before.before.before.before.before.requires.3))))
+    (c.requires.0, subst (GoodTerm _) (sym (c.term_at.ensures ∙ sym (terms_at_lem c.args.rules.now c.args.place c.args.i (term_read c.term_at.result) (omega (arith, c.if-n-i.false, counted c.before.before.before.before.before))))) (all-at (GoodTerm _) (term_read c.term_at.result) (terms_at c.args.rules.now c.args.place) c.requires.2 c.args.i (omega (arith, c.if-n-i.false, c.requires.3))))
 
-returns-2 : tie.Need-returns-2
+returns-2 : tie.Need-returns
 returns-2 c =
-    λ h. c.slot_of.ensures ∙ ap (slot_of (board_of c.before.before.before.before.before.before.args.bytes.now) (numbered c.before.before.before.before.before.before.args.firsts.now)) c.before.term-at.ensures
+    λ h. c.slot_of.ensures ∙ ap (slot_of (board_of c.args.bytes.now) (numbered c.args.firsts.now)) c.term_at.ensures
 
-pub slot-at-spec : {M : Type 1} → statement M
-slot-at-spec =
+pub slot_at_spec : {M : Type 1} → statement M
+slot_at_spec =
     tie.close
     (tie.spec
     returns

@@ -7,17 +7,17 @@ use Rattle.slots.specs.Terms.{coefficient_fits}
 use Rattle.slots.proofs.comparisons.slot_of.Statement.{statement}
 use Rattle.slots.proofs.comparisons.slot_of.Tie as tie
 
-bounds-of-requires : tie.Need-bounds-of-requires
+bounds-of-requires : tie.Need-bounds_of-bounds-requires
 bounds-of-requires c κs = search rules
 
-first-in-requires : tie.Need-first-in-requires
+first-in-requires : tie.Need-first_in-requires
 first-in-requires c κs = search rules
 
 returns : tie.Need-returns
 unfolding slot_of
 returns c =
-    let b = c.before.before.before.bounds_of.ensures in
-    rw (to_z-of_z (coefficient_fits _ c.before.before.before.before.before.before.args.term c.before.before.before.before.before.before.requires.1), to_z-of_z (lower_fits c.before.before.before.bounds_of.result b.good), to_z-of_z (upper_fits c.before.before.before.bounds_of.result b.good), b.lower, b.upper, c.before.before.first-in.ensures)
+    let b = c.bounds_of-bounds.ensures in
+    rw (to_z-of_z (coefficient_fits _ c.args.term c.requires.1), to_z-of_z (lower_fits c.bounds_of-bounds.result b.good), to_z-of_z (upper_fits c.bounds_of-bounds.result b.good), b.lower, b.upper, c.first_in.ensures)
 
-pub slot-of-spec : {M : Type 1} → statement M
-slot-of-spec = tie.close (tie.spec bounds-of-requires first-in-requires returns)
+pub slot_of_spec : {M : Type 1} → statement M
+slot_of_spec = tie.close (tie.spec bounds-of-requires first-in-requires returns)

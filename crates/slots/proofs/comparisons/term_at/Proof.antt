@@ -4,21 +4,21 @@ use mir.Facts.{to_z-of_z}
 use Rattle.slots.proofs.comparisons.term_at.Statement.{statement}
 use Rattle.slots.proofs.comparisons.term_at.Tie as tie
 
-unchecked-signed-requires : tie.Need-unchecked-signed-requires
+unchecked-signed-requires : tie.Need-unchecked_signed-requires
 unchecked-signed-requires c κs = search rules
 
-add-unchecked : tie.Need-overflow-add-unchecked
+add-unchecked : tie.Need-overflow_add-at
 add-unchecked c = search rules
 
 unchecked-requires : tie.Need-unchecked-requires
 unchecked-requires c κs = search rules
 
-cast-t6 : tie.Need-overflow-cast-t6
+cast-t6 : tie.Need-overflow_cast-result
 cast-t6 c = search rules
 
 returns : tie.Need-returns
 returns c =
-    rw (to_z-of_z (record { sfits = c.before.unchecked-signed.type-inv }), c.before.unchecked-signed.ensures, c.unchecked.ensures)
+    rw (to_z-of_z (record { sfits = c.unchecked_signed.type_inv }), c.unchecked_signed.ensures, c.unchecked.ensures)
 
-pub term-at-spec : {M : Type 1} → statement M
-term-at-spec = tie.close (tie.spec unchecked-signed-requires add-unchecked unchecked-requires cast-t6 returns)
+pub term_at_spec : {M : Type 1} → statement M
+term_at_spec = tie.close (tie.spec unchecked-signed-requires add-unchecked unchecked-requires cast-t6 returns)

@@ -20,58 +20,58 @@ stored s place terms i t h k e et =
     let d = term_read t in
     rw map-set (filled_more (map term_read terms) (terms_at s place) i e d d (rw length-map h) (rw terms_count k) (et ∙ sym (terms_at_lem s place i d k)))
 
-abbrev invariant-loop : tie.invariant-loop
+abbrev invariant-loop : tie.invariant-loop-i
 invariant-loop rules place n terms₀ i₀ terms i =
     (i ≤ n) × (length terms ≡ 3) × (take i (map term_read terms) ≡ take i (terms_at rules place))
 
-abbrev decreases-loop : tie.decreases-loop
+abbrev decreases-loop : tie.decreases-loop-i
 decreases-loop rules place n terms₀ i₀ terms i = n - i
 
-unchecked-requires : tie.Need-unchecked-requires invariant-loop decreases-loop
+unchecked-requires : tie.Need-unchecked-n-requires invariant-loop decreases-loop
 unchecked-requires c κs = search rules
 
-cast-n : tie.Need-overflow-cast-n invariant-loop decreases-loop
+cast-n : tie.Need-overflow_cast-n invariant-loop decreases-loop
 cast-n c = search rules
 
-loop-holds : tie.Need-loop-init invariant-loop decreases-loop
+loop-holds : tie.Need-loop-i-init invariant-loop decreases-loop
 loop-holds c = (omega arith, refl, refl)
 
-add-term-at : tie.Need-overflow-add-term-at invariant-loop decreases-loop
+add-term-at : tie.Need-overflow_add-place invariant-loop decreases-loop
 add-term-at c = search rules
 
-mul-term-at : tie.Need-overflow-mul-term-at invariant-loop decreases-loop
+mul-term-at : tie.Need-overflow_mul-i invariant-loop decreases-loop
 mul-term-at c = search rules
 
-add-term-at-2 : tie.Need-overflow-add-term-at-2 invariant-loop decreases-loop
+add-term-at-2 : tie.Need-overflow_add-place-in-loop-i invariant-loop decreases-loop
 add-term-at-2 c = search rules
 
-term-at-requires : tie.Need-term-at-requires invariant-loop decreases-loop
+term-at-requires : tie.Need-term_at-requires invariant-loop decreases-loop
 term-at-requires c κs = search rules
 
-mul-terms : tie.Need-overflow-mul-terms invariant-loop decreases-loop
+mul-terms : tie.Need-offset_bounds-terms-i invariant-loop decreases-loop
 mul-terms c = search rules
 
-array-set-from-terms : tie.Need-array-set-from-terms invariant-loop decreases-loop
+array-set-from-terms : tie.Need-bounds-terms-i invariant-loop decreases-loop
 array-set-from-terms c = search rules
 
-add-i : tie.Need-overflow-add-i invariant-loop decreases-loop
+add-i : tie.Need-overflow_add-i invariant-loop decreases-loop
 add-i c = search rules
 
-loop-less : tie.Need-loop-smaller invariant-loop decreases-loop
+loop-less : tie.Need-loop-i-smaller invariant-loop decreases-loop
 loop-less c = search rules
 
-loop-again : tie.Need-loop-preserved invariant-loop decreases-loop
+loop-again : tie.Need-loop-i-preserved invariant-loop decreases-loop
 loop-again c =
-    (omega arith, rw length-set c.before.before.loop.invariant.1, stored _ _ c.before.before.loop.terms c.before.before.loop.i c.term-at.result (omega arith) (omega arith) c.before.before.loop.invariant.2 c.term-at.ensures)
+    (omega arith, rw length-set c.loop-i.invariant.1, stored _ _ c.loop-i.terms c.loop-i.i c.term_at.result (omega arith) (omega arith) c.loop-i.invariant.2 c.term_at.ensures)
 
 returns : tie.Need-returns invariant-loop decreases-loop
 returns c =
-    let e : c.before.loop.i ≡ c.before.before.unchecked.result = omega arith in
-    let n = c.before.before.unchecked.ensures ∙ sym (terms_count c.before.before.before.before.args.rules.now c.before.before.before.before.args.place) in
-    record { counted = n; terms = rw (← e) (filled-all _ _ _ c.before.loop.invariant.2 (e ∙ n)) }
+    let e : c.loop-i.i ≡ c.unchecked-n.result = omega arith in
+    let n = c.unchecked-n.ensures ∙ sym (terms_count c.args.rules.now c.args.place) in
+    record { counted = n; terms = rw (← e) (filled-all _ _ _ c.loop-i.invariant.2 (e ∙ n)) }
 
-pub terms-at-spec : {M : Type 1} → statement M
-terms-at-spec =
+pub terms_at_spec : {M : Type 1} → statement M
+terms_at_spec =
     tie.close
     (tie.spec
     invariant-loop

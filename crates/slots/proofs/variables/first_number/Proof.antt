@@ -10,47 +10,47 @@ use Rattle.slots.specs.Variables.{first_none, first_more}
 use Rattle.slots.proofs.variables.first_number.Statement.{statement}
 use Rattle.slots.proofs.variables.first_number.Tie as tie
 
-abbrev invariant-loop : tie.invariant-loop
+abbrev invariant-loop : tie.invariant-loop-y
 invariant-loop bytes bools x number₀ y₀ number y = (y ≤ x) × (number ≡ first (board_of bytes) y)
 
-abbrev decreases-loop : tie.decreases-loop
+abbrev decreases-loop : tie.decreases-loop-y
 decreases-loop bytes bools x number₀ y₀ number y = x - y
 
-cast-number : tie.Need-overflow-cast-number invariant-loop decreases-loop
-cast-number c = omega (arith, (opens_admitted _ c.before.requires.0).bools)
+cast-number : tie.Need-overflow_cast-number invariant-loop decreases-loop
+cast-number c = omega (arith, (opens_admitted _ c.requires.0).bools)
 
-add-number : tie.Need-overflow-add-number invariant-loop decreases-loop
-add-number c = omega (arith, (opens_admitted _ c.before.requires.0).bools)
+add-number : tie.Need-overflow_add-number invariant-loop decreases-loop
+add-number c = omega (arith, (opens_admitted _ c.requires.0).bools)
 
-loop-holds : tie.Need-loop-init invariant-loop decreases-loop
-loop-holds c = (omega arith, rw c.before.requires.1 (sym (first_none _)))
+loop-holds : tie.Need-loop-y-init invariant-loop decreases-loop
+loop-holds c = (omega arith, rw c.requires.1 (sym (first_none _)))
 
-bounds-of-requires : tie.Need-bounds-of-requires invariant-loop decreases-loop
+bounds-of-requires : tie.Need-bounds_of-requires invariant-loop decreases-loop
 bounds-of-requires c κs = search rules
 
-width-of-requires : tie.Need-width-of-requires invariant-loop decreases-loop
+width-of-requires : tie.Need-width_of-number-requires invariant-loop decreases-loop
 width-of-requires c κs = c.bounds_of.ensures.good
 
-add-number-2 : tie.Need-overflow-add-number-2 invariant-loop decreases-loop
+add-number-2 : tie.Need-overflow_add-number-in-loop-y invariant-loop decreases-loop
 add-number-2 c =
-    omega (arith, first-most _ (opens_admitted _ c.before.before.before.before.before.requires.0) c.before.before.before.loop.y, width-most _ c.before.bounds_of.ensures.good)
+    omega (arith, first-most _ (opens_admitted _ c.requires.0) c.loop-y.y, width-most _ c.bounds_of.ensures.good)
 
-add-y : tie.Need-overflow-add-y invariant-loop decreases-loop
+add-y : tie.Need-overflow_add-y invariant-loop decreases-loop
 add-y c = search rules
 
-loop-less : tie.Need-loop-smaller invariant-loop decreases-loop
+loop-less : tie.Need-loop-y-smaller invariant-loop decreases-loop
 loop-less c = search rules
 
-loop-again : tie.Need-loop-preserved invariant-loop decreases-loop
+loop-again : tie.Need-loop-y-preserved invariant-loop decreases-loop
 loop-again c =
-    (omega arith, omega (arith, first_more _ _ _ (omega arith) c.before.bounds_of.ensures))
+    (omega arith, omega (arith, first_more _ _ _ (omega arith) c.bounds_of.ensures))
 
 returns : tie.Need-returns invariant-loop decreases-loop
 returns c =
-    let e : c.before.loop.y ≡ c.before.before.before.args.x = omega arith in rw (← e) c.before.loop.invariant.1
+    let e : c.loop-y.y ≡ c.args.x = omega arith in rw (← e) c.loop-y.invariant.1
 
-pub first-number-spec : {M : Type 1} → statement M
-first-number-spec =
+pub first_number_spec : {M : Type 1} → statement M
+first_number_spec =
     tie.close
     (tie.spec
     invariant-loop

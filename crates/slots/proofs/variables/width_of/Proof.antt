@@ -35,16 +35,16 @@ module _ (b : Bounds) (g : GoodBounds (bounds_read b)) where
 
 ruleset fit = (to_z-of_z, lower_fits, upper_fits, spread-fits)
 
-sub-result : tie.Need-overflow-sub-result
+sub-result : tie.Need-overflow_sub-result
 sub-result c = search fit
 
-cast-result : tie.Need-overflow-cast-result
+cast-result : tie.Need-overflow_cast-result
 cast-result c = search (fit, spread-casts)
 
-add-result : tie.Need-overflow-add-result
+add-result : tie.Need-overflow_add-result
 add-result c =
-    let b = c.before.before.args.bounds in
-    let g = c.before.before.requires in
+    let b = c.args.bounds in
+    let g = c.requires in
     let lower = lower_fits b g in
     let upper = upper_fits b g in
     let both = spread-fits b g in
@@ -53,5 +53,5 @@ add-result c =
 returns : tie.Need-returns
 returns c = search (fit, width_is)
 
-pub width-of-spec : {M : Type 1} → statement M
-width-of-spec = tie.close (tie.spec sub-result cast-result add-result returns)
+pub width_of_spec : {M : Type 1} → statement M
+width_of_spec = tie.close (tie.spec sub-result cast-result add-result returns)
