@@ -11,30 +11,30 @@ use Rattle.measure.proofs.measure.Tie as tie
 open-requires : tie.Need-open-requires
 open-requires c κs = search rules
 
-enum-known-header : tie.Need-enum-known-header
+enum-known-header : tie.Need-enum_known-header
 enum-known-header c = search rules
 
-totals-of-requires : tie.Need-totals-of-requires
+totals-of-requires : tie.Need-totals_of-totals-requires
 totals-of-requires c κs =
-    opened _ (told said_opening c.before.before.before.«open».ensures c.before.header.given.1)
+    opened _ (told said_opening c.before.before.before.«open».ensures c.in-Opened.is)
 
-enum-known-r : tie.Need-enum-known-r
+enum-known-r : tie.Need-enum_known-r
 enum-known-r c = search rules
 
-returns : tie.Need-returns
+returns : tie.Need-returns-then-totals-le-LONGEST
 returns c =
-    measured _ _ (told said_opening c.before.before.before.before.before.before.«open».ensures c.before.before.before.before.header.given.1) _ c.before.before.totals-of.ensures (omega (arith, c.if1.true))
+    measured _ _ (told said_opening c.before.before.before.before.before.before.«open».ensures c.in-Opened.is) _ c.totals_of-totals.ensures (omega (arith, c.if-totals-le-LONGEST.true))
 
-returns-2 : tie.Need-returns-2
+returns-2 : tie.Need-returns-else-totals-le-LONGEST
 returns-2 c =
-    too_long _ _ (told said_opening c.before.before.before.before.before.before.«open».ensures c.before.before.before.before.header.given.1) _ c.before.before.totals-of.ensures (omega (arith, c.if1.false))
+    too_long _ _ (told said_opening c.before.before.before.before.before.before.«open».ensures c.in-Opened.is) _ c.totals_of-totals.ensures (omega (arith, c.if-totals-le-LONGEST.false))
 
-returns-3 : tie.Need-returns-3
+returns-3 : tie.Need-returns-in-Refused
 returns-3 c =
-    unopened _ _ _ (told said_opening c.before.before.before.«open».ensures c.before.r.given.1)
+    unopened _ _ _ (told said_opening c.before.before.before.«open».ensures c.in-Refused.is)
 
-pub measure-spec : {M : Type 1} → statement M
-measure-spec =
+pub measure_spec : {M : Type 1} → statement M
+measure_spec =
     tie.close
     (tie.spec
     open-requires

@@ -11,13 +11,13 @@ use Rattle.measure.proofs.Tuples.{over_near, over_is}
 use Rattle.measure.proofs.count.over.Statement.{statement}
 use Rattle.measure.proofs.count.over.Tie as tie
 
-cast-result : tie.Need-overflow-cast-result
+cast-result : tie.Need-overflow_cast-result
 cast-result c =
     let f = c.ranges.t in
     let s : pos 0 ≤ℤ c.args.t = omega (whole, c.requires.1, c.requires.2) in
     simp to_z-of_z (yes_non_neg s, Fits-nat_abs tt f)
 
-add-result : tie.Need-overflow-add-result
+add-result : tie.Need-overflow_add-result
 add-result c =
     let f = c.ranges.t in
     simp to_z-of_z (omega (arith, ap nat_abs c.requires.1, over_near c.args.c c.requires.0 c.requires.2))
@@ -29,5 +29,5 @@ returns c =
     let e : nat_abs c.args.t + 1 ≡ over c.args.c = over_is c.args.c c.requires.0 c.requires.2 _ (pos-nat_abs c.args.t (yes_non_neg s) ∙ c.requires.1) in
     simp to_z-of_z (e, omega (arith, e, ap nat_abs c.requires.1, over_near c.args.c c.requires.0 c.requires.2))
 
-pub over-spec : {M : Type 1} → statement M
-over-spec = tie.close (tie.spec cast-result add-result returns)
+pub over_spec : {M : Type 1} → statement M
+over_spec = tie.close (tie.spec cast-result add-result returns)

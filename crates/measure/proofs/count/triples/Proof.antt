@@ -8,31 +8,31 @@ use Rattle.measure.proofs.count.triples.Tie as tie
 triangle-requires : tie.Need-triangle-requires
 triangle-requires c κs = search rules
 
-add-beyond : tie.Need-overflow-add-beyond
+add-beyond : tie.Need-overflow_add-a
 add-beyond c = search rules
 
 beyond-requires : tie.Need-beyond-requires
 beyond-requires c κs = search rules
 
-add-more : tie.Need-overflow-add-more
+add-more : tie.Need-overflow_add-more
 add-more c = search rules
 
-add-beyond-2 : tie.Need-overflow-add-beyond-2
+add-beyond-2 : tie.Need-overflow_add-a-2
 add-beyond-2 c = search rules
 
 beyond-requires-2 : tie.Need-beyond-requires-2
 beyond-requires-2 c κs = search rules
 
-add-more-2 : tie.Need-overflow-add-more-2
+add-more-2 : tie.Need-overflow_add-more-2
 add-more-2 c = search rules
 
-add-beyond-3 : tie.Need-overflow-add-beyond-3
+add-beyond-3 : tie.Need-overflow_add-b
 add-beyond-3 c = search rules
 
 beyond-requires-3 : tie.Need-beyond-requires-3
 beyond-requires-3 c κs = search rules
 
-add-more-3 : tie.Need-overflow-add-more-3
+add-more-3 : tie.Need-overflow_add-more-3
 add-more-3 c = search rules
 
 beyond-requires-4 : tie.Need-beyond-requires-4
@@ -41,37 +41,37 @@ beyond-requires-4 c κs = search rules
 beyond-requires-5 : tie.Need-beyond-requires-5
 beyond-requires-5 c κs = search rules
 
-add-fewer : tie.Need-overflow-add-fewer
+add-fewer : tie.Need-overflow_add-fewer
 add-fewer c = search rules
 
 beyond-requires-6 : tie.Need-beyond-requires-6
 beyond-requires-6 c κs = search rules
 
-add-fewer-2 : tie.Need-overflow-add-fewer-2
+add-fewer-2 : tie.Need-overflow_add-fewer-2
 add-fewer-2 c = search rules
 
-add-beyond-4 : tie.Need-overflow-add-beyond-4
+add-beyond-4 : tie.Need-overflow_add-a-3
 add-beyond-4 c = search rules
 
-add-beyond-5 : tie.Need-overflow-add-beyond-5
+add-beyond-5 : tie.Need-overflow_add-a-4
 add-beyond-5 c = search rules
 
 beyond-requires-7 : tie.Need-beyond-requires-7
 beyond-requires-7 c κs = search rules
 
-add-fewer-3 : tie.Need-overflow-add-fewer-3
+add-fewer-3 : tie.Need-overflow_add-fewer-3
 add-fewer-3 c = search rules
 
-sub-result : tie.Need-overflow-sub-result
+sub-result : tie.Need-overflow_sub-result
 sub-result c =
-    omega (arith, no_fewer c.before.before.before.before.before.before.before.before.args.u c.before.before.before.before.before.before.before.before.args.a c.before.before.before.before.before.before.before.before.args.b c.before.before.before.before.before.before.before.before.args.c c.before.before.before.before.before.before.before.before.requires.sum c.before.before.before.before.before.before.before.before.requires.first.0 c.before.before.before.before.before.before.before.before.requires.second.0 c.before.before.before.before.before.before.before.before.requires.third.0)
+    omega (arith, no_fewer c.args.u c.args.a c.args.b c.args.c c.requires.sum c.requires.first.0 c.requires.second.0 c.requires.third.0)
 
 returns : tie.Need-returns
 returns c =
-    omega (arith, triples_are c.before.before.before.before.before.before.before.before.args.u c.before.before.before.before.before.before.before.before.args.a c.before.before.before.before.before.before.before.before.args.b c.before.before.before.before.before.before.before.before.args.c)
+    omega (arith, triples_are c.args.u c.args.a c.args.b c.args.c)
 
-pub triples-spec : {M : Type 1} → statement M
-triples-spec =
+pub triples_spec : {M : Type 1} → statement M
+triples_spec =
     tie.close
     (tie.spec
     triangle-requires

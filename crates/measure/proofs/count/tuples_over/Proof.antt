@@ -22,18 +22,18 @@ wide-requires-3 c κs = search rules
 triples-requires : tie.Need-triples-requires
 triples-requires c κs =
     record {
-      sum = omega (arith, c.before.before.before.over.ensures.0, over_some c.before.before.before.before.args.c);
-      small = c.before.before.before.over.ensures.1;
-      first = (omega (arith, c.before.before.wide.ensures.0, wide_some c.before.before.before.before.args.c 0), c.before.before.wide.ensures.1);
-      second = (omega (arith, c.before.wide2.ensures.0, wide_some c.before.before.before.before.args.c 1), c.before.wide2.ensures.1);
-      third = (omega (arith, c.wide3.ensures.0, wide_some c.before.before.before.before.args.c 2), c.wide3.ensures.1);
+      sum = omega (arith, c.over.ensures.0, over_some c.args.c);
+      small = c.over.ensures.1;
+      first = (omega (arith, c.wide.ensures.0, wide_some c.args.c 0), c.wide.ensures.1);
+      second = (omega (arith, c.wide-2.ensures.0, wide_some c.args.c 1), c.wide-2.ensures.1);
+      third = (omega (arith, c.wide-3.ensures.0, wide_some c.args.c 2), c.wide-3.ensures.1);
     }
 
 returns : tie.Need-returns
 returns c =
-    rw (c.before.before.before.before.over.ensures.0, c.before.before.before.wide.ensures.0, c.before.before.wide2.ensures.0, c.before.wide3.ensures.0) at c.triples.ensures ∙ sym (tuples_are c.before.before.before.before.before.args.c c.before.before.before.before.before.requires.0 c.before.before.before.before.before.requires.2)
+    rw (c.over.ensures.0, c.wide.ensures.0, c.wide-2.ensures.0, c.wide-3.ensures.0) at c.triples.ensures ∙ sym (tuples_are c.args.c c.requires.0 c.requires.2)
 
-pub tuples-over-spec : {M : Type 1} → statement M
-tuples-over-spec =
+pub tuples_over_spec : {M : Type 1} → statement M
+tuples_over_spec =
     tie.close
     (tie.spec over-requires wide-requires wide-requires-2 wide-requires-3 triples-requires returns)

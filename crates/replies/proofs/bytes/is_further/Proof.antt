@@ -5,29 +5,29 @@ use borrow.Author.Rules.{rules}
 use Rattle.replies.proofs.bytes.is_further.Statement.{statement}
 use Rattle.replies.proofs.bytes.is_further.Tie as tie
 
-is-digit-requires : tie.Need-is-digit-requires
+is-digit-requires : tie.Need-is_digit-requires
 is-digit-requires c κs = search rules
 
-returns : tie.Need-returns
+returns : tie.Need-returns-then-not-is_digit
 returns c =
-    rw (via c.before.is_digit.ensures (not-true _ c.if1.true))
+    rw (via c.is_digit.ensures (not-true _ c.if-not-is_digit.true))
 
-returns-2 : tie.Need-returns-2
+returns-2 : tie.Need-returns-then-size-gt0
 returns-2 c =
-    let is_digit = c.before.before.is_digit in
-    rw (via is_digit.ensures (not-false _ c.before.if1.false), lt-ltb 0 _ c.if2.true)
+    let is_digit = c.is_digit in
+    rw (via is_digit.ensures (not-false _ c.if-not-is_digit.false), lt-ltb 0 _ c.if-size-gt0.true)
 
-returns-3 : tie.Need-returns-3
+returns-3 : tie.Need-returns-then-minus
 returns-3 c =
-    let is_digit = c.before.before.before.is_digit in
-    let if1 = c.before.before.if1 in
-    rw (via is_digit.ensures (not-false _ if1.false), le-ltb 0 _ c.before.if2.false, c.if3.true)
+    let is_digit = c.is_digit in
+    let if1 = c.if-not-is_digit in
+    rw (via is_digit.ensures (not-false _ if1.false), le-ltb 0 _ c.if-size-gt0.false, c.if-minus.true)
 
-returns-4 : tie.Need-returns-4
+returns-4 : tie.Need-returns
 returns-4 c =
-    let is_digit = c.before.before.before.is_digit in
-    let if1 = c.before.before.if1 in
-    rw (via is_digit.ensures (not-false _ if1.false), le-ltb 0 _ c.before.if2.false, c.if3.false)
+    let is_digit = c.is_digit in
+    let if1 = c.if-not-is_digit in
+    rw (via is_digit.ensures (not-false _ if1.false), le-ltb 0 _ c.if-size-gt0.false, c.if-minus.false)
 
-pub is-further-spec : {M : Type 1} → statement M
-is-further-spec = tie.close (tie.spec is-digit-requires returns returns-2 returns-3 returns-4)
+pub is_further_spec : {M : Type 1} → statement M
+is_further_spec = tie.close (tie.spec is-digit-requires returns returns-2 returns-3 returns-4)

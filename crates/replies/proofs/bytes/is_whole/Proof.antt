@@ -3,11 +3,11 @@ use borrow.Author.Tests.{lt-ltb, le-ltb}
 use Rattle.replies.proofs.bytes.is_whole.Statement.{statement}
 use Rattle.replies.proofs.bytes.is_whole.Tie as tie
 
-returns : tie.Need-returns
-returns c = rw (lt-ltb 0 _ c.if1.true)
+returns : tie.Need-returns-then-size-gt0
+returns c = rw (lt-ltb 0 _ c.if-size-gt0.true)
 
-returns-2 : tie.Need-returns-2
-returns-2 c = rw (le-ltb 0 _ c.if1.false)
+returns-2 : tie.Need-returns
+returns-2 c = rw (le-ltb 0 _ c.if-size-gt0.false)
 
-pub is-whole-spec : {M : Type 1} → statement M
-is-whole-spec = tie.close (tie.spec returns returns-2)
+pub is_whole_spec : {M : Type 1} → statement M
+is_whole_spec = tie.close (tie.spec returns returns-2)

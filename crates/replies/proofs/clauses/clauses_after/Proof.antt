@@ -5,14 +5,14 @@ use borrow.Author.Rules.{rules}
 use Rattle.replies.proofs.clauses.clauses_after.Statement.{statement}
 use Rattle.replies.proofs.clauses.clauses_after.Tie as tie
 
-add-result : tie.Need-overflow-add-result
+add-result : tie.Need-overflow_add-result
 add-result c = search rules
 
-returns : tie.Need-returns
-returns c = rw (eq-eqb _ 0 c.if1.true) (add-one _)
+returns : tie.Need-returns-then-size-eq0
+returns c = rw (eq-eqb _ 0 c.if-size-eq0.true) (add-one _)
 
-returns-2 : tie.Need-returns-2
-returns-2 c = rw (ne_eqb _ 0 c.if1.false)
+returns-2 : tie.Need-returns
+returns-2 c = rw (ne_eqb _ 0 c.if-size-eq0.false)
 
-pub clauses-after-spec : {M : Type 1} → statement M
-clauses-after-spec = tie.close (tie.spec add-result returns returns-2)
+pub clauses_after_spec : {M : Type 1} → statement M
+clauses_after_spec = tie.close (tie.spec add-result returns returns-2)

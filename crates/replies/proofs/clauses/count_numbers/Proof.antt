@@ -9,74 +9,74 @@ use Rattle.replies.specs.Texts.{Counts, counts_none, counts_more, counts_bad, co
 use Rattle.replies.proofs.clauses.count_numbers.Statement.{statement}
 use Rattle.replies.proofs.clauses.count_numbers.Tie as tie
 
-abbrev invariant-loop : tie.invariant-loop
+abbrev invariant-loop : tie.invariant-loop-size
 invariant-loop text n m from at₀ numbers₀ clauses₀ at numbers clauses = Counts n m from numbers clauses at text
 
-abbrev decreases-loop : tie.decreases-loop
+abbrev decreases-loop : tie.decreases-loop-size
 decreases-loop text n m from at₀ numbers₀ clauses₀ at numbers clauses = length text - at
 
-loop-holds : tie.Need-loop-init invariant-loop decreases-loop
-loop-holds c = counts_none _ _ _ _ c.before.requires
+loop-holds : tie.Need-loop-size-init invariant-loop decreases-loop
+loop-holds c = counts_none _ _ _ _ c.requires
 
-next-number-requires : tie.Need-next-number-requires invariant-loop decreases-loop
-next-number-requires c κs = c.loop.invariant.inside
+next-number-requires : tie.Need-next_number-requires invariant-loop decreases-loop
+next-number-requires c κs = c.loop-size.invariant.inside
 
-enum-known-size : tie.Need-enum-known-size invariant-loop decreases-loop
+enum-known-size : tie.Need-enum_known-size invariant-loop decreases-loop
 enum-known-size c = search rules
 
-add-numbers : tie.Need-overflow-add-numbers invariant-loop decreases-loop
+add-numbers : tie.Need-overflow_add-numbers invariant-loop decreases-loop
 add-numbers c =
-    let loop = c.before.before.before.before.loop in
-    let next-number = c.before.before.before.next-number in
-    let h = rw c.before.size.given.1 at next-number.ensures.1 in omega (arith, h.0, h.1, loop.invariant.short)
+    let loop = c.loop-size in
+    let next-number = c.next_number in
+    let h = rw c.in-Number.is at next-number.ensures.1 in omega (arith, h.0, h.1, loop.invariant.short)
 
-clauses-after-requires : tie.Need-clauses-after-requires invariant-loop decreases-loop
+clauses-after-requires : tie.Need-clauses_after-clauses-requires invariant-loop decreases-loop
 clauses-after-requires c κs =
-    let loop = c.before.before.before.before.loop in
-    let next-number = c.before.before.before.next-number in
-    let h = rw c.before.size.given.1 at next-number.ensures.1 in omega (arith, h.0, h.1, loop.invariant.short, loop.invariant.few)
+    let loop = c.loop-size in
+    let next-number = c.next_number in
+    let h = rw c.in-Number.is at next-number.ensures.1 in omega (arith, h.0, h.1, loop.invariant.short, loop.invariant.few)
 
-loop-less : tie.Need-loop-smaller invariant-loop decreases-loop
+loop-less : tie.Need-loop-size-smaller invariant-loop decreases-loop
 loop-less c =
-    let next-number = c.before.before.before.before.next-number in
-    let size = c.before.before.size in
+    let next-number = c.next_number in
+    let size = c.size in
     let h = rw size.given.1 at next-number.ensures.1 in omega (arith, h.0, h.1)
 
-loop-again : tie.Need-loop-preserved invariant-loop decreases-loop
+loop-again : tie.Need-loop-size-preserved invariant-loop decreases-loop
 loop-again c =
-    let loop = c.before.before.before.before.before.loop in
-    let next-number = c.before.before.before.before.next-number in
-    let size = c.before.before.size in
-    let h = rw size.given.1 at next-number.ensures.1 in counts_more _ _ _ _ loop.invariant _ _ _ _ _ (told (said_next _) next-number.ensures.0 size.given.1) h.0 h.1 c.clauses-after.ensures
+    let loop = c.loop-size in
+    let next-number = c.next_number in
+    let size = c.size in
+    let h = rw size.given.1 at next-number.ensures.1 in counts_more _ _ _ _ loop.invariant _ _ _ _ _ (told (said_next _) next-number.ensures.0 size.given.1) h.0 h.1 c.clauses_after-clauses.ensures
 
-enum-known-end : tie.Need-enum-known-end invariant-loop decreases-loop
+enum-known-end : tie.Need-enum_known-end invariant-loop decreases-loop
 enum-known-end c = search rules
 
-returns : tie.Need-returns invariant-loop decreases-loop
+returns : tie.Need-returns-then-clauses-m invariant-loop decreases-loop
 returns c =
-    let loop = c.before.before.before.before.before.loop in
-    let next-number = c.before.before.before.before.next-number in
-    let end = c.before.before.end in
-    counts_all _ _ _ _ loop.invariant _ (told (said_next _) next-number.ensures.0 end.given.1) c.if1.true
+    let loop = c.loop-size in
+    let next-number = c.next_number in
+    let end = c.end in
+    counts_all _ _ _ _ loop.invariant _ (told (said_next _) next-number.ensures.0 end.given.1) c.if-clauses-m.true
 
-returns-2 : tie.Need-returns-2 invariant-loop decreases-loop
+returns-2 : tie.Need-returns-in-End invariant-loop decreases-loop
 returns-2 c =
-    let loop = c.before.before.before.before.before.loop in
-    let next-number = c.before.before.before.before.next-number in
-    let end = c.before.before.end in
-    counts_short _ _ _ _ loop.invariant _ (told (said_next _) next-number.ensures.0 end.given.1) c.if1.false
+    let loop = c.loop-size in
+    let next-number = c.next_number in
+    let end = c.end in
+    counts_short _ _ _ _ loop.invariant _ (told (said_next _) next-number.ensures.0 end.given.1) c.if-clauses-m.false
 
-enum-known-d : tie.Need-enum-known-d invariant-loop decreases-loop
+enum-known-d : tie.Need-enum_known-d invariant-loop decreases-loop
 enum-known-d c = search rules
 
-returns-3 : tie.Need-returns-3 invariant-loop decreases-loop
+returns-3 : tie.Need-returns-in-Bad invariant-loop decreases-loop
 returns-3 c =
-    let loop = c.before.before.before.before.loop in
-    let next-number = c.before.before.before.next-number in
-    counts_bad _ _ _ _ loop.invariant _ (told (said_next _) next-number.ensures.0 c.before.d.given.1)
+    let loop = c.loop-size in
+    let next-number = c.next_number in
+    counts_bad _ _ _ _ loop.invariant _ (told (said_next _) next-number.ensures.0 c.in-Bad.is)
 
-pub count-numbers-spec : {M : Type 1} → statement M
-count-numbers-spec =
+pub count_numbers_spec : {M : Type 1} → statement M
+count_numbers_spec =
     tie.close
     (tie.spec
     invariant-loop

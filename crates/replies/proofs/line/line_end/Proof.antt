@@ -11,32 +11,32 @@ use Rattle.replies.proofs.line.line_end.Tie as tie
 slice-aggregate-word-at : tie.Need-slice-aggregate-word-at
 slice-aggregate-word-at c = search rules
 
-word-at-requires : tie.Need-word-at-requires
+word-at-requires : tie.Need-word_at-read-requires
 word-at-requires c κs = search rules
 
-enum-known-read : tie.Need-enum-known-read
+enum-known-read : tie.Need-enum_known-read
 enum-known-read c = search rules
 
-enum_told : tie.Need-enum-told
+enum_told : tie.Need-enum_told-1
 enum_told c = search rules
 
-of-word-requires : tie.Need-of-word-requires
+of-word-requires : tie.Need-of_word-requires
 of-word-requires c κs = search rules
 
-returns : tie.Need-returns
+returns : tie.Need-returns-in_default
 returns c =
-    let args = c.before.before.before.before.before.before.args in
-    let word_at = c.before.before.before.word_at in
+    let args = c.args in
+    let word_at = c.word_at-read in
     (sym (end-bad args.n args.m args.from (drop args.from args.text.now) (told (said_word args.text.now) word_at.ensures.0 c.of_word.ensures)), tt)
 
-returns-2 : tie.Need-returns-2
+returns-2 : tie.Need-returns
 returns-2 c =
-    let args = c.before.before.before.before.before.before.args in
-    let word_at = c.before.before.before.word_at in
-    (sym (end_is args.n args.m args.from (drop args.from args.text.now) (told (said_word args.text.now) word_at.ensures.0 c.before.read.given.1)), (rw c.before.read.given.1 at word_at.ensures.1).1)
+    let args = c.args in
+    let word_at = c.word_at-read in
+    (sym (end_is args.n args.m args.from (drop args.from args.text.now) (told (said_word args.text.now) word_at.ensures.0 c.in-Past.is)), (rw c.in-Past.is at word_at.ensures.1).1)
 
-pub line-end-spec : {M : Type 1} → statement M
-line-end-spec =
+pub line_end_spec : {M : Type 1} → statement M
+line_end_spec =
     tie.close
     (tie.spec
     slice-aggregate-word-at

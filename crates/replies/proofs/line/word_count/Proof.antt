@@ -8,38 +8,38 @@ use borrow.Author.Rules.{rules}
 use Rattle.replies.proofs.line.word_count.Statement.{statement}
 use Rattle.replies.proofs.line.word_count.Tie as tie
 
-word-at-requires : tie.Need-word-at-requires
+word-at-requires : tie.Need-word_at-read-requires
 word-at-requires c κs = search rules
 
-enum-known-read : tie.Need-enum-known-read
+enum-known-read : tie.Need-enum_known-read
 enum-known-read c = search rules
 
-enum_told : tie.Need-enum-told
+enum_told : tie.Need-enum_told-1
 enum_told c = search rules
 
-of-word-requires : tie.Need-of-word-requires
+of-word-requires : tie.Need-of_word-requires
 of-word-requires c κs = search rules
 
-returns : tie.Need-returns
+returns : tie.Need-returns-in_default
 returns c =
-    let args = c.before.before.before.before.before.before.args in
-    let word_at = c.before.before.before.word_at in
+    let args = c.args in
+    let word_at = c.word_at-read in
     (sym (word_count_bad args.word.now args.from (drop args.from args.text.now) (told (said_word args.text.now) word_at.ensures.0 c.of_word.ensures)), tt)
 
-count-at-requires : tie.Need-count-at-requires
+count-at-requires : tie.Need-count_at-requires
 count-at-requires c κs =
-    let word_at = c.before.before.before.word_at in
-    (rw c.before.read.given.1 at word_at.ensures.1).1
+    let word_at = c.word_at-read in
+    (rw c.in-Past.is at word_at.ensures.1).1
 
-returns-2 : tie.Need-returns-2
+returns-2 : tie.Need-returns
 returns-2 c =
-    let args = c.before.before.before.before.before.before.before.args in
-    let word_at = c.before.before.before.before.word_at in
-    let read = c.before.before.read in
+    let args = c.args in
+    let word_at = c.word_at-read in
+    let read = c.read in
     (c.count_at.ensures.0 ∙ sym (word_count_is args.word.now args.from (drop args.from args.text.now) (told (said_word args.text.now) word_at.ensures.0 read.given.1)), count_anywhere read.given.0.0 args.text.now c.count_at.result c.count_at.ensures.1)
 
-pub word-count-spec : {M : Type 1} → statement M
-word-count-spec =
+pub word_count_spec : {M : Type 1} → statement M
+word_count_spec =
     tie.close
     (tie.spec
     word-at-requires

@@ -9,86 +9,86 @@ use borrow.Author.Rules.{rules}
 use Rattle.replies.proofs.lists.read_text.Statement.{statement}
 use Rattle.replies.proofs.lists.read_text.Tie as tie
 
-first-line-requires : tie.Need-first-line-requires
+first-line-requires : tie.Need-first_line-head-requires
 first-line-requires c κs = search rules
 
-enum-known-head : tie.Need-enum-known-head
+enum-known-head : tie.Need-enum_known-head
 enum-known-head c = search rules
 
-enum_told : tie.Need-enum-told
+enum_told : tie.Need-enum_told-1
 enum_told c = search rules
 
-of-head-requires : tie.Need-of-head-requires
+of-head-requires : tie.Need-of_head-requires
 of-head-requires c κs = search rules
 
-returns : tie.Need-returns
+returns : tie.Need-returns-in_default
 returns c =
-    let args = c.before.before.before.before.before.args in
-    let first-line = c.before.before.before.first-line in
-    apart (taken-bad args.text.now args.list.now (text-bad args.text.now (told (said_head args.text.now) first-line.ensures.0 c.of-head.ensures)))
+    let args = c.args in
+    let first-line = c.first_line-head in
+    apart (taken-bad args.text.now args.list.now (text-bad args.text.now (told (said_head args.text.now) first-line.ensures.0 c.of_head.ensures)))
 
-count-numbers-requires : tie.Need-count-numbers-requires
+count-numbers-requires : tie.Need-count_numbers-counted-requires
 count-numbers-requires c κs =
-    let first-line = c.before.before.before.first-line in
-    rw c.before.head.given.1 at first-line.ensures.1
+    let first-line = c.first_line-head in
+    rw c.in-Sizes.is at first-line.ensures.1
 
-enum-known-counted : tie.Need-enum-known-counted
+enum-known-counted : tie.Need-enum_known-counted
 enum-known-counted c = search rules
 
-enum-told-2 : tie.Need-enum-told-2
+enum-told-2 : tie.Need-enum_told-in_default-counted
 enum-told-2 c = search rules
 
-of-counted-requires : tie.Need-of-counted-requires
+of-counted-requires : tie.Need-of_counted-requires
 of-counted-requires c κs = search rules
 
-returns-2 : tie.Need-returns-2
+returns-2 : tie.Need-returns-in_default-counted
 returns-2 c =
-    let args = c.before.before.before.before.before.before.before.before.before.args in
-    let first-line = c.before.before.before.before.before.before.before.first-line in
-    let head = c.before.before.before.before.before.head in
-    let count-numbers = c.before.before.before.count-numbers in
-    apart (taken-bad args.text.now args.list.now (numbers-bad args.text.now (told (said_head args.text.now) first-line.ensures.0 head.given.1) (told (said_counted _ _) count-numbers.ensures c.of-counted.ensures)))
+    let args = c.args in
+    let first-line = c.first_line-head in
+    let head = c.head in
+    let count-numbers = c.count_numbers-counted in
+    apart (taken-bad args.text.now args.list.now (numbers-bad args.text.now (told (said_head args.text.now) first-line.ensures.0 head.given.1) (told (said_counted _ _) count-numbers.ensures c.of_counted.ensures)))
 
-returns-3 : tie.Need-returns-3
+returns-3 : tie.Need-returns-then-list-k
 returns-3 c =
-    let args = c.before.before.before.before.before.before.before.before.before.before.args in
-    let first-line = c.before.before.before.before.before.before.before.before.first-line in
-    let head = c.before.before.before.before.before.before.head in
-    let count-numbers = c.before.before.before.before.count-numbers in
-    let counted = c.before.before.counted in
-    apart (taken_short args.text.now args.list.now (told (said_head args.text.now) first-line.ensures.0 head.given.1) (told (said_counted _ _) count-numbers.ensures counted.given.1) c.if1.true)
+    let args = c.args in
+    let first-line = c.first_line-head in
+    let head = c.head in
+    let count-numbers = c.count_numbers-counted in
+    let counted = c.counted in
+    apart (taken_short args.text.now args.list.now (told (said_head args.text.now) first-line.ensures.0 head.given.1) (told (said_counted _ _) count-numbers.ensures counted.given.1) c.if-list-k.true)
 
-put-numbers-requires : tie.Need-put-numbers-requires
+put-numbers-requires : tie.Need-put_numbers-requires
 put-numbers-requires c κs =
-    let args = c.before.before.before.before.before.before.before.before.before.before.before.args in
-    let first-line = c.before.before.before.before.before.before.before.before.before.first-line in
-    let head = c.before.before.before.before.before.before.before.head in
-    let count-numbers = c.before.before.before.before.before.count-numbers in
-    let counted = c.before.before.before.counted in
+    let args = c.args in
+    let first-line = c.first_line-head in
+    let head = c.head in
+    let count-numbers = c.count_numbers-counted in
+    let counted = c.counted in
     let line = told (said_head args.text.now) first-line.ensures.0 head.given.1 in
-    (omega (arith, line_small args.text.now line), rw head.given.1 at first-line.ensures.1, taken_fits args.text.now args.list.now line (told (said_counted _ _) count-numbers.ensures counted.given.1) (omega (arith, c.before.if1.false)))
+    (omega (arith, line_small args.text.now line), rw head.given.1 at first-line.ensures.1, taken_fits args.text.now args.list.now line (told (said_counted _ _) count-numbers.ensures counted.given.1) (omega (arith, c.if-list-k.false)))
 
-cast-t13 : tie.Need-overflow-cast-t13
+cast-t13 : tie.Need-overflow_cast-result
 cast-t13 c = search rules
 
-cast-t18 : tie.Need-overflow-cast-t18
+cast-t18 : tie.Need-overflow_cast-result-2
 cast-t18 c = search rules
 
-same_length : tie.Need-same-length
+same_length : tie.Need-shape_of-list
 same_length c = search rules
 
-returns-4 : tie.Need-returns-4
+returns-4 : tie.Need-returns
 returns-4 c =
-    let args = c.before.before.before.before.before.before.before.before.before.before.before.before.before.args in
-    let first-line = c.before.before.before.before.before.before.before.before.before.before.before.first-line in
-    let head = c.before.before.before.before.before.before.before.before.before.head in
-    let count-numbers = c.before.before.before.before.before.before.before.count-numbers in
-    let counted = c.before.before.before.before.before.counted in
-    let if1 = c.before.before.before.if1 in
-    apart (taken-all args.text.now args.list.now (told (said_head args.text.now) first-line.ensures.0 head.given.1) (told (said_counted _ _) count-numbers.ensures counted.given.1) _ (omega (arith, if1.false)) c.before.put-numbers.ensures)
+    let args = c.args in
+    let first-line = c.first_line-head in
+    let head = c.head in
+    let count-numbers = c.count_numbers-counted in
+    let counted = c.counted in
+    let if1 = c.if-list-k in
+    apart (taken-all args.text.now args.list.now (told (said_head args.text.now) first-line.ensures.0 head.given.1) (told (said_counted _ _) count-numbers.ensures counted.given.1) _ (omega (arith, if1.false)) c.put_numbers.ensures)
 
-pub read-text-spec : {M : Type 1} → statement M
-read-text-spec =
+pub read_text_spec : {M : Type 1} → statement M
+read_text_spec =
     tie.close
     (tie.spec
     first-line-requires

@@ -8,23 +8,23 @@ use borrow.Author.Rules.{rules}
 use Rattle.replies.proofs.lists.signed_of.Statement.{statement}
 use Rattle.replies.proofs.lists.signed_of.Tie as tie
 
-cast-result : tie.Need-overflow-cast-result
+cast-result : tie.Need-overflow_cast-result
 cast-result c = search rules
 
-sub-result : tie.Need-overflow-sub-result
+sub-result : tie.Need-overflow_sub-result
 sub-result c =
-    minus_fits c.before.args.size (omega (arith, c.before.requires))
+    minus_fits c.args.size (omega (arith, c.requires))
 
-returns : tie.Need-returns
+returns : tie.Need-returns-then-minus
 returns c =
-    minus_is c.before.args.size (omega (arith, c.before.requires)) ∙ ap (λ t. number_read (num 0 t c.before.args.size)) (sym c.if1.true)
+    minus_is c.args.size (omega (arith, c.requires)) ∙ ap (λ t. number_read (num 0 t c.args.size)) (sym c.if-minus.true)
 
-cast-result-2 : tie.Need-overflow-cast-result-2
+cast-result-2 : tie.Need-overflow_cast-result-2
 cast-result-2 c = search rules
 
-returns-2 : tie.Need-returns-2
+returns-2 : tie.Need-returns
 returns-2 c =
-    plus_is c.before.args.size (omega (arith, c.before.requires)) ∙ ap (λ t. number_read (num 0 t c.before.args.size)) (sym c.if1.false)
+    plus_is c.args.size (omega (arith, c.requires)) ∙ ap (λ t. number_read (num 0 t c.args.size)) (sym c.if-minus.false)
 
-pub signed-of-spec : {M : Type 1} → statement M
-signed-of-spec = tie.close (tie.spec cast-result sub-result returns cast-result-2 returns-2)
+pub signed_of_spec : {M : Type 1} → statement M
+signed_of_spec = tie.close (tie.spec cast-result sub-result returns cast-result-2 returns-2)

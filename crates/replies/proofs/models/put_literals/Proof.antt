@@ -13,79 +13,79 @@ use Rattle.definitions.specs.TextOperations.{model_of}
 use Rattle.replies.proofs.models.put_literals.Statement.{statement}
 use Rattle.replies.proofs.models.put_literals.Tie as tie
 
-abbrev invariant-loop : tie.invariant-loop
+abbrev invariant-loop : tie.invariant-loop-minus
 invariant-loop text n from model₀ at₀ line₀ model at line = Passing (model_of (length model₀)) n from line at text model
 
-abbrev decreases-loop : tie.decreases-loop
+abbrev decreases-loop : tie.decreases-loop-minus
 decreases-loop text n from model₀ at₀ line₀ model at line = length text - at
 
-loop-holds : tie.Need-loop-init invariant-loop decreases-loop
+loop-holds : tie.Need-loop-minus-init invariant-loop decreases-loop
 loop-holds c =
-    let args = c.before.before.args in
-    let pre = c.before.before.requires in
+    let args = c.args in
+    let pre = c.requires in
     passing_none _ _ _ _ pre.0.inside (pre.1 ∙ none_yet 1 (length args.model.now))
 
-value-at-requires : tie.Need-value-at-requires invariant-loop decreases-loop
-value-at-requires c κs = c.loop.invariant.passed.inside
+value-at-requires : tie.Need-value_at-requires invariant-loop decreases-loop
+value-at-requires c κs = c.loop-minus.invariant.passed.inside
 
-enum-known-minus : tie.Need-enum-known-minus invariant-loop decreases-loop
+enum-known-minus : tie.Need-enum_known-minus invariant-loop decreases-loop
 enum-known-minus c = search rules
 
-cast-put-literal : tie.Need-overflow-cast-put-literal invariant-loop decreases-loop
+cast-put-literal : tie.Need-overflow_cast-size invariant-loop decreases-loop
 cast-put-literal c = search rules
 
-put-literal-requires : tie.Need-put-literal-requires invariant-loop decreases-loop
+put-literal-requires : tie.Need-put_literal-requires invariant-loop decreases-loop
 put-literal-requires c κs = search rules
 
-loop-less : tie.Need-loop-smaller invariant-loop decreases-loop
+loop-less : tie.Need-loop-minus-smaller invariant-loop decreases-loop
 loop-less c =
-    let value-at = c.before.before.before.before.before.before.before.value-at in
-    let minus = c.before.before.before.before.before.minus in
+    let value-at = c.value_at in
+    let minus = c.minus in
     let h = rw minus.given.1 at value-at.ensures.1 in omega (arith, h.0, h.1)
 
-loop-again : tie.Need-loop-preserved invariant-loop decreases-loop
+loop-again : tie.Need-loop-minus-preserved invariant-loop decreases-loop
 loop-again c =
-    let args = c.before.before.before.before.before.before.before.before.before.before.before.args in
-    let loop = c.before.before.before.before.before.before.before.before.loop in
-    let value-at = c.before.before.before.before.before.before.before.value-at in
-    let put-literal = c.before.before.put-literal in
-    let h = rw c.before.before.before.before.before.minus.given.1 at value-at.ensures.1 in
-    let minus = c.before.before.before.before.before.minus.given.0.0 in
-    passing-more _ _ _ _ loop.invariant (told (said_value _) value-at.ensures.0 c.before.before.before.before.before.minus.given.1) h.1 (λ ns e. put-literal.ensures ∙ ap (with_literal minus c.before.before.before.before.before.minus.given.0.1.0) e ∙ model-more (length args.model.now) ns minus c.before.before.before.before.before.minus.given.0.1.0)
+    let args = c.args in
+    let loop = c.loop-minus in
+    let value-at = c.value_at in
+    let put-literal = c.put_literal in
+    let h = rw c.in-Literal.is at value-at.ensures.1 in
+    let minus = c.in-Literal.minus in
+    passing-more _ _ _ _ loop.invariant (told (said_value _) value-at.ensures.0 c.in-Literal.is) h.1 (λ ns e. put-literal.ensures ∙ ap (with_literal minus c.in-Literal.size) e ∙ model-more (length args.model.now) ns minus c.in-Literal.size)
 
-enum_told : tie.Need-enum-told invariant-loop decreases-loop
+enum_told : tie.Need-enum_told-1 invariant-loop decreases-loop
 enum_told c = search rules
 
-same_length : tie.Need-same-length invariant-loop decreases-loop
+same_length : tie.Need-shape_of-model-in-Last invariant-loop decreases-loop
 same_length c =
-    let loop = c.before.before.before.loop in
+    let loop = c.loop-minus in
     ap length loop.invariant.held ∙ as_many _ _ _
 
-returns : tie.Need-returns invariant-loop decreases-loop
+returns : tie.Need-returns-in-Last invariant-loop decreases-loop
 returns c =
-    let args = c.before.before.before.before.before.before.args in
-    let loop = c.before.before.before.loop in
-    let value-at = c.before.before.value-at in
-    passing-all _ _ _ _ loop.invariant (told (said_value args.text.now) value-at.ensures.0 c.enum_told.given.1)
+    let args = c.args in
+    let loop = c.loop-minus in
+    let value-at = c.value_at in
+    passing-all _ _ _ _ loop.invariant (told (said_value args.text.now) value-at.ensures.0 c.in-Last.is)
 
-enum-told-2 : tie.Need-enum-told-2 invariant-loop decreases-loop
+enum-told-2 : tie.Need-enum_told-in-Bad invariant-loop decreases-loop
 enum-told-2 c = search rules
 
-same-length-2 : tie.Need-same-length-2 invariant-loop decreases-loop
+same-length-2 : tie.Need-shape_of-model-in-Bad invariant-loop decreases-loop
 same-length-2 c =
-    let loop = c.before.before.before.loop in
+    let loop = c.loop-minus in
     ap length loop.invariant.held ∙ as_many _ _ _
 
-returns-2 : tie.Need-returns-2 invariant-loop decreases-loop
+returns-2 : tie.Need-returns-in-Bad invariant-loop decreases-loop
 returns-2 c =
-    let args = c.before.before.before.before.before.before.args in
-    let pre = c.before.before.before.before.before.before.requires in
-    let loop = c.before.before.before.loop in
-    let value-at = c.before.before.value-at in
-    passing-bad _ _ _ _ loop.invariant pre.0 (told (said_value args.text.now) value-at.ensures.0 c.enum-told2.given.1)
+    let args = c.args in
+    let pre = c.requires in
+    let loop = c.loop-minus in
+    let value-at = c.value_at in
+    passing-bad _ _ _ _ loop.invariant pre.0 (told (said_value args.text.now) value-at.ensures.0 c.in-Bad.is)
 
-pub put-literals-spec : {M : Type 1} → statement M
-put-literals-spec =
+pub put_literals_spec : {M : Type 1} → statement M
+put_literals_spec =
     tie.close
     (tie.spec
     invariant-loop

@@ -8,52 +8,52 @@ use borrow.Author.Rules.{rules}
 use Rattle.replies.proofs.models.read_reply.Statement.{statement}
 use Rattle.replies.proofs.models.read_reply.Tie as tie
 
-check-reply-requires : tie.Need-check-reply-requires
+check-reply-requires : tie.Need-check_reply-requires
 check-reply-requires c κs = search rules
 
-enum_told : tie.Need-enum-told
+enum_told : tie.Need-enum_told-1
 enum_told c = search rules
 
-enum-known-from : tie.Need-enum-known-from
+enum-known-from : tie.Need-enum_known-from
 enum-known-from c = search rules
 
-take-model-requires : tie.Need-take-model-requires
+take-model-requires : tie.Need-take_model-requires
 take-model-requires c κs =
-    let args = c.before.before.before.before.before.before.before.args in
-    let check-reply = c.before.before.before.before.check-reply in
-    let from = c.before.before.from in
+    let args = c.args in
+    let check-reply = c.check_reply in
+    let from = c.from in
     let h = rw from.given.1 at check-reply.ensures.1 in
     reply_told args.n args.text.now args.model.now (told said_heard check-reply.ensures.0 from.given.1) h.0 h.1
 
-enum-known-d : tie.Need-enum-known-d
+enum-known-d : tie.Need-enum_known-d
 enum-known-d c = search rules
 
-returns : tie.Need-returns
+returns : tie.Need-returns-in-Nothing
 returns c =
-    let args = c.before.before.before.before.before.args in
-    let check-reply = c.before.before.check-reply in
-    apart (reply-nothing args.n args.text.now args.model.now (told said_heard check-reply.ensures.0 c.enum_told.given.1))
+    let args = c.args in
+    let check-reply = c.check_reply in
+    apart (reply-nothing args.n args.text.now args.model.now (told said_heard check-reply.ensures.0 c.in-Nothing.is))
 
-same_length : tie.Need-same-length
+same_length : tie.Need-shape_of-model
 same_length c = search rules
 
-returns-2 : tie.Need-returns-2
+returns-2 : tie.Need-returns-in-Literals
 returns-2 c =
-    let args = c.before.before.before.before.before.before.before.before.before.before.args in
-    let check-reply = c.before.before.before.before.before.before.before.check-reply in
-    let from = c.before.before.before.before.before.from in
-    let take-model = c.before.before.take-model in
+    let args = c.args in
+    let check-reply = c.check_reply in
+    let from = c.from in
+    let take-model = c.take_model in
     let h = rw from.given.1 at check-reply.ensures.1 in
     apart (take-model.ensures ∙ reply-taken args.n args.text.now args.model.now (told said_heard check-reply.ensures.0 from.given.1) h.0 h.1)
 
-returns-3 : tie.Need-returns-3
+returns-3 : tie.Need-returns-in-Bad
 returns-3 c =
-    let args = c.before.before.before.before.before.before.args in
-    let check-reply = c.before.before.before.check-reply in
-    apart (reply-bad args.n args.text.now args.model.now (told said_heard check-reply.ensures.0 c.before.d.given.1))
+    let args = c.args in
+    let check-reply = c.check_reply in
+    apart (reply-bad args.n args.text.now args.model.now (told said_heard check-reply.ensures.0 c.in-Bad.is))
 
-pub read-reply-spec : {M : Type 1} → statement M
-read-reply-spec =
+pub read_reply_spec : {M : Type 1} → statement M
+read_reply_spec =
     tie.close
     (tie.spec
     check-reply-requires

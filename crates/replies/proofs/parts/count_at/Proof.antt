@@ -6,39 +6,39 @@ use borrow.Author.Rules.{rules}
 use Rattle.replies.proofs.parts.count_at.Statement.{statement}
 use Rattle.replies.proofs.parts.count_at.Tie as tie
 
-returns : tie.Need-returns
-returns c = (sym (count_none _ _ c.if1.true), tt)
+returns : tie.Need-returns-then-text-from
+returns c = (sym (count_none _ _ c.if-text-from.true), tt)
 
-shared-slice-read-b : tie.Need-shared-slice-read-b
+shared-slice-read-b : tie.Need-bounds-text-from
 shared-slice-read-b c = search rules
 
-is-digit-requires : tie.Need-is-digit-requires
+is-digit-requires : tie.Need-is_digit-requires
 is-digit-requires c κs = search rules
 
-returns-2 : tie.Need-returns-2
+returns-2 : tie.Need-returns-then-not-is_digit
 returns-2 c =
-    let if1 = c.before.before.before.if1 in
-    (sym (count_wrong _ _ if1.false (via c.before.is_digit.ensures (not-true _ c.if2.true))), tt)
+    let if1 = c.if-text-from in
+    (sym (count_wrong _ _ if1.false (via c.is_digit.ensures (not-true _ c.if-not-is_digit.true))), tt)
 
 worth-requires : tie.Need-worth-requires
 worth-requires c κs = search rules
 
-add-count-from : tie.Need-overflow-add-count-from
+add-count-from : tie.Need-overflow_add-from
 add-count-from c = search rules
 
-count-from-requires : tie.Need-count-from-requires
+count-from-requires : tie.Need-count_from-requires
 count-from-requires c κs = search rules
 
-returns-3 : tie.Need-returns-3
+returns-3 : tie.Need-returns
 returns-3 c =
-    let args = c.before.before.before.before.before.before.before.args in
-    let if1 = c.before.before.before.before.before.if1 in
-    let is_digit = c.before.before.before.is_digit in
-    let if2 = c.before.before.if2 in
-    (c.count-from.ensures.0 ∙ sym (count_begins _ _ if1.false _ (via is_digit.ensures (not-false _ if2.false)) c.before.worth.ensures.0), count_sooner args.from args.text.now c.count-from.result c.count-from.ensures.1)
+    let args = c.args in
+    let if1 = c.if-text-from in
+    let is_digit = c.is_digit in
+    let if2 = c.if-not-is_digit in
+    (c.count_from.ensures.0 ∙ sym (count_begins _ _ if1.false _ (via is_digit.ensures (not-false _ if2.false)) c.worth.ensures.0), count_sooner args.from args.text.now c.count_from.result c.count_from.ensures.1)
 
-pub count-at-spec : {M : Type 1} → statement M
-count-at-spec =
+pub count_at_spec : {M : Type 1} → statement M
+count_at_spec =
     tie.close
     (tie.spec
     returns

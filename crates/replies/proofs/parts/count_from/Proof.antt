@@ -11,74 +11,74 @@ use Rattle.replies.specs.Bytes.{via, count-step, count-over, count-stops, count-
 use Rattle.replies.proofs.parts.count_from.Statement.{statement}
 use Rattle.replies.proofs.parts.count_from.Tie as tie
 
-abbrev invariant-loop : tie.invariant-loop
+abbrev invariant-loop : tie.invariant-loop-at
 invariant-loop text first from value₀ at₀ value at =
     (count_from value at (drop at text) ≡ count_from first from (drop from text)) × (value ≤ most) × (from ≤ at) × (at ≤ length text)
 
-abbrev decreases-loop : tie.decreases-loop
+abbrev decreases-loop : tie.decreases-loop-at
 decreases-loop text first from value₀ at₀ value at = length text - at
 
-loop-holds : tie.Need-loop-init invariant-loop decreases-loop
+loop-holds : tie.Need-loop-at-init invariant-loop decreases-loop
 loop-holds c = (refl, omega arith, omega arith, omega arith)
 
-shared-slice-read-b : tie.Need-shared-slice-read-b invariant-loop decreases-loop
+shared-slice-read-b : tie.Need-bounds-text-at invariant-loop decreases-loop
 shared-slice-read-b c = search rules
 
-is-more-requires : tie.Need-is-more-requires invariant-loop decreases-loop
+is-more-requires : tie.Need-is_more-requires invariant-loop decreases-loop
 is-more-requires c κs = search rules
 
-returns : tie.Need-returns invariant-loop decreases-loop
+returns : tie.Need-returns-then-not-is_more invariant-loop decreases-loop
 returns c =
-    let loop = c.before.before.before.before.loop in
-    let loop-test = c.before.before.before.loop-test in
-    (sym (count-stops _ _ loop-test.true _ (via c.before.is-more.ensures (not-true _ c.if1.true))) ∙ loop.invariant.0, (omega arith, omega arith))
+    let loop = c.loop-at in
+    let loop-test = c.loop-at-test in
+    (sym (count-stops _ _ loop-test.true _ (via c.is_more.ensures (not-true _ c.if-not-is_more.true))) ∙ loop.invariant.0, (omega arith, omega arith))
 
-cast-more : tie.Need-overflow-cast-more invariant-loop decreases-loop
+cast-more : tie.Need-overflow_cast-more invariant-loop decreases-loop
 cast-more c = search rules
 
-mul-more : tie.Need-overflow-mul-more invariant-loop decreases-loop
+mul-more : tie.Need-overflow_mul-more invariant-loop decreases-loop
 mul-more c = search rules
 
 worth-requires : tie.Need-worth-requires invariant-loop decreases-loop
 worth-requires c κs = search rules
 
-cast-more-2 : tie.Need-overflow-cast-more-2 invariant-loop decreases-loop
+cast-more-2 : tie.Need-overflow_cast-more-in-loop-at invariant-loop decreases-loop
 cast-more-2 c = search rules
 
-add-more : tie.Need-overflow-add-more invariant-loop decreases-loop
+add-more : tie.Need-overflow_add-more invariant-loop decreases-loop
 add-more c = search rules
 
-returns-2 : tie.Need-returns-2 invariant-loop decreases-loop
+returns-2 : tie.Need-returns-then-more-gt2147483647 invariant-loop decreases-loop
 returns-2 c =
-    let loop = c.before.before.before.before.before.before.loop in
-    let loop-test = c.before.before.before.before.before.loop-test in
-    let is-more = c.before.before.before.is-more in
-    let if1 = c.before.before.if1 in
-    (sym (count-over _ _ loop-test.true _ _ (via is-more.ensures (not-false _ if1.false)) c.before.worth.ensures.0 c.if2.true) ∙ loop.invariant.0, tt)
+    let loop = c.loop-at in
+    let loop-test = c.loop-at-test in
+    let is-more = c.is_more in
+    let if1 = c.if-not-is_more in
+    (sym (count-over _ _ loop-test.true _ _ (via is-more.ensures (not-false _ if1.false)) c.worth.ensures.0 c.if-more-gt2147483647.true) ∙ loop.invariant.0, tt)
 
-cast-value : tie.Need-overflow-cast-value invariant-loop decreases-loop
+cast-value : tie.Need-overflow_cast-value invariant-loop decreases-loop
 cast-value c = search rules
 
-add_at : tie.Need-overflow-add-at invariant-loop decreases-loop
+add_at : tie.Need-overflow_add-at invariant-loop decreases-loop
 add_at c = search rules
 
-loop-less : tie.Need-loop-smaller invariant-loop decreases-loop
+loop-less : tie.Need-loop-at-smaller invariant-loop decreases-loop
 loop-less c = search rules
 
-loop-again : tie.Need-loop-preserved invariant-loop decreases-loop
+loop-again : tie.Need-loop-at-preserved invariant-loop decreases-loop
 loop-again c =
-    let loop = c.before.before.before.before.before.before.loop in
-    let loop-test = c.before.before.before.before.before.loop-test in
-    let is-more = c.before.before.before.is-more in
-    let if1 = c.before.before.if1 in
-    (sym (count-step _ _ loop-test.true _ _ (via is-more.ensures (not-false _ if1.false)) c.before.worth.ensures.0 c.if2.false) ∙ loop.invariant.0, omega arith, omega arith, omega arith)
+    let loop = c.loop-at in
+    let loop-test = c.loop-at-test in
+    let is-more = c.is_more in
+    let if1 = c.if-not-is_more in
+    (sym (count-step _ _ loop-test.true _ _ (via is-more.ensures (not-false _ if1.false)) c.worth.ensures.0 c.if-more-gt2147483647.false) ∙ loop.invariant.0, omega arith, omega arith, omega arith)
 
-returns-3 : tie.Need-returns-3 invariant-loop decreases-loop
+returns-3 : tie.Need-returns invariant-loop decreases-loop
 returns-3 c =
-    (sym (count-end _ _ c.loop-test.false _) ∙ c.before.loop.invariant.0, (omega arith, omega arith))
+    (sym (count-end _ _ c.loop-at-test.false _) ∙ c.loop-at.invariant.0, (omega arith, omega arith))
 
-pub count-from-spec : {M : Type 1} → statement M
-count-from-spec =
+pub count_from_spec : {M : Type 1} → statement M
+count_from_spec =
     tie.close
     (tie.spec
     invariant-loop

@@ -11,94 +11,94 @@ use Rattle.replies.specs.Bytes.{via, told, number_step, number_refused, number_d
 use Rattle.replies.proofs.parts.number_from.Statement.{statement}
 use Rattle.replies.proofs.parts.number_from.Tie as tie
 
-abbrev invariant-loop : tie.invariant-loop
+abbrev invariant-loop : tie.invariant-loop-at
 invariant-loop text n start minus first from size₀ at₀ size at =
     (number_from n (num start minus size) at (drop at text) ≡ number_from n (num start minus first) from (drop from text)) × (from ≤ at) × (at ≤ length text)
 
-abbrev decreases-loop : tie.decreases-loop
+abbrev decreases-loop : tie.decreases-loop-at
 decreases-loop text n start minus first from size₀ at₀ size at = length text - at
 
-loop-holds : tie.Need-loop-init invariant-loop decreases-loop
+loop-holds : tie.Need-loop-at-init invariant-loop decreases-loop
 loop-holds c = (refl, omega arith, omega arith)
 
-shared-slice-read-b : tie.Need-shared-slice-read-b invariant-loop decreases-loop
+shared-slice-read-b : tie.Need-bounds-text-at invariant-loop decreases-loop
 shared-slice-read-b c = search rules
 
-is-blank-requires : tie.Need-is-blank-requires invariant-loop decreases-loop
+is-blank-requires : tie.Need-is_blank-requires invariant-loop decreases-loop
 is-blank-requires c κs = search rules
 
-is-whole-requires : tie.Need-is-whole-requires invariant-loop decreases-loop
+is-whole-requires : tie.Need-is_whole-requires invariant-loop decreases-loop
 is-whole-requires c κs = search rules
 
-returns : tie.Need-returns invariant-loop decreases-loop
+returns : tie.Need-returns-then-is_whole invariant-loop decreases-loop
 returns c =
-    let loop = c.before.before.before.before.before.before.loop in
-    let loop-test = c.before.before.before.before.before.loop-test in
-    let is-blank = c.before.before.before.is-blank in
-    let if1 = c.before.before.if1 in
-    (sym (number_done _ _ loop-test.true _ _ (via is-blank.ensures if1.true) (via c.before.is_whole.ensures c.if2.true)) ∙ loop.invariant.0, (omega arith, omega arith))
+    let loop = c.loop-at in
+    let loop-test = c.loop-at-test in
+    let is-blank = c.is_blank in
+    let if1 = c.if-is_blank in
+    (sym (number_done _ _ loop-test.true _ _ (via is-blank.ensures if1.true) (via c.is_whole.ensures c.if-is_whole.true)) ∙ loop.invariant.0, (omega arith, omega arith))
 
-returns-2 : tie.Need-returns-2 invariant-loop decreases-loop
+returns-2 : tie.Need-returns-then-is_blank invariant-loop decreases-loop
 returns-2 c =
-    let loop = c.before.before.before.before.before.before.loop in
-    let loop-test = c.before.before.before.before.before.loop-test in
-    let is-blank = c.before.before.before.is-blank in
-    let if1 = c.before.before.if1 in
-    (sym (number_part _ _ loop-test.true _ _ (via is-blank.ensures if1.true) (via c.before.is_whole.ensures c.if2.false)) ∙ loop.invariant.0, tt)
+    let loop = c.loop-at in
+    let loop-test = c.loop-at-test in
+    let is-blank = c.is_blank in
+    let if1 = c.if-is_blank in
+    (sym (number_part _ _ loop-test.true _ _ (via is-blank.ensures if1.true) (via c.is_whole.ensures c.if-is_whole.false)) ∙ loop.invariant.0, tt)
 
-grow-requires : tie.Need-grow-requires invariant-loop decreases-loop
+grow-requires : tie.Need-grow-read-requires invariant-loop decreases-loop
 grow-requires c κs = search rules
 
-enum-known-read : tie.Need-enum-known-read invariant-loop decreases-loop
+enum-known-read : tie.Need-enum_known-read invariant-loop decreases-loop
 enum-known-read c = search rules
 
-enum_told : tie.Need-enum-told invariant-loop decreases-loop
+enum_told : tie.Need-enum_told-1 invariant-loop decreases-loop
 enum_told c = search rules
 
-of-grown-requires : tie.Need-of-grown-requires invariant-loop decreases-loop
+of-grown-requires : tie.Need-of_grown-requires invariant-loop decreases-loop
 of-grown-requires c κs = search rules
 
-returns-3 : tie.Need-returns-3 invariant-loop decreases-loop
+returns-3 : tie.Need-returns-in_default invariant-loop decreases-loop
 returns-3 c =
-    let loop = c.before.before.before.before.before.before.before.before.loop in
-    let loop-test = c.before.before.before.before.before.before.before.loop-test in
-    let is-blank = c.before.before.before.before.before.is-blank in
-    let if1 = c.before.before.before.before.if1 in
-    let grow = c.before.before.before.grow in
-    (sym (number_refused _ _ loop-test.true _ _ (via is-blank.ensures if1.false) (told (said_grown _ _) grow.ensures c.of-grown.ensures)) ∙ loop.invariant.0, tt)
+    let loop = c.loop-at in
+    let loop-test = c.loop-at-test in
+    let is-blank = c.is_blank in
+    let if1 = c.if-is_blank in
+    let grow = c.grow-read in
+    (sym (number_refused _ _ loop-test.true _ _ (via is-blank.ensures if1.false) (told (said_grown _ _) grow.ensures c.of_grown.ensures)) ∙ loop.invariant.0, tt)
 
-add_at : tie.Need-overflow-add-at invariant-loop decreases-loop
+add_at : tie.Need-overflow_add-at invariant-loop decreases-loop
 add_at c = search rules
 
-loop-less : tie.Need-loop-smaller invariant-loop decreases-loop
+loop-less : tie.Need-loop-at-smaller invariant-loop decreases-loop
 loop-less c = search rules
 
-loop-again : tie.Need-loop-preserved invariant-loop decreases-loop
+loop-again : tie.Need-loop-at-preserved invariant-loop decreases-loop
 loop-again c =
-    let loop = c.before.before.before.before.before.before.before.before.loop in
-    let loop-test = c.before.before.before.before.before.before.before.loop-test in
-    let is-blank = c.before.before.before.before.before.is-blank in
-    let if1 = c.before.before.before.before.if1 in
-    let grow = c.before.before.before.grow in
-    (sym (number_step _ _ loop-test.true _ _ (via is-blank.ensures if1.false) (told (said_grown _ _) grow.ensures c.before.read.given.1)) ∙ loop.invariant.0, omega arith, omega arith)
+    let loop = c.loop-at in
+    let loop-test = c.loop-at-test in
+    let is-blank = c.is_blank in
+    let if1 = c.if-is_blank in
+    let grow = c.grow-read in
+    (sym (number_step _ _ loop-test.true _ _ (via is-blank.ensures if1.false) (told (said_grown _ _) grow.ensures c.in-To.is)) ∙ loop.invariant.0, omega arith, omega arith)
 
-is-whole-requires-2 : tie.Need-is-whole-requires-2 invariant-loop decreases-loop
+is-whole-requires-2 : tie.Need-is_whole-requires-2 invariant-loop decreases-loop
 is-whole-requires-2 c κs = search rules
 
-returns-4 : tie.Need-returns-4 invariant-loop decreases-loop
+returns-4 : tie.Need-returns-then-is_whole-2 invariant-loop decreases-loop
 returns-4 c =
-    let loop = c.before.before.before.loop in
-    let loop-test = c.before.before.loop-test in
-    (sym (number-end _ _ loop-test.false _ _ (via c.before.is-whole2.ensures c.if3.true)) ∙ loop.invariant.0, (omega arith, omega arith))
+    let loop = c.loop-at in
+    let loop-test = c.loop-at-test in
+    (sym (number-end _ _ loop-test.false _ _ (via c.is_whole-2.ensures c.if-is_whole-2.true)) ∙ loop.invariant.0, (omega arith, omega arith))
 
-returns-5 : tie.Need-returns-5 invariant-loop decreases-loop
+returns-5 : tie.Need-returns invariant-loop decreases-loop
 returns-5 c =
-    let loop = c.before.before.before.loop in
-    let loop-test = c.before.before.loop-test in
-    (sym (number_end_part _ _ loop-test.false _ _ (via c.before.is-whole2.ensures c.if3.false)) ∙ loop.invariant.0, tt)
+    let loop = c.loop-at in
+    let loop-test = c.loop-at-test in
+    (sym (number_end_part _ _ loop-test.false _ _ (via c.is_whole-2.ensures c.if-is_whole-2.false)) ∙ loop.invariant.0, tt)
 
-pub number-from-spec : {M : Type 1} → statement M
-number-from-spec =
+pub number_from_spec : {M : Type 1} → statement M
+number_from_spec =
     tie.close
     (tie.spec
     invariant-loop

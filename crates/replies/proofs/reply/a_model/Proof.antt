@@ -10,59 +10,59 @@ use Rattle.replies.proofs.reply.a_model.Tie as tie
 slice-aggregate-word-at : tie.Need-slice-aggregate-word-at
 slice-aggregate-word-at c = search rules
 
-word-at-requires : tie.Need-word-at-requires
+word-at-requires : tie.Need-word_at-word-requires
 word-at-requires c κs = search rules
 
-enum-known-word : tie.Need-enum-known-word
+enum-known-word : tie.Need-enum_known-word
 enum-known-word c = search rules
 
-enum_told : tie.Need-enum-told
+enum_told : tie.Need-enum_told-1
 enum_told c = search rules
 
-of-word-requires : tie.Need-of-word-requires
+of-word-requires : tie.Need-of_word-requires
 of-word-requires c κs = search rules
 
-returns : tie.Need-returns
+returns : tie.Need-returns-in_default
 returns c =
-    let args = c.before.before.before.before.before.before.args in
-    let word_at = c.before.before.before.word_at in
+    let args = c.args in
+    let word_at = c.word_at-word in
     (model_wrong args.from (drop args.from args.text.now) args.n (told (said_word args.text.now) word_at.ensures.0 c.of_word.ensures), tt)
 
-count-values-requires : tie.Need-count-values-requires
+count-values-requires : tie.Need-count_values-listed-requires
 count-values-requires c κs =
-    let word_at = c.before.before.before.word_at in
-    (rw c.before.word.given.1 at word_at.ensures.1).1
+    let word_at = c.word_at-word in
+    (rw c.in-Past.is at word_at.ensures.1).1
 
-enum-known-listed : tie.Need-enum-known-listed
+enum-known-listed : tie.Need-enum_known-listed
 enum-known-listed c = search rules
 
-enum-told-2 : tie.Need-enum-told-2
+enum-told-2 : tie.Need-enum_told-in_default-listed
 enum-told-2 c = search rules
 
-of-listed-requires : tie.Need-of-listed-requires
+of-listed-requires : tie.Need-of_listed-requires
 of-listed-requires c κs = search rules
 
-returns-2 : tie.Need-returns-2
+returns-2 : tie.Need-returns-in_default-listed
 returns-2 c =
-    let args = c.before.before.before.before.before.before.before.before.before.before.args in
-    let word_at = c.before.before.before.before.before.before.before.word_at in
-    let word = c.before.before.before.before.before.word in
-    let count-values = c.before.before.before.count-values in
-    (model-bad args.from (drop args.from args.text.now) args.n (told (said_word args.text.now) word_at.ensures.0 word.given.1) (told said_listed count-values.ensures c.of-listed.ensures), tt)
+    let args = c.args in
+    let word_at = c.word_at-word in
+    let word = c.word in
+    let count-values = c.count_values-listed in
+    (model-bad args.from (drop args.from args.text.now) args.n (told (said_word args.text.now) word_at.ensures.0 word.given.1) (told said_listed count-values.ensures c.of_listed.ensures), tt)
 
-returns-3 : tie.Need-returns-3
+returns-3 : tie.Need-returns
 returns-3 c =
-    let args = c.before.before.before.before.before.before.before.before.before.before.args in
-    let word_at = c.before.before.before.before.before.before.before.word_at in
-    let word = c.before.before.before.before.before.word in
-    let count-values = c.before.before.before.count-values in
+    let args = c.args in
+    let word_at = c.word_at-word in
+    let word = c.word in
+    let count-values = c.count_values-listed in
     let past = told (said_word args.text.now) word_at.ensures.0 word.given.1 in
     let tail = drop args.from args.text.now in
     let h = rw word.given.1 at word_at.ensures.1 in
-    (model_is args.from tail args.n past (told said_listed count-values.ensures c.before.listed.given.1), (h.1, model-from args.from tail args.n past))
+    (model_is args.from tail args.n past (told said_listed count-values.ensures c.in-Literals.is), (h.1, model-from args.from tail args.n past))
 
-pub a-model-spec : {M : Type 1} → statement M
-a-model-spec =
+pub a_model_spec : {M : Type 1} → statement M
+a_model_spec =
     tie.close
     (tie.spec
     slice-aggregate-word-at

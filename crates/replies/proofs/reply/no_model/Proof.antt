@@ -10,40 +10,40 @@ use Rattle.replies.proofs.reply.no_model.Tie as tie
 slice-aggregate-word-at : tie.Need-slice-aggregate-word-at
 slice-aggregate-word-at c = search rules
 
-word-at-requires : tie.Need-word-at-requires
+word-at-requires : tie.Need-word_at-read-requires
 word-at-requires c κs = search rules
 
-enum-known-read : tie.Need-enum-known-read
+enum-known-read : tie.Need-enum_known-read
 enum-known-read c = search rules
 
-enum_told : tie.Need-enum-told
+enum_told : tie.Need-enum_told-1
 enum_told c = search rules
 
-of-word-requires : tie.Need-of-word-requires
+of-word-requires : tie.Need-of_word-requires
 of-word-requires c κs = search rules
 
-returns : tie.Need-returns
+returns : tie.Need-returns-in_default
 returns c =
-    let args = c.before.before.before.before.before.before.args in
-    let word_at = c.before.before.before.word_at in
+    let args = c.args in
+    let word_at = c.word_at-read in
     none_wrong args.from (drop args.from args.text.now) (told (said_word args.text.now) word_at.ensures.0 c.of_word.ensures)
 
-returns-2 : tie.Need-returns-2
+returns-2 : tie.Need-returns-then-text-next
 returns-2 c =
-    let args = c.before.before.before.before.before.before.before.args in
-    let word_at = c.before.before.before.before.word_at in
-    let read = c.before.before.read in
-    none_ends args.from (drop args.from args.text.now) args.text.now (told (said_word args.text.now) word_at.ensures.0 read.given.1) c.if1.true
+    let args = c.args in
+    let word_at = c.word_at-read in
+    let read = c.read in
+    none_ends args.from (drop args.from args.text.now) args.text.now (told (said_word args.text.now) word_at.ensures.0 read.given.1) c.if-text-next.true
 
-returns-3 : tie.Need-returns-3
+returns-3 : tie.Need-returns
 returns-3 c =
-    let args = c.before.before.before.before.before.before.before.args in
-    let word_at = c.before.before.before.before.word_at in
-    let read = c.before.before.read in
-    none_more args.from (drop args.from args.text.now) args.text.now (told (said_word args.text.now) word_at.ensures.0 read.given.1) c.if1.false
+    let args = c.args in
+    let word_at = c.word_at-read in
+    let read = c.read in
+    none_more args.from (drop args.from args.text.now) args.text.now (told (said_word args.text.now) word_at.ensures.0 read.given.1) c.if-text-next.false
 
-pub no-model-spec : {M : Type 1} → statement M
-no-model-spec =
+pub no_model_spec : {M : Type 1} → statement M
+no_model_spec =
     tie.close
     (tie.spec
     slice-aggregate-word-at

@@ -3,14 +3,14 @@ use borrow.Author.Rules.{rules}
 use Rattle.replies.proofs.values.is_next.Statement.{statement}
 use Rattle.replies.proofs.values.is_next.Tie as tie
 
-add-result : tie.Need-overflow-add-result
+add-result : tie.Need-overflow_add-result
 add-result c = search rules
 
-returns : tie.Need-returns
-returns c = rw c.if1.true
+returns : tie.Need-returns-then-rising
+returns c = rw c.if-rising.true
 
-returns-2 : tie.Need-returns-2
+returns-2 : tie.Need-returns
 returns-2 c = search rules
 
-pub is-next-spec : {M : Type 1} → statement M
-is-next-spec = tie.close (tie.spec add-result returns returns-2)
+pub is_next_spec : {M : Type 1} → statement M
+is_next_spec = tie.close (tie.spec add-result returns returns-2)

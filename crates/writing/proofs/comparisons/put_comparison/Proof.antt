@@ -11,41 +11,41 @@ use Rattle.writing.specs.Numbers.{led, under_lead, under_low, under-high}
 use Rattle.writing.proofs.comparisons.put_comparison.Statement.{statement}
 use Rattle.writing.proofs.comparisons.put_comparison.Tie as tie
 
-over-least-requires : tie.Need-over-least-requires
+over-least-requires : tie.Need-over_least-t-requires
 over-least-requires c κs = search rules
 
 -- what the test looks at
-module _ (c : tie.After-over-least) where
-  over-fits : SFits w32 c.over-least.result
-  over-fits = record { sfits = c.over-least.type-inv }
+module _ (c : tie.After-over_least-t) where
+  over-fits : SFits w32 c.over_least-t.result
+  over-fits = record { sfits = c.over_least-t.type_inv }
 
 -- below the least sum, and from it on
-low : (c : tie.Then1) → let a = c.before.before.args in under_lead a.lead a.c ≡ led a.lead ([] ∷ [])
-low c = let r = c.before in under_low r.before.args.lead r.before.args.c (below-least r.before.args.c (omega (whole, back (over-fits r), r.over-least.ensures)))
+low : (c : tie.Then-t-lt1) → let a = c.args in under_lead a.lead a.c ≡ led a.lead ([] ∷ [])
+low c = let r = c.before in under_low r.args.lead r.args.c (below-least r.args.c (omega (whole, back (over-fits r), r.over_least-t.ensures)))
 
-high : (c : tie.Else1) → let a = c.before.before.args in under_lead a.lead a.c ≡ led a.lead (literals_of a.c)
-high c = let r = c.before in under-high r.before.args.lead r.before.args.c (from-least r.before.args.c (omega (whole, back (over-fits r), r.over-least.ensures)))
+high : (c : tie.Else-t-lt1) → let a = c.args in under_lead a.lead a.c ≡ led a.lead (literals_of a.c)
+high c = let r = c.before in under-high r.args.lead r.args.c (from-least r.args.c (omega (whole, back (over-fits r), r.over_least-t.ensures)))
 
-put-row-requires : tie.Need-put-row-requires
-put-row-requires c κs = let b = c.before in (tt, rw (low b) at b.before.before.requires.1)
+put-row-requires : tie.Need-put_row-requires
+put-row-requires c κs = let b = c.before in (tt, rw (low b) at b.requires.1)
 
-same_length : tie.Need-same-length
+same_length : tie.Need-shape_of-list-then-t-lt1
 same_length c = search rules
 
-returns : tie.Need-returns
-returns c = rw (low c.before.before.before) c.before.put-row.ensures
+returns : tie.Need-returns-then-t-lt1
+returns c = rw (low c.before.before.before) c.put_row.ensures
 
-put-tuples-requires : tie.Need-put-tuples-requires
-put-tuples-requires c κs = let r = c.before.before in (r.before.requires.0, rw (to_z-of_z (over-fits r)) r.over-least.ensures, rw (high c.before) at r.before.requires.1)
+put-tuples-requires : tie.Need-put_tuples-requires
+put-tuples-requires c κs = let r = c.before.before in (r.requires.0, rw (to_z-of_z (over-fits r)) r.over_least-t.ensures, rw (high c.before) at r.requires.1)
 
-same-length-2 : tie.Need-same-length-2
+same-length-2 : tie.Need-shape_of-list
 same-length-2 c = search rules
 
-returns-2 : tie.Need-returns-2
-returns-2 c = rw (high c.before.before.before) c.before.put-tuples.ensures
+returns-2 : tie.Need-returns
+returns-2 c = rw (high c.before.before.before) c.put_tuples.ensures
 
-pub put-comparison-spec : {M : Type 1} → statement M
-put-comparison-spec =
+pub put_comparison_spec : {M : Type 1} → statement M
+put_comparison_spec =
     tie.close
     (tie.spec
     over-least-requires

@@ -16,36 +16,36 @@ use Rattle.writing.proofs.Parts.{led-end, led_on}
 use Rattle.writing.proofs.comparisons.put_tuples.Statement.{statement}
 use Rattle.writing.proofs.comparisons.put_tuples.Tie as tie
 
-abbrev invariant-loop : tie.invariant-loop
+abbrev invariant-loop : tie.invariant-loop-tuple
 invariant-loop c t lead list₀ at₀ tuple₀ list at tuple =
     Filling (led lead (literals_of c)) (led lead (to_come c tuple)) list₀ list at × Walking c tuple
 
-abbrev decreases-loop : tie.decreases-loop
+abbrev decreases-loop : tie.decreases-loop-tuple
 decreases-loop c t lead list₀ at₀ tuple₀ list at tuple = length (to_come c tuple)
 
-first-over-requires : tie.Need-first-over-requires invariant-loop decreases-loop
+first-over-requires : tie.Need-first_over-tuple-requires invariant-loop decreases-loop
 first-over-requires c κs = (c.requires.0, rw (to_z-of_z c.ranges.t) c.requires.1)
 
-loop-holds : tie.Need-loop-init invariant-loop decreases-loop
-loop-holds c = (begin _ _ _ (ap (led c.before.args.lead) c.first-over.ensures.1) c.before.requires.2, c.first-over.ensures.0)
+loop-holds : tie.Need-loop-tuple-init invariant-loop decreases-loop
+loop-holds c = (begin _ _ _ (ap (led c.args.lead) c.first_over-tuple.ensures.1) c.requires.2, c.first_over-tuple.ensures.0)
 
-enum-known-tuple : tie.Need-enum-known-tuple invariant-loop decreases-loop
+enum-known-tuple : tie.Need-enum_known-tuple invariant-loop decreases-loop
 enum-known-tuple c = search rules
 
-enum_told : tie.Need-enum-told invariant-loop decreases-loop
+enum_told : tie.Need-enum_told-1 invariant-loop decreases-loop
 enum_told c = search rules
 
-after-row-requires : tie.Need-after-row-requires invariant-loop decreases-loop
-after-row-requires c κs = subst (Walking _) c.before.tuple.given.1 c.before.before.before.loop.invariant.1
+after-row-requires : tie.Need-after_row-onward-requires invariant-loop decreases-loop
+after-row-requires c κs = subst (Walking _) c.in-Tuple.is c.loop-tuple.invariant.1
 
-row-at-requires : tie.Need-row-at-requires invariant-loop decreases-loop
+row-at-requires : tie.Need-row_at-requires invariant-loop decreases-loop
 row-at-requires c κs =
     let l = c.before.before.before.before in
-    (l.before.before.requires.0, subst (Walking _) c.before.before.tuple.given.1 l.loop.invariant.1)
+    (l.requires.0, subst (Walking _) c.in-Tuple.is l.loop-tuple.invariant.1)
 
 -- what is to come is the row, and what is to come behind it
-module _ (c : tie.After-row-at invariant-loop decreases-loop) where
-  abbrev l : tie.At-loop invariant-loop decreases-loop
+module _ (c : tie.After-row_at invariant-loop decreases-loop) where
+  abbrev l : tie.At-loop-tuple invariant-loop decreases-loop
   l = c.before.before.before.before.before
 
   abbrev s : tie.Start invariant-loop decreases-loop
@@ -55,64 +55,64 @@ module _ (c : tie.After-row-at invariant-loop decreases-loop) where
   row = led s.args.lead (in_row c.row_at.result)
 
   abbrev behind : List ℤ
-  behind = led s.args.lead (to_come s.args.c c.before.after-row.result)
+  behind = led s.args.lead (to_come s.args.c c.after_row-onward.result)
 
-  more : led s.args.lead (to_come s.args.c l.loop.tuple) ≡ row ++ behind
+  more : led s.args.lead (to_come s.args.c l.loop-tuple.tuple) ≡ row ++ behind
   more =
-      let t = c.before.before.before.tuple.given in
-      let rest = to_come s.args.c c.before.after-row.result in
-      led_on s.args.c s.args.lead l.loop.tuple t.0.0 t.1 (in_row c.row_at.result) rest (c.before.after-row.ensures.1 ∙ ap (λ r. r ++ rest) (sym c.row_at.ensures.1))
+      let t = c.tuple-1.given in
+      let rest = to_come s.args.c c.after_row-onward.result in
+      led_on s.args.c s.args.lead l.loop-tuple.tuple t.0.0 t.1 (in_row c.row_at.result) rest (c.after_row-onward.ensures.1 ∙ ap (λ r. r ++ rest) (sym c.row_at.ensures.1))
 
-  fits : l.loop.at + length row ≤ length l.loop.list
-  fits = room_for l.loop.inv.0 row behind more
+  fits : l.loop-tuple.at + length row ≤ length l.loop-tuple.list
+  fits = room_for l.loop-tuple.inv.0 row behind more
 
-mul-put-row : tie.Need-overflow-mul-put-row invariant-loop decreases-loop
-mul-put-row c = let h : (l c).loop.at ≤ length (s c).args.list.now = omega (arith, room_before (l c).loop.invariant.0) in search rules
+mul-put-row : tie.Need-offset_bounds-list-at invariant-loop decreases-loop
+mul-put-row c = let h : (l c).loop-tuple.at ≤ length (s c).args.list.now = omega (arith, room_before (l c).loop-tuple.invariant.0) in search rules
 
-sub-put-row : tie.Need-overflow-sub-put-row invariant-loop decreases-loop
-sub-put-row c = omega (arith, room (l c).loop.invariant.0)
+sub-put-row : tie.Need-slice_bounds-put_row-count invariant-loop decreases-loop
+sub-put-row c = omega (arith, room (l c).loop-tuple.invariant.0)
 
-part-put-row-start : tie.Need-slice-bounds-put-row-start invariant-loop decreases-loop
-part-put-row-start c = let h : (l c).loop.at ≤ length (l c).loop.list = omega (arith, room (l c).loop.invariant.0) in search rules
+part-put-row-start : tie.Need-slice_bounds-put_row-start invariant-loop decreases-loop
+part-put-row-start c = let h : (l c).loop-tuple.at ≤ length (l c).loop-tuple.list = omega (arith, room (l c).loop-tuple.invariant.0) in search rules
 
-part-put-row-end : tie.Need-slice-bounds-put-row-end invariant-loop decreases-loop
+part-put-row-end : tie.Need-slice_bounds-put_row-end invariant-loop decreases-loop
 part-put-row-end c = search rules
 
-put-row-requires : tie.Need-put-row-requires invariant-loop decreases-loop
+put-row-requires : tie.Need-put_row-at-requires invariant-loop decreases-loop
 put-row-requires c κs =
     let r = c.before in
-    (r.row_at.ensures.0, omega (arith, rest-length (l r).loop.list (l r).loop.at, fits r))
+    (r.row_at.ensures.0, omega (arith, rest-length (l r).loop-tuple.list (l r).loop-tuple.at, fits r))
 
-add_at : tie.Need-overflow-add-at invariant-loop decreases-loop
+add_at : tie.Need-overflow_add-at invariant-loop decreases-loop
 add_at c =
     let r = c.before.before.before in
-    let here = (l r).loop in
-    let h : here.at + c.before.put-row.result ≤ length (s r).args.list.now = omega (arith, c.before.put-row.ensures.0, here.inv.0.long, fits r) in search (rules, (s r).well-formed.1.1.1.0)
+    let here = (l r).loop-tuple in
+    let h : here.at + c.put_row-at.result ≤ length (s r).args.list.now = omega (arith, c.put_row-at.ensures.0, here.inv.0.long, fits r) in search (rules, (s r).well-formed.1.1.1.0)
 
-loop-less : tie.Need-loop-smaller invariant-loop decreases-loop
+loop-less : tie.Need-loop-tuple-smaller invariant-loop decreases-loop
 loop-less c =
     let r = c.before.before.before in
     let q = (s r).args.c in
-    let t = r.before.before.before.tuple.given in
-    omega (arith, ap (λ z. length (to_come q z)) t.1, ap length r.before.after-row.ensures.1, length-append (row_clauses q t.0.0) (to_come q r.before.after-row.result), row_some q t.0.0)
+    let t = r.tuple-1.given in
+    omega (arith, ap (λ z. length (to_come q z)) t.1, ap length r.after_row-onward.ensures.1, length-append (row_clauses q t.0.0) (to_come q r.after_row-onward.result), row_some q t.0.0)
 
-loop-again : tie.Need-loop-preserved invariant-loop decreases-loop
+loop-again : tie.Need-loop-tuple-preserved invariant-loop decreases-loop
 loop-again c =
     let r = c.before.before.before in
-    let p = c.before.put-row in
-    (part (l r).loop.invariant.0 _ _ (more r) _ _ p.ensures.0 p.ensures.1, r.before.after-row.ensures.0)
+    let p = c.put_row-at in
+    (part (l r).loop-tuple.invariant.0 _ _ (more r) _ _ p.ensures.0 p.ensures.1, r.after_row-onward.ensures.0)
 
-same_length : tie.Need-same-length invariant-loop decreases-loop
-same_length c = c.before.before.loop.invariant.0.long
+same_length : tie.Need-shape_of-list invariant-loop decreases-loop
+same_length c = c.loop-tuple.invariant.0.long
 
 returns : tie.Need-returns invariant-loop decreases-loop
 returns c =
     let k = c.before.before in
-    let a = k.before.before.args in
-    ended k.loop.invariant.0 (led-end a.c a.lead k.loop.tuple c.enum_told.given.1)
+    let a = k.args in
+    ended k.loop-tuple.invariant.0 (led-end a.c a.lead k.loop-tuple.tuple c.in_default.is)
 
-pub put-tuples-spec : {M : Type 1} → statement M
-put-tuples-spec =
+pub put_tuples_spec : {M : Type 1} → statement M
+put_tuples_spec =
     tie.close
     (tie.spec
     invariant-loop

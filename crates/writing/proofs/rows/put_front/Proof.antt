@@ -8,28 +8,28 @@ use Rattle.laws.specs.Written.{written_none, written_one}
 use Rattle.writing.proofs.rows.put_front.Statement.{statement}
 use Rattle.writing.proofs.rows.put_front.Tie as tie
 
-enum-known-front : tie.Need-enum-known-front
+enum-known-front : tie.Need-enum_known-front
 enum-known-front c = search rules
 
-enum_told : tie.Need-enum-told
+enum_told : tie.Need-enum_told-1
 enum_told c = search rules
 
-returns : tie.Need-returns
+returns : tie.Need-returns-in_default
 returns c =
-    let o = c.before.before.args.list.now in
-    rw c.enum_told.given.1 (refl, written_none o)
+    let o = c.args.list.now in
+    rw c.in_default.is (refl, written_none o)
 
-slice-set-from-literal : tie.Need-slice-set-from-literal
-slice-set-from-literal c = let s = c.before.before.before in omega (arith, rw c.before.front.given.1 at s.requires)
+slice-set-from-literal : tie.Need-bounds-list-0
+slice-set-from-literal c = let s = c.before.before.before in omega (arith, rw c.in-Literal.is at s.requires)
 
-same_length : tie.Need-same-length
+same_length : tie.Need-shape_of-list
 same_length c = search rules
 
-returns-2 : tie.Need-returns-2
+returns-2 : tie.Need-returns
 returns-2 c =
     let s = c.before.before.before in
     let o = s.args.list.now in
-    rw c.before.front.given.1 (refl, ap (set o 0) (to_z-of_z (record { sfits = c.known-told.given.0.1 })) ∙ written_one o c.before.front.given.0.0 (omega (arith, rw c.before.front.given.1 at s.requires)))
+    rw c.in-Literal.is (refl, ap (set o 0) (to_z-of_z (record { sfits = c.known_told-1.given.0.1 })) ∙ written_one o c.in-Literal.literal (omega (arith, rw c.in-Literal.is at s.requires)))
 
-pub put-front-spec : {M : Type 1} → statement M
-put-front-spec = tie.close (tie.spec enum-known-front enum_told returns slice-set-from-literal same_length returns-2)
+pub put_front_spec : {M : Type 1} → statement M
+put_front_spec = tie.close (tie.spec enum-known-front enum_told returns slice-set-from-literal same_length returns-2)

@@ -12,37 +12,37 @@ use Rattle.writing.proofs.Parts.{alone}
 use Rattle.writing.proofs.rows.put_short.Statement.{statement}
 use Rattle.writing.proofs.rows.put_short.Tie as tie
 
-put-fixed-requires : tie.Need-put-fixed-requires
+put-fixed-requires : tie.Need-put_fixed-at-requires
 put-fixed-requires c κs = let s = c.before in omega (arith, clause-length (stays s.args.lead s.args.front), s.requires)
 
 -- all but the end is written
-module _ (c : tie.After-put-fixed) where
+module _ (c : tie.After-put_fixed-at) where
   abbrev s : tie.Start
   s = c.before.before
 
   abbrev fixed : List ℤ
   fixed = stays s.args.lead s.args.front
 
-  begins : Filling (clause fixed) (pos 0 ∷ []) s.args.list.now c.put-fixed.new.1.1.0 c.put-fixed.result
-  begins = alone fixed s.args.list.now c.put-fixed.new.1.1.0 c.put-fixed.result c.put-fixed.ensures.0 c.put-fixed.ensures.1 s.pre
+  begins : Filling (clause fixed) (pos 0 ∷ []) s.args.list.now c.put_fixed-at.new.list c.put_fixed-at.result
+  begins = alone fixed s.args.list.now c.put_fixed-at.new.list c.put_fixed-at.result c.put_fixed-at.ensures.0 c.put_fixed-at.ensures.1 s.requires
 
-  inside : c.put-fixed.result < length s.args.list.now
+  inside : c.put_fixed-at.result < length s.args.list.now
   inside = omega (arith, room_before begins)
 
-mul-list : tie.Need-overflow-mul-list
+mul-list : tie.Need-offset_bounds-list-at
 mul-list c = let k = inside c.before in search rules
 
-slice-set-of-list : tie.Need-slice-set-of-list
+slice-set-of-list : tie.Need-slice_set_of-list
 slice-set-of-list c = omega (arith, room (begins c.before))
 
-add-result : tie.Need-overflow-add-result
+add-result : tie.Need-overflow_add-result
 add-result c = let k = inside c.before in search rules
 
-same_length : tie.Need-same-length
+same_length : tie.Need-shape_of-list
 same_length c = (one (begins c.before) (pos 0) [] refl).long
 
 returns : tie.Need-returns
 returns c = ended (one (begins c.before) (pos 0) [] refl) refl
 
-pub put-short-spec : {M : Type 1} → statement M
-put-short-spec = tie.close (tie.spec put-fixed-requires mul-list slice-set-of-list add-result same_length returns)
+pub put_short_spec : {M : Type 1} → statement M
+put_short_spec = tie.close (tie.spec put-fixed-requires mul-list slice-set-of-list add-result same_length returns)
