@@ -82,7 +82,7 @@ enum-known-piece-2 : tie.Need-enum-known-piece-2 invariant-loop decreases-loop
 enum-known-piece-2 c = search rules
 
 compares-requires : tie.Need-compares-requires invariant-loop decreases-loop
-compares-requires c κs = let p = c.before in ((s (q p)).pre.1, rw (to_z-of_z (good-constant (stands p).well-formed)) (stands p))
+compares-requires c κs = let p = c.before in ((s (q p)).pre.1, rw (to_z-of_z (good-constant (stands p).good)) (stands p))
 
 bit-requires : tie.Need-bit-requires invariant-loop decreases-loop
 bit-requires c κs = search rules
@@ -105,7 +105,7 @@ loop-less c = (met (q c.before.before.before)).onward.less
 loop-again : tie.Need-loop-preserved invariant-loop decreases-loop
 loop-again c =
     let p = c.before.before.before in
-    let f = good-constant (stands p).well-formed in
+    let f = good-constant (stands p).good in
     (onward (q p), one (q p).before.before.before.loop.invariant.1 _ _ (the_next (bytes (q p) p.piece2.given.1) (c.bit.ensures ∙ ap bit (rw (to_z-of_z f) at c.before.compares.ensures))))
 
 enum-told-2 : tie.Need-enum-told-2 invariant-loop decreases-loop
