@@ -37,7 +37,7 @@ returns c =
     let s = c.before.before.before.before.before in
     let low = lower_fits s.args.range s.requires in
     let high = upper_fits s.args.range s.requires in
-    let e = leaves_over c.loop-i.invariant c.loop-i-test.true c.in-Unfinished.keys2 in
+    let e = leaves_over c.loop-i.invariant c.loop-i-test.true c.in_default.not-Unfinished in
     simp to_z-of_z at e
 
 shared-slice-read-narrowed : tie.Need-bounds-replies-i invariant-loop decreases-loop
