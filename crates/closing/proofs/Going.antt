@@ -6,14 +6,11 @@ use native.Mathlib.Omega.{arith}
 use native.Mathlib.Numerals.{add-one}
 use lib.ListN.{length, get_or, drop, drop_of_length-le, length-drop}
 use lib.Seq.{drop-cons}
-use types.Run.{OneOf, miss}
-use denote.Enum.Declared.{tag_of}
 use lib.IntN.{ℤ}
 use Rattle.definitions.specs.Result.{done, refused}
 use Rattle.definitions.specs.Closing.{Earliest, unfinished, tells, after}
 use Rattle.definitions.specs.Answers.{said_hour}
 use Rattle.definitions.specs.declared.Hour.{Hour}
-use Rattle.definitions.specs.contracts.Hour.{the_type}
 use Rattle.laws.specs.Whole.{whole}
 use Rattle.laws.specs.Halving.{half_law, is_open, is_empty, is_one, stands, tells_open, tells_none, tells_found, after-end, after_one}
 use Rattle.laws.specs.Readings.{same, never}
@@ -22,15 +19,15 @@ use Rattle.slots.specs.Variables.{bounds_read}
 use Rattle.closing.specs.Ranges.{Small, Asked, Left, standing, Sound, Going}
 
 -- ---- replies left over
--- the positions in the enum of the answers that end a search
-abbrev others : List ℕ
-others = 0 ∷ 1 ∷ 3 ∷ []
+-- an answer that ends a search
+abbrev Over : Hour → Type 0
+Over hour = (low high question : ℤ) → hour ≡ Hour.Unfinished low high question → ⊥
 
-over : (hour : Hour) → OneOf others (tag_of the_type hour) → said_hour hour ≡ done (standing hour) → (b : ℕ) (bs : List ℕ) → after (standing hour) (b ∷ bs) ≡ refused 23 (suc (length bs))
+over : (hour : Hour) → Over hour → said_hour hour ≡ done (standing hour) → (b : ℕ) (bs : List ℕ) → after (standing hour) (b ∷ bs) ≡ refused 23 (suc (length bs))
 unfolding after
 over (Hour.Found v) k e b bs = refl
 over Hour.None k e b bs = refl
-over (Hour.Unfinished low high question) k e b bs = absurd (miss others 2 tt k)
+over (Hour.Unfinished low high question) k e b bs = absurd (k low high question refl)
 over (Hour.Refused r) k e b bs = never e
 
 -- what a range tells is sound
@@ -58,7 +55,7 @@ module _ {replies : List ℕ} {start hour : Hour} {i : ℕ} (g : Going replies s
   pub ends : length replies ≤ i → said_hour hour ≡ after (standing start) replies
   ends k = g.is ∙ sym (after-end (standing hour)) ∙ ap (after (standing hour)) (sym (drop_of_length-le replies k)) ∙ g.answers
 
-  pub leaves_over : i < length replies → OneOf others (tag_of the_type hour) → refused 23 (length replies - i) ≡ after (standing start) replies
+  pub leaves_over : i < length replies → Over hour → refused 23 (length replies - i) ≡ after (standing start) replies
   leaves_over k o =
       let e : length replies - i ≡ suc (length (drop (suc i) replies)) = omega (arith, length-drop (suc i) replies) in
       ap (refused 23) e ∙ sym (over hour o g.is (get_or replies i 0) (drop (suc i) replies)) ∙ ap (after (standing hour)) (sym (drop-cons replies i 0 k)) ∙ g.answers

@@ -131,14 +131,14 @@ module _ {B : Board} {model t : List ℕ} {i n : ℕ} {q : Comparison} {at : At}
         walks_next f = record { goes = goes_part h.goes _ _ split a s f; walking = onward.0; numbered = numbered_both.1 }
 
         pub walks_stop : {k : ℕ} → a ≡ Checked.Fails k → refused 13 k ≡ each 13 i (rule_tests B model)
-        walks_stop f = goes_fails h.goes _ _ split a s f
+        walks_stop f = goes_fails h.goes (map (true_tail model) row) (map (true_tail model) (to_come q r) ++ tests_at B model t c) split a s f
 
 -- where the pass begins
 pub passing-start : {s t : List ℕ} (k : Known s t) {n : ℕ} → n ≡ length (board_of s).clauses → (model : List ℕ) (i : ℕ) → Passing (board_of s) model t i i (at_start n)
 unfolding rules
 passing-start {s} k e model i = record {
   goes = rw (all-coming k e, rules-pieces (bounds_of (board_of s)) 0 (board_of s).clauses) (goes_start i _);
-  sound = rw (all-coming k e) (Mentions.pieces-sound (board_of s) (opens_admitted s k.opens));
+  sound = rw (all-coming k e) (Mentions.pieces_sound (board_of s) (opens_admitted s k.opens));
   readable = starts k e;
 }
 

@@ -13,7 +13,7 @@ use Rattle.definitions.specs.Meaning.{Assignment, on, compares, selection, truth
 use Rattle.laws.specs.Lists.{all_every, counted-at, length-count_up, map_same, map-flatten, map_at}
 use Rattle.laws.specs.Ranges.{range-shift}
 use Rattle.laws.specs.Layout.{orders-count}
-use Rattle.laws.specs.Pieces.{Piece, line, under, compared, lone, opening, pieces_from}
+use Rattle.laws.specs.Pieces.{Piece, line, under, compared, lone, used, opening, pieces_from}
 
 abbrev pub bit : Bool → ℕ
 bit b = if b then 1 else 0
@@ -112,4 +112,4 @@ led-clause j (at_most q ∷ l ∷ C) ps = ap (λ z. q ∷ z) (led-compared (suc 
 pub led-selected : (j : ℕ) (Cs : List Clause) → led_in (pieces_from j Cs) ≡ flatten (map selected Cs)
 unfolding led_in pieces_from flatten
 led-selected j [] = refl
-led-selected j (C ∷ Cs) = led-clause j C _ ∙ ap (λ z. selected C ++ z) (led-selected _ Cs)
+led-selected j (C ∷ Cs) = led-clause j C _ ∙ ap (λ z. selected C ++ z) (led-selected (j + used (not (lone C)) (length (comparisons C))) Cs)

@@ -46,7 +46,7 @@ module _ (values : List ℤ) (near : Near values) where
         record { held = rw z; small = rw z (omega arith) }
 
     pub sum_is : (i sum : ℕ) → Summed values ts i sum → to_z w32 sum ≡ sum_from values ts i
-    sum_is i sum s = ap (to_z w32) s.held ∙ to_z-of_z (abs_fits (omega (arith, s.small)))
+    sum_is i sum s = ap (to_z w32) s.held ∙ to_z-of_z {w = w32} (abs_fits (omega (arith, s.small)))
 
     -- a turn: v is the value of the term before
     module _ (good : All (GoodTerm (length values)) ts) (i j sum : ℕ) (d : Term) (e : j ≡ suc i) (h : i < length ts) (s : Summed values ts j sum) (v : ℤ) (p : v ≡ product values (get_or ts i d)) where

@@ -1,7 +1,7 @@
 -- Case 10 of 01 with no clause twice: its list is counted, not written. It fits now; its clause ten times over does not. Assumes nothing.
-use Rattle.std.specs.Prelude.{◌≡◌, ◌≢◌, [], ◌∷◌, map, ℕ, zero, suc, ◌%◌, ◌≤◌, ◌<◌, length, replicate, pos, ◌≤ℤ◌}
+use Rattle.std.specs.Prelude.{true, leb, ◌+◌, ◌-◌, ◌≡◌, ◌≢◌, [], ◌∷◌, map, ℕ, zero, suc, ◌%◌, ◌≤◌, ◌<◌, length, replicate, pos, ◌≤ℤ◌}
 use Rattle.std.proofs.Math.Path.{refl}
-use Rattle.std.proofs.Common.{ap, ◌∙◌, mod-eq_of_lt, arith}
+use Rattle.std.proofs.Common.{ap, ◌∙◌, mod-eq_of_lt, arith, lit<, lit≤, leb→le}
 use Rattle.definitions.specs.Tools.{All, neg}
 use Rattle.definitions.specs.Board.{Bounds, Term, Comparison, Board, at_most, bounds_of}
 use Rattle.definitions.specs.Result.{done}
@@ -17,7 +17,10 @@ use Rattle.next.specs.Once.{clauses_once}
 use Rattle.next.specs.OnceBoard.{piece_once, board_once, M-once, K-once, once_places_are}
 use Rattle.next.specs.Shapes.{step, step_of, filled}
 use Rattle.next.specs.Remainders.{Least}
-use Rattle.next.specs.Hops.{hops}
+use Rattle.next.specs.Hops.{hops, low_hops, onward, high-hops}
+use Rattle.next.specs.Leaps.{leap, leaps}
+use Rattle.next.specs.Classes.{is_low, is_high}
+use Rattle.next.specs.ClassEnds.{next_low}
 use Rattle.next.specs.Windows.{Starts, leaving, lows_in, highs_in, meeting}
 use Rattle.next.specs.CountedPairs.{inner_of, mixed_of, first_pairs, full_pairs}
 use Rattle.next.specs.Triples.{strip, first_triples, kept_counted}
@@ -59,9 +62,44 @@ starts = record { met = met; none = none }
     none (suc r) l u k s e f = omega arith
 
 -- ---- its comparison: three places of 524,225 steps, the sum 786,433 above the least
+-- its three loops, by leaps
+low : (ℕ → ℕ) → ℕ
+low g = (leap (next_low 64) g 524226 14 0).so_far
+
+high : (ℕ → ℕ) → ℕ
+high g = (leap (onward 64 524225) g 524226 14 0).so_far
+
+by_leaps : low (λ k. first_pairs 64 524225 64 524225 64 start (786433 - k)) + high (λ k. strip 64 524225 524225 (786433 - k))
+    - low (λ k. full_pairs 64 524225 64 524225 64 start (786433 - k)) ≡ 100675584
+unfolding low high strip first_pairs full_pairs mixed_of inner_of meeting lows_in highs_in leaving leap
+by_leaps = refl
+
+low_ends : (g : ℕ → ℕ) → leb 524226 (leap (next_low 64) g 524226 14 0).from ≡ true
+unfolding leap
+low_ends g = refl
+
+high_ends : (g : ℕ → ℕ) → leb 524226 (leap (onward 64 524225) g 524226 14 0).from ≡ true
+unfolding leap
+high_ends g = refl
+
+low_leaps : (g : ℕ → ℕ) → hops (next_low 64) g 524226 524226 0 ≡ low g
+unfolding low
+low_leaps g = leaps (is_low (step 64 524225)) (next_low 64) 524226 (low_hops 64 524225 524226 (lit< tt)) g 14 524226 0 (lit≤ tt) (λ u. refl) (leb→le 524226 _ (rw (low_ends g) tt))
+
+high_leaps : (g : ℕ → ℕ) → hops (onward 64 524225) g 524226 524226 0 ≡ high g
+unfolding high
+high_leaps g = leaps (is_high (step 64 524225)) (onward 64 524225) 524226 (high-hops 64 524225 524226 (lit< tt) (lit≤ tt)) g 14 524226 0 (lit≤ tt) (λ u. refl) (leb→le 524226 _ (rw (high_ends g) tt))
+
 counted : first_triples 64 524225 64 524225 64 524225 64 start 786433 ≡ 100675584
-unfolding first_triples strip first_pairs full_pairs mixed_of inner_of meeting lows_in highs_in leaving hops
-counted = refl
+unfolding first_triples
+counted =
+    omega (
+      arith,
+      low_leaps (λ k. first_pairs 64 524225 64 524225 64 start (786433 - k)),
+      high_leaps (λ k. strip 64 524225 524225 (786433 - k)),
+      low_leaps (λ k. full_pairs 64 524225 64 524225 64 start (786433 - k)),
+      by_leaps,
+    )
 
 module _ (n : ℕ) where
   shapes : filled (map (step_of (bounds_of (board n))) sum.terms) ≡ step 64 524225 ∷ step 64 524225 ∷ step 64 524225 ∷ []

@@ -143,14 +143,17 @@ module _ {L : Type 0} where
       ∙ over-same _ _ 0 (suc (min p.width t)) (λ k l u. literals-led p ps k (offsets (widths_of ps) (t - k)))
 
   pub led_in_lem : (l : L) (d : List L) (ds : List (List L)) → Any (λ e. e ≡ d) ds → Any (λ e. e ≡ (l ∷ d)) (led l ds)
+  led_in_lem l d [] a = elim a [ ]
   led_in_lem l d (x ∷ ds) (inl e) = inl (ap (λ z. l ∷ z) e)
   led_in_lem l d (x ∷ ds) (inr a) = inr (led_in_lem l d ds a)
 
   pub led_out : (l m : L) (d : List L) (ds : List (List L)) → Any (λ e. e ≡ (m ∷ d)) (led l ds) → (m ≡ l) × Any (λ e. e ≡ d) ds
+  led_out l m d [] a = elim a [ ]
   led_out l m d (x ∷ ds) (inl e) = (cc, inl (cc))
   led_out l m d (x ∷ ds) (inr a) = let r = led_out l m d ds a in (r.0, inr r.1)
 
   pub led_none : (l : L) (ds : List (List L)) → Any (λ e. e ≡ []) (led l ds) → ⊥
+  led_none l [] a = elim a [ ]
   led_none l (x ∷ ds) (inl e) = let z : ◌≡◌ {A = ℕ} 1 0 = bad e in omega arith
     where
       bad : (l ∷ x) ≡ [] → ◌≡◌ {A = ℕ} 1 0

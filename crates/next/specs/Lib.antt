@@ -24,5 +24,6 @@ pub mod Windows
 pub mod Periods
 pub mod CountedPairs
 pub mod Hops
+pub mod Leaps
 pub mod Triples
 pub mod CaseTen

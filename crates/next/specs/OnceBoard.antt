@@ -96,6 +96,8 @@ module _ (lead : SatClause) (of : ℕ → Bounds) (q : Comparison) where
   length_zip : (ts : List Term) (bs : List ℤ) → Within (ranges of ts) bs → length (zip_with sharp ts bs) ≡ length ts
   unfolding zip_with
   length_zip [] [] w = refl
+  length_zip [] (b ∷ bs) w = elim w [ ]
+  length_zip (t ∷ ts) [] w = elim w [ ]
   length_zip (t ∷ ts) (b ∷ bs) w = ap suc (length_zip ts bs w.2)
 
   abbrev m : ℕ

@@ -2,7 +2,7 @@
 use Rattle.std.specs.Prelude.{◌≡◌, refl, Bool, true, false, ◌&&◌, List, [], ◌∷◌, ℕ, ◌+◌, ◌*◌, ◌-◌, ◌≤◌, ◌<◌, ltb, length, drop, get_or}
 use Rattle.std.proofs.Common.{sym, ap, ◌∙◌, add-one, arith, length-drop, drop-cons, eq-eqb, ne_eqb, le-leb}
 use Rattle.std.proofs.lemmas.Bool.{lt-leb}
-use Rattle.definitions.specs.Result.{Result, ◌>>=◌, ◌>>◌, done, refused}
+use Rattle.definitions.specs.Result.{Result, ◌>>=◌, done, refused}
 use Rattle.laws.specs.Readings.{same, never}
 use Rattle.laws.specs.Refusals.{refusal_is}
 use Rattle.definitions.specs.Texts.{blank, most}

@@ -7,7 +7,6 @@ use Rattle.std.proofs.lemmas.Bool.{eqb-false, lt-leb}
 use Rattle.definitions.specs.Tools.{if◌then◌else◌, count_up}
 use Rattle.definitions.specs.Result.{Result, ◌>>◌, done, refused, each}
 use Rattle.laws.specs.Lists.{counted-at, length-count_up, count_up-append, all-count_up, map_same}
-use Rattle.laws.specs.Readings.{never}
 use Rattle.laws.specs.Search.{seek-append}
 use Rattle.definitions.specs.TextReading.{number_read}
 use Rattle.definitions.specs.TextOperations.{often}

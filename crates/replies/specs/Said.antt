@@ -1,5 +1,5 @@
 -- What the parts of the reader answer, as Parts.antt has it, and where: not before `from`, nor past the text's end.
-use Rattle.definitions.specs.Tools.{ℕ, ◌≤◌, ◌≡◌, Bool, true, false, List, drop, length}
+use Rattle.definitions.specs.Tools.{ℕ, ◌≤◌, ◌≡◌, Bool, List, drop, length}
 use Rattle.std.specs.Prelude.{◌<◌}
 use Rattle.definitions.specs.Result.{Result, done, refused}
 use Rattle.definitions.specs.TextReading.{Number, number_read, Reply}

@@ -4,7 +4,6 @@ use Rattle.std.proofs.Common.{sym, ap, ◌∙◌, inl, inr, append-nil, add-zero
 use Rattle.std.proofs.Math.Dec.{leb-suc-zero}
 use Rattle.definitions.specs.Tools.{if◌then◌else◌, neg}
 use Rattle.definitions.specs.Result.{Result, ◌>>=◌, ◌>>◌, need, done, refused}
-use Rattle.definitions.specs.Operations.{Sizes}
 use Rattle.definitions.specs.Dimacs.{ascii}
 use Rattle.definitions.specs.Texts.{blank, zeros, most}
 use Rattle.definitions.specs.TextReading.{digit, Number, number_read, whole, begun, grown, Count, count_N, count_M, text, State, word, count, count_on, at_number, in_number, awaits, counted, step, fed, Read, end_text, read_text}

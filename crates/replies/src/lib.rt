@@ -1,4 +1,6 @@
 // DIMACS text and solvers' replies, read from bytes (02, P2).
+#![tactic(auto)]
+
 pub mod bytes; // bytes.rt: tests of a byte
 pub mod faults; // faults.rt: where a reading was refused
 pub mod parts; // parts.rt: a word, a count, a number

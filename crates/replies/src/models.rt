@@ -80,7 +80,7 @@ fn take_model(
     model: &mut [u8],
 ) -> Replied
     requires { Told n from count rising text.now }
-    ensures { (said_replied result leaves (λ x. x.now) model.exit) ≡ taken_from n from text.now model.old }
+    ensures { (said_replied result leaves model.new) ≡ taken_from n from text.now model.old }
 {
     match least_not_once(text, n, from, sought_from(n, count, rising)) {
         Found::At(variable) => Replied::Refused(Refusal::VariableNotOnce { number: variable }),

@@ -4,7 +4,7 @@ use Rattle.std.proofs.Common.{sym, ap, ◌∙◌, add-zero, add-one, arith}
 use mathlib.Core.List.{List, [], ◌∷◌, ◌++◌, map, flatten, append-nil}
 use Rattle.laws.specs.Limits.{numbers_limit}
 use Rattle.definitions.specs.Tools.{neg}
-use Rattle.definitions.specs.Board.{Board, Literal, Clause, is_true, is_false, at_most}
+use Rattle.definitions.specs.Board.{Board, Clause, is_true, is_false, at_most}
 use Rattle.definitions.specs.Result.{done}
 use Rattle.definitions.specs.Reading.{Context, times, read_literal}
 use Rattle.definitions.specs.Encoding.{first, number, literal_number}

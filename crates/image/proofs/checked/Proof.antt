@@ -10,29 +10,29 @@ use Rattle.image.proofs.checked.Tie as tie
 lengths-requires : tie.Need-lengths-requires
 lengths-requires c κs = search rules
 
-enum_told : tie.Need-enum-told
+enum_told : tie.Need-enum_told-1
 enum_told c = search rules
 
 solved-requires : tie.Need-solved-requires
 solved-requires c κs =
-    lists_long _ _ _ c.before.before.before.before.before.before.before.requires _ _ (told said_verdict c.before.before.before.before.lengths.ensures c.before.before.enum_told.given.1)
+    lists_long _ _ _ c.requires _ _ (told said_verdict c.lengths.ensures c.in-Accepted.is)
 
-enum-known-r : tie.Need-enum-known-r
+enum-known-r : tie.Need-enum_known-r
 enum-known-r c = search rules
 
-returns : tie.Need-returns
+returns : tie.Need-returns-then-lent-totals
 returns c =
-    model_wrong _ _ _ c.before.before.before.before.before.before.before.requires _ _ _ (told said_verdict c.before.before.before.before.lengths.ensures c.before.before.enum_told.given.1) c.if1.true
+    model_wrong _ _ _ c.requires _ _ _ (told said_verdict c.lengths.ensures c.in-Accepted.is) c.if-lent-totals.true
 
-returns-2 : tie.Need-returns-2
+returns-2 : tie.Need-returns-else-lent-totals
 returns-2 c =
-    c.solved.ensures ∙ lists_right _ _ _ c.before.before.before.before.before.before.before.before.requires _ _ _ (told said_verdict c.before.before.before.before.before.lengths.ensures c.before.before.before.enum_told.given.1) c.before.if1.false
+    c.solved.ensures ∙ lists_right _ _ _ c.requires _ _ _ (told said_verdict c.lengths.ensures c.in-Accepted.is) c.if-lent-totals.false
 
-returns-3 : tie.Need-returns-3
+returns-3 : tie.Need-returns-in-Refused
 returns-3 c =
-    lists_wrong _ _ _ c.before.before.before.before.before.before.requires _ _ _ (told said_verdict c.before.before.before.lengths.ensures c.before.r.given.1)
+    lists_wrong _ _ _ c.requires _ _ _ (told said_verdict c.lengths.ensures c.in-Refused.is)
 
-pub checked-spec : {M : Type 1} → statement M
-checked-spec =
+pub checked_spec : {M : Type 1} → statement M
+checked_spec =
     tie.close
     (tie.spec lengths-requires enum_told solved-requires enum-known-r returns returns-2 returns-3)

@@ -13,39 +13,39 @@ use Rattle.judge.proofs.judge.Tie as tie
 measure-requires : tie.Need-measure-requires
 measure-requires c κs = search rules
 
-enum-known-header : tie.Need-enum-known-header
+enum-known-header : tie.Need-enum_known-header
 enum-known-header c = search rules
 
 lengths-requires : tie.Need-lengths-requires
 lengths-requires c κs = search rules
 
-enum_told : tie.Need-enum-told
+enum_told : tie.Need-enum_told-1
 enum_told c = search rules
 
 solved-requires : tie.Need-solved-requires
 solved-requires c κs =
-    let m = measured c.before.before.before.before.before.before.before.before.before.args.bytes.now (told said_measured c.before.before.before.before.before.before.measure.ensures c.before.before.before.before.header.given.1) in long_enough c.before.before.before.before.before.before.before.before.before.args.bytes.now _ c.before.before.before.before.before.before.before.before.before.args.values.now c.before.before.before.before.before.before.before.before.before.args.booleans.now m.opened (told said_verdict c.before.before.lengths.ensures c.enum_told.given.1)
+    let m = measured c.args.bytes.now (told said_measured c.measure.ensures c.in-Accepted.is) in long_enough c.args.bytes.now _ c.args.values.now c.args.booleans.now m.opened (told said_verdict c.lengths.ensures c.in-Accepted-lengths.is)
 
-enum-known-r : tie.Need-enum-known-r
+enum-known-r : tie.Need-enum_known-r
 enum-known-r c = search rules
 
-enum-known-r-2 : tie.Need-enum-known-r-2
+enum-known-r-2 : tie.Need-enum_known-r-in-Refused-measure
 enum-known-r-2 c = search rules
 
-returns : tie.Need-returns
+returns : tie.Need-returns-in-Accepted-lengths
 returns c =
-    let m = measured c.before.before.before.before.before.before.before.before.before.before.args.bytes.now (told said_measured c.before.before.before.before.before.before.before.measure.ensures c.before.before.before.before.before.header.given.1) in c.solved.ensures ∙ judge_is c.before.before.before.before.before.before.before.before.before.before.args.bytes.now c.before.before.before.before.before.before.before.before.before.before.args.values.now c.before.before.before.before.before.before.before.before.before.before.args.booleans.now (board_of c.before.before.before.before.before.before.before.before.before.before.args.bytes.now) m.board (rw m.opened.header at (told said_verdict c.before.before.before.lengths.ensures c.before.enum_told.given.1)) refl
+    let m = measured c.args.bytes.now (told said_measured c.measure.ensures c.in-Accepted.is) in c.solved.ensures ∙ judge_is c.args.bytes.now c.args.values.now c.args.booleans.now (board_of c.args.bytes.now) m.board (rw m.opened.header at (told said_verdict c.lengths.ensures c.in-Accepted-lengths.is)) refl
 
-returns-2 : tie.Need-returns-2
+returns-2 : tie.Need-returns-in-Refused-lengths
 returns-2 c =
-    let m = measured c.before.before.before.before.before.before.before.before.before.before.args.bytes.now (told said_measured c.before.before.before.before.before.before.before.measure.ensures c.before.before.before.before.before.header.given.1) in judge_is c.before.before.before.before.before.before.before.before.before.before.args.bytes.now c.before.before.before.before.before.before.before.before.before.before.args.values.now c.before.before.before.before.before.before.before.before.before.before.args.booleans.now (board_of c.before.before.before.before.before.before.before.before.before.before.args.bytes.now) m.board (rw m.opened.header at (told said_verdict c.before.before.before.lengths.ensures c.before.r.given.1)) refl
+    let m = measured c.args.bytes.now (told said_measured c.measure.ensures c.in-Accepted.is) in judge_is c.args.bytes.now c.args.values.now c.args.booleans.now (board_of c.args.bytes.now) m.board (rw m.opened.header at (told said_verdict c.lengths.ensures c.in-Refused-lengths.is)) refl
 
-returns-3 : tie.Need-returns-3
+returns-3 : tie.Need-returns-in-Refused
 returns-3 c =
-    judge-not c.before.before.before.before.before.before.args.bytes.now c.before.before.before.before.before.before.args.values.now c.before.before.before.before.before.before.args.booleans.now (not_measured c.before.before.before.before.before.before.args.bytes.now (told said_measured c.before.before.before.measure.ensures c.before.r2.given.1))
+    judge-not c.args.bytes.now c.args.values.now c.args.booleans.now (not_measured c.args.bytes.now (told said_measured c.measure.ensures c.in-Refused.is))
 
-pub judge-spec : {M : Type 1} → statement M
-judge-spec =
+pub judge_spec : {M : Type 1} → statement M
+judge_spec =
     tie.close
     (tie.spec
     measure-requires

@@ -16,22 +16,22 @@ enum-known-header c = search rules
 
 totals-of-requires : tie.Need-totals_of-totals-requires
 totals-of-requires c κs =
-    opened _ (told said_opening c.before.before.before.«open».ensures c.in-Opened.is)
+    opened _ (told said_opening c.«open».ensures c.in-Opened.is)
 
 enum-known-r : tie.Need-enum_known-r
 enum-known-r c = search rules
 
 returns : tie.Need-returns-then-totals-le-LONGEST
 returns c =
-    measured _ _ (told said_opening c.before.before.before.before.before.before.«open».ensures c.in-Opened.is) _ c.totals_of-totals.ensures (omega (arith, c.if-totals-le-LONGEST.true))
+    measured _ _ (told said_opening c.«open».ensures c.in-Opened.is) _ c.totals_of-totals.ensures (omega (arith, c.if-totals-le-LONGEST.true))
 
 returns-2 : tie.Need-returns-else-totals-le-LONGEST
 returns-2 c =
-    too_long _ _ (told said_opening c.before.before.before.before.before.before.«open».ensures c.in-Opened.is) _ c.totals_of-totals.ensures (omega (arith, c.if-totals-le-LONGEST.false))
+    too_long _ _ (told said_opening c.«open».ensures c.in-Opened.is) _ c.totals_of-totals.ensures (omega (arith, c.if-totals-le-LONGEST.false))
 
 returns-3 : tie.Need-returns-in-Refused
 returns-3 c =
-    unopened _ _ _ (told said_opening c.before.before.before.«open».ensures c.in-Refused.is)
+    unopened _ _ _ (told said_opening c.«open».ensures c.in-Refused.is)
 
 pub measure_spec : {M : Type 1} → statement M
 measure_spec =

@@ -7,41 +7,41 @@ use Rattle.closing.proofs.Checked.{lent_is}
 use Rattle.closing.proofs.checks.checked.Statement.{statement}
 use Rattle.closing.proofs.checks.checked.Tie as tie
 
-unknown-variable-requires : tie.Need-unknown-variable-requires
+unknown-variable-requires : tie.Need-unknown_variable-first-requires
 unknown-variable-requires c κs = search rules
 
-first-bad-byte-requires : tie.Need-first-bad-byte-requires
+first-bad-byte-requires : tie.Need-first_bad_byte-second-requires
 first-bad-byte-requires c κs = search rules
 
-enum-known-first : tie.Need-enum-known-first
+enum-known-first : tie.Need-enum_known-first
 enum-known-first c = search rules
 
-enum_told : tie.Need-enum-told
+enum_told : tie.Need-enum_told-1
 enum_told c = search rules
 
-enum-known-second : tie.Need-enum-known-second
+enum-known-second : tie.Need-enum_known-second
 enum-known-second c = search rules
 
-enum-told-2 : tie.Need-enum-told-2
+enum-told-2 : tie.Need-enum_told-in-Nothing-second
 enum-told-2 c = search rules
 
-returns : tie.Need-returns
+returns : tie.Need-returns-in-At
 returns c =
-    let a = c.before.before.before.before.before.before.args in
-    lent_is a.ints a.variable a.replies.now (told (said_found 22) c.before.before.before.before.unknown_variable.ensures c.before.first.given.1) refl
+    let a = c.args in
+    lent_is a.ints a.variable a.replies.now (told (said_found 22) c.unknown_variable-first.ensures c.in-At.is) refl
 
-returns-2 : tie.Need-returns-2
+returns-2 : tie.Need-returns-in-At-second
 returns-2 c =
-    let a = c.before.before.before.before.before.before.before.before.args in
-    lent_is a.ints a.variable a.replies.now (told (said_found 22) c.before.before.before.before.before.before.unknown_variable.ensures c.before.before.before.enum_told.given.1) (told (said_found 12) c.before.before.before.before.before.first-bad-byte.ensures c.before.second.given.1)
+    let a = c.args in
+    lent_is a.ints a.variable a.replies.now (told (said_found 22) c.unknown_variable-first.ensures c.in-Nothing.is) (told (said_found 12) c.first_bad_byte-second.ensures c.in-At-second.is)
 
-returns-3 : tie.Need-returns-3
+returns-3 : tie.Need-returns-in-Nothing-second
 returns-3 c =
-    let a = c.before.before.before.before.before.before.before.args in
-    lent_is a.ints a.variable a.replies.now (told (said_found 22) c.before.before.before.before.before.unknown_variable.ensures c.before.before.enum_told.given.1) (told (said_found 12) c.before.before.before.before.first-bad-byte.ensures c.enum-told2.given.1)
+    let a = c.args in
+    lent_is a.ints a.variable a.replies.now (told (said_found 22) c.unknown_variable-first.ensures c.in-Nothing.is) (told (said_found 12) c.first_bad_byte-second.ensures c.in-Nothing-second.is)
 
-pub checked-spec : {M : Type 1} → statement M
-checked-spec =
+pub checked_spec : {M : Type 1} → statement M
+checked_spec =
     tie.close
     (tie.spec
     unknown-variable-requires

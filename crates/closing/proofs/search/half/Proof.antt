@@ -1,4 +1,5 @@
 -- `closing::search::half` meets its contract.
+use mir.Syntax.{w32}
 use mathlib.Core.Path.{◌≡◌, ◌∙◌}
 use native.Mathlib.Omega.{arith}
 use lib.IntN.{pos, ◌+ℤ◌}
@@ -10,13 +11,13 @@ use Rattle.closing.proofs.search.half.Tie as tie
 
 ruleset fit = (to_z-of_z, low_fits, high_fits, sum_fits)
 
-add-floor-div : tie.Need-overflow-add-floor-div
+add-floor-div : tie.Need-overflow_add-range
 add-floor-div c = search fit
 
-floor-div-requires : tie.Need-floor-div-requires
+floor-div-requires : tie.Need-floor_div-requires
 floor-div-requires c κs =
-    let b = c.before.before.args.range in
-    let s = c.before.before.requires in
+    let b = c.args.range in
+    let s = c.requires in
     let low = low_fits b s in
     let high = high_fits b s in
     let both = sum_fits b s in
@@ -24,13 +25,13 @@ floor-div-requires c κs =
 
 returns : tie.Need-returns
 returns c =
-    let b = c.before.before.before.args.range in
-    let s = c.before.before.before.requires in
+    let b = c.args.range in
+    let s = c.requires in
     let low = low_fits b s in
     let high = high_fits b s in
     let both = sum_fits b s in
-    let e : c.floor-div.result ≡ floor (b.lower +ℤ b.upper) (pos 2) = simp to_z-of_z at c.floor-div.ensures in
-    to_z-of_z (record { sfits = c.floor-div.type-inv }) ∙ e ∙ half_is b
+    let e : c.floor_div.result ≡ floor (b.lower +ℤ b.upper) (pos 2) = simp to_z-of_z at c.floor_div.ensures in
+    to_z-of_z {w = w32} (record { sfits = c.floor_div.type_inv }) ∙ e ∙ half_is b
 
 pub half_spec : {M : Type 1} → statement M
 half_spec = tie.close (tie.spec add-floor-div floor-div-requires returns)

@@ -17,34 +17,34 @@ use Rattle.closing.proofs.search.told.Tie as tie
 half-requires : tie.Need-half-requires
 half-requires c κs = search rules
 
-returns : tie.Need-returns
+returns : tie.Need-returns-then-range
 returns c =
     let s = c.before.before.before.before.before in
     let b = s.args.range in
     let low = low_fits b s.requires in
     let high = high_fits b s.requires in
-    let f : SFits w32 c.before.half.result = record { sfits = c.before.half.type-inv } in
-    let w : b.lower <ℤ b.upper = omega (whole, back low, back high, c.before.before.if1.true) in
-    let e : c.before.half.result ≡ halfway (bounds_read b) = c.before.half.ensures in
+    let f : SFits w32 c.half.result = record { sfits = c.half.type_inv } in
+    let w : b.lower <ℤ b.upper = omega (whole, back low, back high, c.if-range.true) in
+    let e : c.half.result ≡ halfway (bounds_read b) = c.half.ensures in
     simp to_z-of_z (rw e (ap done (sym (tells_open (bounds_read b) w))))
 
-returns-2 : tie.Need-returns-2
+returns-2 : tie.Need-returns-then-range-2
 returns-2 c =
     let s = c.before.before.before.before.before.before in
     let b = s.args.range in
     let low = low_fits b s.requires in
     let high = high_fits b s.requires in
-    let w : b.upper <ℤ b.lower = omega (whole, back low, back high, c.if2.true) in
+    let w : b.upper <ℤ b.lower = omega (whole, back low, back high, c.if-range-2.true) in
     ap done (sym (tells_none (bounds_read b) w))
 
-returns-3 : tie.Need-returns-3
+returns-3 : tie.Need-returns
 returns-3 c =
     let s = c.before.before.before.before.before.before.before in
     let b = s.args.range in
     let low = low_fits b s.requires in
     let high = high_fits b s.requires in
-    let w : b.lower ≡ b.upper = omega (whole, back low, back high, c.before.if2.false, c.before.before.before.before.if1.false) in
+    let w : b.lower ≡ b.upper = omega (whole, back low, back high, c.if-range-2.false, c.if-range.false) in
     simp to_z-of_z (ap done (sym (tells_found (bounds_read b) w)))
 
-pub told-spec : {M : Type 1} → statement M
-told-spec = tie.close (tie.spec half-requires returns returns-2 returns-3)
+pub told_spec : {M : Type 1} → statement M
+told_spec = tie.close (tie.spec half-requires returns returns-2 returns-3)

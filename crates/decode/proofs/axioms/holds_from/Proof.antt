@@ -5,22 +5,22 @@ use borrow.Author.Rules.{rules}
 use Rattle.decode.proofs.axioms.holds_from.Statement.{statement}
 use Rattle.decode.proofs.axioms.holds_from.Tie as tie
 
-is-on-requires : tie.Need-is-on-requires
+is-on-requires : tie.Need-is_on-requires
 is-on-requires c κs = search rules
 
-add-is-on : tie.Need-overflow-add-is-on
+add-is-on : tie.Need-overflow_add-v
 add-is-on c = search rules
 
-is-on-requires-2 : tie.Need-is-on-requires-2
+is-on-requires-2 : tie.Need-is_on-requires-then-is_on
 is-on-requires-2 c κs = search rules
 
-returns : tie.Need-returns
+returns : tie.Need-returns-then-is_on
 returns c =
-    c.is-on2.ensures ∙ sym (rises-on _ _ (sym c.before.before.is-on.ensures ∙ c.before.if1.true))
+    c.is_on-then-is_on.ensures ∙ sym (rises-on _ _ (sym c.is_on.ensures ∙ c.if-is_on.true))
 
-returns-2 : tie.Need-returns-2
+returns-2 : tie.Need-returns
 returns-2 c =
-    sym (rises_off _ _ (sym c.before.is-on.ensures ∙ c.if1.false))
+    sym (rises_off _ _ (sym c.is_on.ensures ∙ c.if-is_on.false))
 
-pub holds-from-spec : {M : Type 1} → statement M
-holds-from-spec = tie.close (tie.spec is-on-requires add-is-on is-on-requires-2 returns returns-2)
+pub holds_from_spec : {M : Type 1} → statement M
+holds_from_spec = tie.close (tie.spec is-on-requires add-is-on is-on-requires-2 returns returns-2)

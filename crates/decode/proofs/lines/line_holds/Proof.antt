@@ -15,68 +15,68 @@ use Rattle.decode.specs.Lines.{number_in, Reading, none_left, one_left, literal_
 use Rattle.decode.proofs.lines.line_holds.Statement.{statement}
 use Rattle.decode.proofs.lines.line_holds.Tie as tie
 
-abbrev invariant-loop : tie.invariant-loop
+abbrev invariant-loop : tie.invariant-loop-left
 invariant-loop bytes firsts rules model n at selector selectors j₀ place₀ left₀ j place left =
     Reading (board_of bytes) model rules (true_clause (board_of bytes) model (line_from selector (literals_at rules n at).value)) j left place
 
-abbrev decreases-loop : tie.decreases-loop
+abbrev decreases-loop : tie.decreases-loop-left
 decreases-loop bytes firsts rules model n at selector selectors j₀ place₀ left₀ j place left = left
 
 -- a literal was read again
-module _ (r : tie.After-literal-again invariant-loop decreases-loop) where
+module _ (r : tie.After-literal_again-read invariant-loop decreases-loop) where
   abbrev s : tie.Start invariant-loop decreases-loop
   s = r.before.before.before.before.before.before.before.before
 
   abbrev B : Board
   B = board_of s.args.bytes.now
 
-  selector-is : r.before.before.before.first-in.result + r.before.before.loop.j ≡ selector_number B r.before.before.loop.j
-  selector-is = ap (λ n. n + r.before.before.loop.j) (r.before.before.before.first-in.ensures ∙ s.pre.1 s.args.header.ints (omega (arith, ints_is s.pre.0.opened)) ∙ selectors_are s.pre.0.opened)
+  selector-is : r.first_in-selectors.result + r.loop-left.j ≡ selector_number B r.loop-left.j
+  selector-is = ap (λ n. n + r.loop-left.j) (r.first_in-selectors.ensures ∙ s.requires.1 s.args.header.ints (omega (arith, ints_is s.requires.0.opened)) ∙ selectors_are s.requires.0.opened)
 
-  numbered : (1 ≤ number_in (selector_number B r.before.before.loop.j) r.literal-again.result.literal) × (number_in (selector_number B r.before.before.loop.j) r.literal-again.result.literal ≤ length s.args.model.now) × (number_in r.before.before.loop.j r.literal-again.result.literal ≤ length s.args.model.now)
-  numbered = literal_numbered r.before.before.loop.inv r.before.loop-test.taken r.literal-again.ensures s.pre.0.long
+  numbered : (1 ≤ number_in (selector_number B r.loop-left.j) r.literal_again-read.result.literal) × (number_in (selector_number B r.loop-left.j) r.literal_again-read.result.literal ≤ length s.args.model.now) × (number_in r.loop-left.j r.literal_again-read.result.literal ≤ length s.args.model.now)
+  numbered = literal_numbered r.loop-left.invariant r.loop-left-test.true r.literal_again-read.ensures s.requires.0.long
 
-first-in-requires : tie.Need-first-in-requires invariant-loop decreases-loop
+first-in-requires : tie.Need-first_in-selectors-requires invariant-loop decreases-loop
 first-in-requires c κs = search rules
 
-cast-selectors : tie.Need-overflow-cast-selectors invariant-loop decreases-loop
+cast-selectors : tie.Need-overflow_cast-selectors invariant-loop decreases-loop
 cast-selectors c = search rules
 
-loop-holds : tie.Need-loop-init invariant-loop decreases-loop
+loop-holds : tie.Need-loop-left-init invariant-loop decreases-loop
 loop-holds c =
-    let p = c.before.before.before.before.before.requires in
+    let p = c.requires in
     record { readable = p.2; same = refl; mentioned = p.3 }
 
-literal-again-requires : tie.Need-literal-again-requires invariant-loop decreases-loop
-literal-again-requires c κs = one_left c.before.loop.invariant c.loop-test.true
+literal-again-requires : tie.Need-literal_again-read-requires invariant-loop decreases-loop
+literal-again-requires c κs = one_left c.loop-left.invariant c.loop-left-test.true
 
-literal-holds-requires : tie.Need-literal-holds-requires invariant-loop decreases-loop
+literal-holds-requires : tie.Need-literal_holds-requires invariant-loop decreases-loop
 literal-holds-requires c κs = rw (selector-is c) ((numbered c).0, (numbered c).1, short (s c).requires.0)
 
-returns : tie.Need-returns invariant-loop decreases-loop
+returns : tie.Need-returns-then-literal_holds invariant-loop decreases-loop
 returns c =
     let r = c.before.before in
-    literal_true r.before.before.loop.invariant r.before.loop-test.true r.literal-again.ensures (rw (selector-is r) at (sym c.before.literal-holds.ensures ∙ c.if1.true))
+    literal_true r.loop-left.invariant r.loop-left-test.true r.literal_again-read.ensures (rw (selector-is r) at (sym c.literal_holds.ensures ∙ c.if-literal_holds.true))
 
-selector-after-requires : tie.Need-selector-after-requires invariant-loop decreases-loop
+selector-after-requires : tie.Need-selector_after-j-requires invariant-loop decreases-loop
 selector-after-requires c κs = let r = c.before.before in omega (arith, (numbered r).2, short (s r).requires.0)
 
-sub-left : tie.Need-overflow-sub-left invariant-loop decreases-loop
+sub-left : tie.Need-overflow_sub-left invariant-loop decreases-loop
 sub-left c = omega arith
 
-loop-less : tie.Need-loop-smaller invariant-loop decreases-loop
+loop-less : tie.Need-loop-left-smaller invariant-loop decreases-loop
 loop-less c = omega arith
 
-loop-again : tie.Need-loop-preserved invariant-loop decreases-loop
+loop-again : tie.Need-loop-left-preserved invariant-loop decreases-loop
 loop-again c =
     let r = c.before.before.before in
-    rw c.selector-after.ensures (literal_false r.before.before.loop.invariant r.before.loop-test.true r.literal-again.ensures (rw (selector-is r) at (sym c.before.before.literal-holds.ensures ∙ c.before.if1.false)))
+    rw c.selector_after-j.ensures (literal_false r.loop-left.invariant r.loop-left-test.true r.literal_again-read.ensures (rw (selector-is r) at (sym c.literal_holds.ensures ∙ c.if-literal_holds.false)))
 
-returns-2 : tie.Need-returns-2 invariant-loop decreases-loop
-returns-2 c = none_left c.before.loop.invariant c.loop-test.false
+returns-2 : tie.Need-returns invariant-loop decreases-loop
+returns-2 c = none_left c.loop-left.invariant c.loop-left-test.false
 
-pub line-holds-spec : {M : Type 1} → statement M
-line-holds-spec =
+pub line_holds_spec : {M : Type 1} → statement M
+line_holds_spec =
     tie.close
     (tie.spec
     invariant-loop

@@ -6,44 +6,44 @@ use native.Mathlib.Omega.{arith}
 use Rattle.decode.proofs.lines.literal_holds.Statement.{statement}
 use Rattle.decode.proofs.lines.literal_holds.Tie as tie
 
-enum-known-literal : tie.Need-enum-known-literal
+enum-known-literal : tie.Need-enum_known-literal
 enum-known-literal c = search rules
 
-cast-is-on : tie.Need-overflow-cast-is-on
+cast-is-on : tie.Need-overflow_cast-b
 cast-is-on c = search rules
 
-is-on-requires : tie.Need-is-on-requires
-is-on-requires c κs = let p = rw c.before.literal.given.1 at c.before.before.before.before.requires in (p.0, p.1)
+is-on-requires : tie.Need-is_on-requires
+is-on-requires c κs = let p = rw c.in-Boolean.is at c.requires in (p.0, p.1)
 
-enum-known-literal-2 : tie.Need-enum-known-literal-2
+enum-known-literal-2 : tie.Need-enum_known-literal-in-Negated-1
 enum-known-literal-2 c = search rules
 
-cast-is-on-2 : tie.Need-overflow-cast-is-on-2
+cast-is-on-2 : tie.Need-overflow_cast-b-in-Negated
 cast-is-on-2 c = search rules
 
-is-on-requires-2 : tie.Need-is-on-requires-2
-is-on-requires-2 c κs = let p = rw c.before.literal2.given.1 at c.before.before.before.before.requires in (p.0, p.1)
+is-on-requires-2 : tie.Need-is_on-requires-in-Negated
+is-on-requires-2 c κs = let p = rw c.in-Negated.is at c.requires in (p.0, p.1)
 
-enum_told : tie.Need-enum-told
+enum_told : tie.Need-enum_told-1
 enum_told c = search rules
 
-add-is-on : tie.Need-overflow-add-is-on
-add-is-on c = let p = rw c.enum_told.given.1 at c.before.before.before.requires in omega (arith, p)
+add-is-on : tie.Need-overflow_add-selectors
+add-is-on c = let p = rw c.in-Comparison.is at c.requires in omega (arith, p)
 
-is-on-requires-3 : tie.Need-is-on-requires-3
-is-on-requires-3 c κs = let p = rw c.enum_told.given.1 at c.before.before.before.requires in (p.0, p.1)
+is-on-requires-3 : tie.Need-is_on-requires-in-Comparison
+is-on-requires-3 c κs = let p = rw c.in-Comparison.is at c.requires in (p.0, p.1)
 
-returns : tie.Need-returns
-returns c = rw c.before.before.literal.given.1 c.is-on.ensures
+returns : tie.Need-returns-in-Boolean
+returns c = rw c.in-Boolean.is c.is_on.ensures
 
-returns-2 : tie.Need-returns-2
-returns-2 c = rw c.before.before.literal2.given.1 (ap not c.is-on2.ensures)
+returns-2 : tie.Need-returns-in-Negated
+returns-2 c = rw c.in-Negated.is (ap not c.is_on-in-Negated.ensures)
 
-returns-3 : tie.Need-returns-3
-returns-3 c = rw c.before.enum_told.given.1 c.is-on3.ensures
+returns-3 : tie.Need-returns-in-Comparison
+returns-3 c = rw c.in-Comparison.is c.is_on-in-Comparison.ensures
 
-pub literal-holds-spec : {M : Type 1} → statement M
-literal-holds-spec =
+pub literal_holds_spec : {M : Type 1} → statement M
+literal_holds_spec =
     tie.close
     (tie.spec
     enum-known-literal

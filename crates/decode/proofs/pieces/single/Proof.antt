@@ -7,5 +7,5 @@ use Rattle.decode.proofs.pieces.single.Tie as tie
 returns : tie.Need-returns
 returns c = single_is _ refl refl
 
-pub single-spec : {M : Type 1} → statement M
-single-spec = tie.close (tie.spec returns)
+pub single_spec : {M : Type 1} → statement M
+single_spec = tie.close (tie.spec returns)

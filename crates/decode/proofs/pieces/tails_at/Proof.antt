@@ -18,39 +18,39 @@ use Rattle.decode.proofs.pieces.tails_at.Tie as tie
 -- the comparison was made ready and its least sum found
 module _ (c : tie.After-least) where
   abbrev B : Board
-  B = board_of c.before.before.before.before.before.args.bytes.now
+  B = board_of c.args.bytes.now
 
   abbrev q : board.Comparison
-  q = comparison_at c.before.before.before.before.before.args.rules.now c.before.before.before.before.before.args.place c.before.before.before.before.before.args.constant
+  q = comparison_at c.args.rules.now c.args.place c.args.constant
 
-  made-ready : ReadyFor B q c.before.ready.result
-  made-ready = let s = c.before.before.before.before.before in is_ready _ s.requires.0 s.args.firsts.now s.requires.1 s.requires.2 c.before.ready.ensures
+  made-ready : ReadyFor B q c.ready-c.result
+  made-ready = let s = c.before.before.before.before.before in is_ready _ s.requires.0 s.args.firsts.now s.requires.1 s.requires.2 c.ready-c.ensures
 
   least-is : c.least.result ≡ least (bounds_of B) q.terms
   least-is = c.least.ensures ∙ shows_least B q _ made-ready.shows
 
   least_fits : SFits w32 c.least.result
-  least_fits = record { sfits = c.least.type-inv }
+  least_fits = record { sfits = c.least.type_inv }
 
-ready-requires : tie.Need-ready-requires
+ready-requires : tie.Need-ready-c-requires
 ready-requires c κs = let s = c.before.before.before in to_ready _ s.requires.0 s.args.firsts.now s.requires.1 s.requires.2
 
 least-requires : tie.Need-least-requires
-least-requires c κs = c.ready.ensures.fair
+least-requires c κs = c.ready-c.ensures.fair
 
 single-requires : tie.Need-single-requires
 single-requires c κs = search rules
 
-returns : tie.Need-returns
+returns : tie.Need-returns-then-constant-least
 returns c =
     let l = c.before.before in
-    λ lead. below_tails (B l) lead (q l) _ (omega (whole, least-is l, back c.before.before.before.before.before.before.before.ranges.constant, back (least_fits l))) c.single.ensures
+    λ lead. below_tails (B l) lead (q l) _ (omega (whole, least-is l, back c.ranges.constant, back (least_fits l))) c.single.ensures
 
-returns-2 : tie.Need-returns-2
+returns-2 : tie.Need-returns
 returns-2 c =
     let l = c.before in
-    λ lead. above_tails (B l) lead (q l) _ (omega (whole, least-is l, back c.before.before.before.before.before.before.ranges.constant, back (least_fits l))) (made-ready l)
+    λ lead. above_tails (B l) lead (q l) _ (omega (whole, least-is l, back c.ranges.constant, back (least_fits l))) (made-ready l)
 
-pub tails-at-spec : {M : Type 1} → statement M
-tails-at-spec =
+pub tails_at_spec : {M : Type 1} → statement M
+tails_at_spec =
     tie.close (tie.spec ready-requires least-requires single-requires returns returns-2)

@@ -7,28 +7,25 @@ use mir.Facts.{to_z-of_z}
 use Rattle.decode.proofs.rows.front_holds.Statement.{statement}
 use Rattle.decode.proofs.rows.front_holds.Tie as tie
 
-enum-known-front : tie.Need-enum-known-front
+enum-known-front : tie.Need-enum_known-front
 enum-known-front c = search rules
 
-enum_told : tie.Need-enum-told
+enum_told : tie.Need-enum_told-1
 enum_told c = search rules
 
-returns : tie.Need-returns
-returns c = rw c.enum_told.given.1
+returns : tie.Need-returns-in_default
+returns c = rw c.in_default.is
 
 holds-requires : tie.Need-holds-requires
 holds-requires c κs =
-    let s = c.before.before.before.before in
-    let front = c.before.front.given in
-    let f : SFits w32 front.0.0 = record { sfits = c.known-told.given.0.1 } in
-    let p = rw front.1 at s.requires.0 in
-    simp to_z-of_z (p.0.0, p.0.1, s.requires.1)
+    let f : SFits w32 c.in-Literal.literal = search rules in
+    let p = rw c.in-Literal.is at c.requires.0 in
+    simp to_z-of_z (p.0.0, p.0.1, c.requires.1)
 
-returns-2 : tie.Need-returns-2
+returns-2 : tie.Need-returns
 returns-2 c =
-    let front = c.before.before.front.given in
-    let f : SFits w32 front.0.0 = record { sfits = c.before.known-told.given.0.1 } in
-    rw (front.1, or-false) (simp to_z-of_z at c.holds.ensures)
+    let f : SFits w32 c.in-Literal.literal = search rules in
+    rw (c.in-Literal.is, or-false) (simp to_z-of_z at c.holds.ensures)
 
-pub front-holds-spec : {M : Type 1} → statement M
-front-holds-spec = tie.close (tie.spec enum-known-front enum_told returns holds-requires returns-2)
+pub front_holds_spec : {M : Type 1} → statement M
+front_holds_spec = tie.close (tie.spec enum-known-front enum_told returns holds-requires returns-2)

@@ -22,47 +22,47 @@ module _ (c : tie.Start) where
   turned : SFits w32 (pos 0 -ℤ c.args.literal)
   turned = abs_fits (omega (arith, size_same, c.requires))
 
-sub-is-on : tie.Need-overflow-sub-is-on
-sub-is-on c = let f = c.before.before.ranges.literal in simp to_z-of_z (turned c.before.before)
+sub-is-on : tie.Need-overflow_sub-literal
+sub-is-on c = let f = c.ranges.literal in simp to_z-of_z (turned c.before.before)
 
-cast-is-on : tie.Need-overflow-cast-is-on
+cast-is-on : tie.Need-overflow_cast-literal
 cast-is-on c =
-    let z = c.before.before.args.literal in
-    let f = c.before.before.ranges.literal in
+    let z = c.args.literal in
+    let f = c.ranges.literal in
     let g = turned c.before.before in
     simp to_z-of_z (yes_non_neg {z = pos 0 -ℤ z} (omega (whole, back f, sub_law (pos 0) z)), Fits-nat_abs tt g)
 
-is-on-requires : tie.Need-is-on-requires
+is-on-requires : tie.Need-is_on-requires
 is-on-requires c κs =
-    let f = c.before.before.ranges.literal in
+    let f = c.ranges.literal in
     let g = turned c.before.before in
-    simp to_z-of_z (omega (arith, size_same c.before.before, c.before.before.requires))
+    simp to_z-of_z (omega (arith, size_same c.before.before, c.requires))
 
-returns : tie.Need-returns
+returns : tie.Need-returns-then-literal-lt0
 returns c =
-    let m = c.before.before.before.args.model.now in
-    let z = c.before.before.before.args.literal in
-    let f = c.before.before.before.ranges.literal in
+    let m = c.args.model.now in
+    let z = c.args.literal in
+    let f = c.ranges.literal in
     let g = turned c.before.before.before in
-    ap not (simp to_z-of_z at c.is-on.ensures) ∙ ap (λ n. not (on m n)) (size_same c.before.before.before) ∙ sym (true_below m z (omega (whole, back f)))
+    ap not (simp to_z-of_z at c.is_on.ensures) ∙ ap (λ n. not (on m n)) (size_same c.before.before.before) ∙ sym (true_below m z (omega (whole, back f)))
 
-cast-is-on-2 : tie.Need-overflow-cast-is-on-2
+cast-is-on-2 : tie.Need-overflow_cast-literal-2
 cast-is-on-2 c =
-    let z = c.before.before.args.literal in
-    let f = c.before.before.ranges.literal in
+    let z = c.args.literal in
+    let f = c.ranges.literal in
     simp to_z-of_z (yes_non_neg {z = z} (omega (whole, back f)), Fits-nat_abs tt f)
 
-is-on-requires-2 : tie.Need-is-on-requires-2
+is-on-requires-2 : tie.Need-is_on-requires-2
 is-on-requires-2 c κs = search rules
 
-returns-2 : tie.Need-returns-2
+returns-2 : tie.Need-returns
 returns-2 c =
-    let m = c.before.before.before.args.model.now in
-    let z = c.before.before.before.args.literal in
-    let f = c.before.before.before.ranges.literal in
-    (simp to_z-of_z at c.is-on2.ensures) ∙ sym (true_above m z (omega (whole, back f)))
+    let m = c.args.model.now in
+    let z = c.args.literal in
+    let f = c.ranges.literal in
+    (simp to_z-of_z at c.is_on-2.ensures) ∙ sym (true_above m z (omega (whole, back f)))
 
-pub holds-spec : {M : Type 1} → statement M
-holds-spec =
+pub holds_spec : {M : Type 1} → statement M
+holds_spec =
     tie.close
     (tie.spec sub-is-on cast-is-on is-on-requires returns cast-is-on-2 is-on-requires-2 returns-2)

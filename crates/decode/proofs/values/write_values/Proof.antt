@@ -23,11 +23,11 @@ use Rattle.decode.specs.Values.{value_is, values_length, values_at}
 use Rattle.decode.proofs.values.write_values.Statement.{statement}
 use Rattle.decode.proofs.values.write_values.Tie as tie
 
-abbrev invariant-loop : tie.invariant-loop
+abbrev invariant-loop : tie.invariant-loop-x
 invariant-loop bytes model header values₀ x₀ first₀ values x first =
     (x ≤ header.ints) × (length values ≡ length values₀) × (first ≡ Encoding.first (board_of bytes) x) × (values ≡ written (take x (values_of (board_of bytes) model)) values₀)
 
-abbrev decreases-loop : tie.decreases-loop
+abbrev decreases-loop : tie.decreases-loop-x
 decreases-loop bytes model header values₀ x₀ first₀ values x first = header.ints - x
 
 module _ (c : tie.Start invariant-loop decreases-loop) where
@@ -41,82 +41,82 @@ module _ (c : tie.Start invariant-loop decreases-loop) where
   how_many_lem = omega (arith, values_length B c.args.model.now, ints_is c.requires.0.opened, c.requires.1)
 
 -- the bounds of variable x were read
-module _ (c : tie.After-bounds-of invariant-loop decreases-loop) where
+module _ (c : tie.After-bounds_of-bounds invariant-loop decreases-loop) where
   abbrev x : ℕ
-  x = c.before.before.before.loop.x
+  x = c.loop-x.x
 
   there : x < length (B c.before.before.before.before.before.before.before).bounds
-  there = inside c.before.before.before.before.before.before.before.requires.0 x c.before.if1.true c.bounds_of.ensures
+  there = inside c.requires.0 x c.loop-x-test.true c.bounds_of-bounds.ensures
 
-  room : (1 ≤ c.before.before.before.loop.first) × (c.before.before.before.loop.first + width (bounds_read c.bounds_of.result) ≤ length c.before.before.before.before.before.before.before.args.model.now + 1) × (length c.before.before.before.before.before.before.before.args.model.now < 2147483648)
+  room : (1 ≤ c.loop-x.first) × (c.loop-x.first + width (bounds_read c.bounds_of-bounds.result) ≤ length c.args.model.now + 1) × (length c.args.model.now < 2147483648)
   room =
-      let w = within c.before.before.before.before.before.before.before.requires.0 x c.before.if1.true c.bounds_of.ensures in
-      rw c.before.before.before.loop.invariant.2 (w.0, w.1, short c.before.before.before.before.before.before.before.requires.0)
+      let w = within c.requires.0 x c.loop-x-test.true c.bounds_of-bounds.ensures in
+      rw c.loop-x.invariant.2 (w.0, w.1, short c.requires.0)
 
-add-first : tie.Need-overflow-add-first invariant-loop decreases-loop
-add-first c = omega (arith, counts_small c.before.before.before.requires.0.opened)
+add-first : tie.Need-overflow_add-first invariant-loop decreases-loop
+add-first c = omega (arith, counts_small c.requires.0.opened)
 
-loop-holds : tie.Need-loop-init invariant-loop decreases-loop
+loop-holds : tie.Need-loop-x-init invariant-loop decreases-loop
 loop-holds c =
-    (omega arith, refl, rw (bools_is c.before.before.before.requires.0.opened) (sym (first_none (B c.before.before.before))), written_none _)
+    (omega arith, refl, rw (bools_is c.requires.0.opened) (sym (first_none (B c.before.before.before))), written_none _)
 
-bounds-of-requires : tie.Need-bounds-of-requires invariant-loop decreases-loop
+bounds-of-requires : tie.Need-bounds_of-bounds-requires invariant-loop decreases-loop
 bounds-of-requires c κs =
     let s = c.before.before.before.before.before.before in
     (s.requires.0.opened.opens, omega (arith, ints_is s.requires.0.opened))
 
-value-of-requires : tie.Need-value-of-requires invariant-loop decreases-loop
-value-of-requires c κs = let r = room (c) in (c.bounds_of.ensures.good, r.0, r.1, r.2)
+value-of-requires : tie.Need-value_of-requires invariant-loop decreases-loop
+value-of-requires c κs = let r = room (c) in (c.bounds_of-bounds.ensures.good, r.0, r.1, r.2)
 
-mul-t10 : tie.Need-overflow-mul-t10 invariant-loop decreases-loop
+mul-t10 : tie.Need-offset_bounds-values-x invariant-loop decreases-loop
 mul-t10 c = search rules
 
-slice-set-from-values : tie.Need-slice-set-from-values invariant-loop decreases-loop
-slice-set-from-values c = omega (arith, c.before.before.before.before.before.before.before.before.requires.1, c.before.before.before.before.loop.invariant.1)
+slice-set-from-values : tie.Need-bounds-values-x invariant-loop decreases-loop
+slice-set-from-values c = omega (arith, c.requires.1, c.loop-x.invariant.1)
 
-add-x : tie.Need-overflow-add-x invariant-loop decreases-loop
+add-x : tie.Need-overflow_add-x invariant-loop decreases-loop
 add-x c = omega arith
 
-width-of-requires : tie.Need-width-of-requires invariant-loop decreases-loop
-width-of-requires c κs = c.before.bounds_of.ensures.good
+width-of-requires : tie.Need-width_of-requires invariant-loop decreases-loop
+width-of-requires c κs = c.bounds_of-bounds.ensures.good
 
-cast-first : tie.Need-overflow-cast-first invariant-loop decreases-loop
+cast-first : tie.Need-overflow_cast-first invariant-loop decreases-loop
 cast-first c = search rules
 
-add-first-2 : tie.Need-overflow-add-first-2 invariant-loop decreases-loop
-add-first-2 c = omega (arith, room c.before.before, c.width_of_lem.ensures)
+add-first-2 : tie.Need-overflow_add-first-in-loop-x invariant-loop decreases-loop
+add-first-2 c = omega (arith, room c.before.before, c.width_of.ensures)
 
-loop-less : tie.Need-loop-smaller invariant-loop decreases-loop
+loop-less : tie.Need-loop-x-smaller invariant-loop decreases-loop
 loop-less c = omega arith
 
-loop-again : tie.Need-loop-preserved invariant-loop decreases-loop
+loop-again : tie.Need-loop-x-preserved invariant-loop decreases-loop
 loop-again c =
-    let here = c.before.before.before.before.before.loop in
+    let here = c.loop-x in
     let s = c.before.before.before.before.before.before.before.before.before in
     let v = c.before.before in
     let m = s.args.model.now in
-    let r : SFits w32 c.before.value_of_lem.result = record { sfits = c.before.value_of_lem.type-inv } in
-    let e = rw (here.invariant.2, bounds_same (B s) (x v) _ c.before.before.bounds_of.ensures) at c.before.value_of_lem.ensures in (
+    let r : SFits w32 c.value_of.result = record { sfits = c.value_of.type_inv } in
+    let e = rw (here.invariant.2, bounds_same (B s) (x v) _ c.bounds_of-bounds.ensures) at c.value_of.ensures in (
       omega arith,
       simp length-set here.invariant.1,
-      omega (arith, first_more (B s) (x v) _ (there v) c.before.before.bounds_of.ensures, c.width_of_lem.ensures),
-      ap (set here.values (x v)) (to_z-of_z r ∙ e ∙ value_is (B s) m (x v) (ordered c.before.before.before.before.before.before.before.before.before.requires.0 (x v) c.before.before.before.if1.true c.before.before.bounds_of.ensures) ∙ sym (values_at (B s) m (x v) (pos 0) (there v)))
+      omega (arith, first_more (B s) (x v) _ (there v) c.bounds_of-bounds.ensures, c.width_of.ensures),
+      ap (set here.values (x v)) (to_z-of_z r ∙ e ∙ value_is (B s) m (x v) (ordered c.requires.0 (x v) c.loop-x-test.true c.bounds_of-bounds.ensures) ∙ sym (values_at (B s) m (x v) (pos 0) (there v)))
           ∙ ap (λ z. set z (x v) (get_or (all s) (x v) (pos 0))) here.invariant.3
           ∙ written-take (pos 0) (all s) s.args.values.now (x v) (omega (arith, how_many_lem s)) (omega (arith, how_many_lem s)),
     )
 
-same_length : tie.Need-same-length invariant-loop decreases-loop
-same_length c = c.before.before.loop.invariant.1
+same_length : tie.Need-shape_of-values invariant-loop decreases-loop
+same_length c = c.loop-x.invariant.1
 
 returns : tie.Need-returns invariant-loop decreases-loop
 returns c =
-    let here = c.before.before.loop in
+    let here = c.loop-x in
     let s = c.before.before.before.before.before.before in
     let e : take here.x (all s) ≡ all s = take_all here.x (all s) (omega (arith, how_many_lem s)) in
     here.invariant.3 ∙ ap (λ z. written z s.args.values.now) e
 
-pub write-values-spec : {M : Type 1} → statement M
-write-values-spec =
+pub write_values_spec : {M : Type 1} → statement M
+write_values_spec =
     tie.close
     (tie.spec
     invariant-loop

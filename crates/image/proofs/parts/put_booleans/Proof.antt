@@ -10,46 +10,46 @@ use Rattle.image.proofs.Entries.{put, all_put}
 use Rattle.image.proofs.parts.put_booleans.Statement.{statement}
 use Rattle.image.proofs.parts.put_booleans.Tie as tie
 
-abbrev invariant-loop : tie.invariant-loop
+abbrev invariant-loop : tie.invariant-loop-i
 invariant-loop booleans model₀ i₀ model i =
     (i ≤ length booleans) × (length model ≡ length model₀) × (model ≡ written (take i (boolean_bytes booleans)) model₀)
 
-abbrev decreases-loop : tie.decreases-loop
+abbrev decreases-loop : tie.decreases-loop-i
 decreases-loop booleans model₀ i₀ model i = length booleans - i
 
-loop-holds : tie.Need-loop-init invariant-loop decreases-loop
+loop-holds : tie.Need-loop-i-init invariant-loop decreases-loop
 loop-holds c = (omega arith, refl, written_none _)
 
-shared-slice-read-bit : tie.Need-shared-slice-read-bit invariant-loop decreases-loop
+shared-slice-read-bit : tie.Need-bounds-booleans-i invariant-loop decreases-loop
 shared-slice-read-bit c = search rules
 
 bit-requires : tie.Need-bit-requires invariant-loop decreases-loop
 bit-requires c κs = search rules
 
-slice-write-model : tie.Need-slice-write-model invariant-loop decreases-loop
+slice-write-model : tie.Need-bounds-model-i invariant-loop decreases-loop
 slice-write-model c =
-    omega (arith, c.before.before.before.before.before.before.requires, c.before.before.before.loop.invariant.1)
+    omega (arith, c.requires, c.loop-i.invariant.1)
 
-add-i : tie.Need-overflow-add-i invariant-loop decreases-loop
+add-i : tie.Need-overflow_add-i invariant-loop decreases-loop
 add-i c = search rules
 
-loop-less : tie.Need-loop-smaller invariant-loop decreases-loop
+loop-less : tie.Need-loop-i-smaller invariant-loop decreases-loop
 loop-less c = search rules
 
-loop-again : tie.Need-loop-preserved invariant-loop decreases-loop
+loop-again : tie.Need-loop-i-preserved invariant-loop decreases-loop
 loop-again c =
     let start = c.before.before.before.before.before.before in
-    (omega arith, rw length-set c.before.before.before.loop.invariant.1, put (boolean_bytes start.args.booleans.now) _ _ _ c.before.before.before.loop.invariant.2 _ (c.bit.ensures ∙ sym (boolean-at start.args.booleans.now c.before.before.before.loop.i c.before.before.loop-test.true)) (omega (arith, booleans_length start.args.booleans.now)) (omega (arith, start.requires)))
+    (omega arith, rw length-set c.loop-i.invariant.1, put (boolean_bytes start.args.booleans.now) _ _ _ c.loop-i.invariant.2 _ (c.bit.ensures ∙ sym (boolean-at start.args.booleans.now c.loop-i.i c.loop-i-test.true)) (omega (arith, booleans_length start.args.booleans.now)) (omega (arith, start.requires)))
 
-same_length : tie.Need-same-length invariant-loop decreases-loop
+same_length : tie.Need-shape_of-model invariant-loop decreases-loop
 same_length c = search rules
 
 returns : tie.Need-returns invariant-loop decreases-loop
 returns c =
-    (omega arith, all_put (boolean_bytes c.before.before.before.before.args.booleans.now) _ _ c.before.loop.i c.before.loop.invariant.2 (omega (arith, booleans_length c.before.before.before.before.args.booleans.now)))
+    (omega arith, all_put (boolean_bytes c.args.booleans.now) _ _ c.loop-i.i c.loop-i.invariant.2 (omega (arith, booleans_length c.args.booleans.now)))
 
-pub put-booleans-spec : {M : Type 1} → statement M
-put-booleans-spec =
+pub put_booleans_spec : {M : Type 1} → statement M
+put_booleans_spec =
     tie.close
     (tie.spec
     invariant-loop

@@ -16,56 +16,56 @@ use Rattle.image.proofs.Entries.{put, all_put}
 use Rattle.image.proofs.parts.put_orders.Statement.{statement}
 use Rattle.image.proofs.parts.put_orders.Tie as tie
 
-abbrev invariant-loop : tie.invariant-loop
+abbrev invariant-loop : tie.invariant-loop-i
 invariant-loop value lower width model₀ first i₀ model i =
     (i ≤ width) × (length model ≡ length model₀) × (model ≡ written (take i (order_from (to_z w32 value) (to_z w32 lower) width)) model₀)
 
-abbrev decreases-loop : tie.decreases-loop
+abbrev decreases-loop : tie.decreases-loop-i
 decreases-loop value lower width model₀ first i₀ model i = width - i
 
-sub-first : tie.Need-overflow-sub-first invariant-loop decreases-loop
+sub-first : tie.Need-overflow_sub-first invariant-loop decreases-loop
 sub-first c =
-    below_fits (to_z w32 (of_z w32 c.before.args.lower)) (rw (to_z-of_z c.before.ranges.lower) c.before.requires.0)
+    below_fits (to_z w32 (of_z w32 c.args.lower)) (rw (to_z-of_z c.ranges.lower) c.requires.0)
 
-loop-holds : tie.Need-loop-init invariant-loop decreases-loop
+loop-holds : tie.Need-loop-i-init invariant-loop decreases-loop
 loop-holds c = (omega arith, refl, written_none _)
 
-cast-bit : tie.Need-overflow-cast-bit invariant-loop decreases-loop
-cast-bit c = abs_fits (omega (arith, c.before.before.before.requires.1))
+cast-bit : tie.Need-overflow_cast-i invariant-loop decreases-loop
+cast-bit c = abs_fits (omega (arith, c.requires.1))
 
-add-bit : tie.Need-overflow-add-bit invariant-loop decreases-loop
+add-bit : tie.Need-overflow_add-first invariant-loop decreases-loop
 add-bit c =
     let start = c.before.before.before in
-    sum_fits (to_z w32 (of_z w32 start.args.lower)) (rw (to_z-of_z start.ranges.lower) start.requires.0) c.before.loop.i (omega (arith, start.requires.1))
+    sum_fits (to_z w32 (of_z w32 start.args.lower)) (rw (to_z-of_z start.ranges.lower) start.requires.0) c.loop-i.i (omega (arith, start.requires.1))
 
 bit-requires : tie.Need-bit-requires invariant-loop decreases-loop
 bit-requires c κs = search rules
 
-slice-write-model : tie.Need-slice-write-model invariant-loop decreases-loop
+slice-write-model : tie.Need-bounds-model-i invariant-loop decreases-loop
 slice-write-model c =
-    omega (arith, c.before.before.before.before.requires.2, c.before.before.loop.invariant.1)
+    omega (arith, c.requires.2, c.loop-i.invariant.1)
 
-add-i : tie.Need-overflow-add-i invariant-loop decreases-loop
+add-i : tie.Need-overflow_add-i invariant-loop decreases-loop
 add-i c = search rules
 
-loop-less : tie.Need-loop-smaller invariant-loop decreases-loop
+loop-less : tie.Need-loop-i-smaller invariant-loop decreases-loop
 loop-less c = search rules
 
-loop-again : tie.Need-loop-preserved invariant-loop decreases-loop
+loop-again : tie.Need-loop-i-preserved invariant-loop decreases-loop
 loop-again c =
     let start = c.before.before.before.before in
-    (omega arith, rw length-set c.before.before.loop.invariant.1, put (order_from (to_z w32 (of_z w32 start.args.value)) (to_z w32 (of_z w32 start.args.lower)) start.args.width) _ _ _ c.before.before.loop.invariant.2 _ (c.bit.ensures ∙ ap (λ z. bit (le_z (to_z w32 (of_z w32 start.args.value)) z)) (number_is (to_z w32 (of_z w32 start.args.lower)) (rw (to_z-of_z start.ranges.lower) start.requires.0) c.before.before.loop.i (omega (arith, start.requires.1))) ∙ sym (order_at (to_z w32 (of_z w32 start.args.value)) (to_z w32 (of_z w32 start.args.lower)) start.args.width c.before.before.loop.i c.before.loop-test.true)) (omega (arith, orders-length (to_z w32 (of_z w32 start.args.value)) (to_z w32 (of_z w32 start.args.lower)) start.args.width)) (omega (arith, start.requires.2)))
+    (omega arith, rw length-set c.loop-i.invariant.1, put (order_from (to_z w32 (of_z w32 start.args.value)) (to_z w32 (of_z w32 start.args.lower)) start.args.width) _ _ _ c.loop-i.invariant.2 _ (c.bit.ensures ∙ ap (λ z. bit (le_z (to_z w32 (of_z w32 start.args.value)) z)) (number_is (to_z w32 (of_z w32 start.args.lower)) (rw (to_z-of_z start.ranges.lower) start.requires.0) c.loop-i.i (omega (arith, start.requires.1))) ∙ sym (order_at (to_z w32 (of_z w32 start.args.value)) (to_z w32 (of_z w32 start.args.lower)) start.args.width c.loop-i.i c.loop-i-test.true)) (omega (arith, orders-length (to_z w32 (of_z w32 start.args.value)) (to_z w32 (of_z w32 start.args.lower)) start.args.width)) (omega (arith, start.requires.2)))
 
-same_length : tie.Need-same-length invariant-loop decreases-loop
+same_length : tie.Need-shape_of-model invariant-loop decreases-loop
 same_length c = search rules
 
 returns : tie.Need-returns invariant-loop decreases-loop
 returns c =
     let start = c.before.before.before in
-    (omega arith, rw (to_z-of_z start.ranges.value, to_z-of_z start.ranges.lower) at (all_put (order_from (to_z w32 (of_z w32 start.args.value)) (to_z w32 (of_z w32 start.args.lower)) start.args.width) _ _ c.before.loop.i c.before.loop.invariant.2 (omega (arith, orders-length (to_z w32 (of_z w32 start.args.value)) (to_z w32 (of_z w32 start.args.lower)) start.args.width))))
+    (omega arith, rw (to_z-of_z start.ranges.value, to_z-of_z start.ranges.lower) at (all_put (order_from (to_z w32 (of_z w32 start.args.value)) (to_z w32 (of_z w32 start.args.lower)) start.args.width) _ _ c.loop-i.i c.loop-i.invariant.2 (omega (arith, orders-length (to_z w32 (of_z w32 start.args.value)) (to_z w32 (of_z w32 start.args.lower)) start.args.width))))
 
-pub put-orders-spec : {M : Type 1} → statement M
-put-orders-spec =
+pub put_orders_spec : {M : Type 1} → statement M
+put_orders_spec =
     tie.close
     (tie.spec
     invariant-loop

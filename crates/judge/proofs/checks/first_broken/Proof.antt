@@ -6,23 +6,23 @@ use Rattle.judge.proofs.Checked.{suiting, rules_are}
 use Rattle.judge.proofs.checks.first_broken.Statement.{statement}
 use Rattle.judge.proofs.checks.first_broken.Tie as tie
 
-sub-first-failing : tie.Need-overflow-sub-first-failing
-sub-first-failing c = rules_inside c.before.before.requires.0.opened
+sub-first-failing : tie.Need-slice_bounds-first_failing-count
+sub-first-failing c = rules_inside c.requires.0.opened
 
-part-first-failing-start : tie.Need-slice-bounds-first-failing-start
-part-first-failing-start c = omega (arith, rules_inside c.before.before.requires.0.opened)
+part-first-failing-start : tie.Need-slice_bounds-first_failing-start
+part-first-failing-start c = omega (arith, rules_inside c.requires.0.opened)
 
-part-first-failing-end : tie.Need-slice-bounds-first-failing-end
+part-first-failing-end : tie.Need-slice_bounds-first_failing-end
 part-first-failing-end c = search rules
 
-first-failing-requires : tie.Need-first-failing-requires
-first-failing-requires c κs = let p = c.before.before.before.requires in suiting _ _ _ _ p.0 p.1
+first-failing-requires : tie.Need-first_failing-requires
+first-failing-requires c κs = let p = c.requires in suiting _ _ _ _ p.0 p.1
 
 returns : tie.Need-returns
-returns c = rw (rules_are _ _ _ _ c.before.before.before.before.requires.0) at c.first-failing.ensures
+returns c = rw (rules_are _ _ _ _ c.requires.0) at c.first_failing.ensures
 
-pub first-broken-spec : {M : Type 1} → statement M
-first-broken-spec =
+pub first_broken_spec : {M : Type 1} → statement M
+first_broken_spec =
     tie.close
     (tie.spec
     sub-first-failing

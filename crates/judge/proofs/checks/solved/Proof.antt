@@ -8,53 +8,53 @@ use Rattle.judge.proofs.Checked.{solving_is, near}
 use Rattle.judge.proofs.checks.solved.Statement.{statement}
 use Rattle.judge.proofs.checks.solved.Tie as tie
 
-first-bad-byte-requires : tie.Need-first-bad-byte-requires
+first-bad-byte-requires : tie.Need-first_bad_byte-requires
 first-bad-byte-requires c κs = search rules
 
-enum-known-index : tie.Need-enum-known-index
+enum-known-index : tie.Need-enum_known-index
 enum-known-index c = search rules
 
-enum_told : tie.Need-enum-told
+enum_told : tie.Need-enum_told-1
 enum_told c = search rules
 
-first-outside-requires : tie.Need-first-outside-requires
+first-outside-requires : tie.Need-first_outside-requires
 first-outside-requires c κs =
-    (c.before.before.before.before.before.requires.opened.opens, c.before.before.before.before.before.requires.ints)
+    (c.requires.opened.opens, c.requires.ints)
 
-enum-known-index-2 : tie.Need-enum-known-index-2
+enum-known-index-2 : tie.Need-enum_known-index-in-At-first_outside
 enum-known-index-2 c = search rules
 
-enum-told-2 : tie.Need-enum-told-2
+enum-told-2 : tie.Need-enum_told-in-Nothing-first_outside
 enum-told-2 c = search rules
 
-first-broken-requires : tie.Need-first-broken-requires
+first-broken-requires : tie.Need-first_broken-requires
 first-broken-requires c κs =
-    (c.before.before.before.before.before.before.before.before.requires, near _ _ _ _ c.before.before.before.before.before.before.before.before.requires (told (said_found 14) c.before.before.first-outside.ensures c.enum-told2.given.1))
+    (c.requires, near _ _ _ _ c.requires (told (said_found 14) c.first_outside.ensures c.in-Nothing-first_outside.is))
 
-enum-known-number : tie.Need-enum-known-number
+enum-known-number : tie.Need-enum_known-number
 enum-known-number c = search rules
 
-enum-told-3 : tie.Need-enum-told-3
+enum-told-3 : tie.Need-enum_told-in-Nothing-first_broken
 enum-told-3 c = search rules
 
-returns : tie.Need-returns
+returns : tie.Need-returns-in-At
 returns c =
-    solving_is (board_of c.before.before.before.before.before.before.args.bytes.now) c.before.before.before.before.before.before.args.values.now c.before.before.before.before.before.before.args.booleans.now (told (said_found 12) c.before.before.before.first-bad-byte.ensures c.before.index.given.1) refl refl
+    solving_is (board_of c.args.bytes.now) c.args.values.now c.args.booleans.now (told (said_found 12) c.first_bad_byte.ensures c.in-At.is) refl refl
 
-returns-2 : tie.Need-returns-2
+returns-2 : tie.Need-returns-in-At-first_outside
 returns-2 c =
-    solving_is (board_of c.before.before.before.before.before.before.before.before.before.args.bytes.now) c.before.before.before.before.before.before.before.before.before.args.values.now c.before.before.before.before.before.before.before.before.before.args.booleans.now (told (said_found 12) c.before.before.before.before.before.before.first-bad-byte.ensures c.before.before.before.before.enum_told.given.1) (told (said_found 14) c.before.before.before.first-outside.ensures c.before.index2.given.1) refl
+    solving_is (board_of c.args.bytes.now) c.args.values.now c.args.booleans.now (told (said_found 12) c.first_bad_byte.ensures c.in-Nothing.is) (told (said_found 14) c.first_outside.ensures c.in-At-first_outside.is) refl
 
-returns-3 : tie.Need-returns-3
+returns-3 : tie.Need-returns-in-At-first_broken
 returns-3 c =
-    solving_is (board_of c.before.before.before.before.before.before.before.before.before.before.before.before.args.bytes.now) c.before.before.before.before.before.before.before.before.before.before.before.before.args.values.now c.before.before.before.before.before.before.before.before.before.before.before.before.args.booleans.now (told (said_found 12) c.before.before.before.before.before.before.before.before.before.first-bad-byte.ensures c.before.before.before.before.before.before.before.enum_told.given.1) (told (said_found 14) c.before.before.before.before.before.before.first-outside.ensures c.before.before.before.before.enum-told2.given.1) (told (said_found 13) c.before.before.before.first-broken.ensures c.before.number.given.1)
+    solving_is (board_of c.args.bytes.now) c.args.values.now c.args.booleans.now (told (said_found 12) c.first_bad_byte.ensures c.in-Nothing.is) (told (said_found 14) c.first_outside.ensures c.in-Nothing-first_outside.is) (told (said_found 13) c.first_broken.ensures c.in-At-first_broken.is)
 
-returns-4 : tie.Need-returns-4
+returns-4 : tie.Need-returns-in-Nothing-first_broken
 returns-4 c =
-    solving_is (board_of c.before.before.before.before.before.before.before.before.before.before.before.args.bytes.now) c.before.before.before.before.before.before.before.before.before.before.before.args.values.now c.before.before.before.before.before.before.before.before.before.before.before.args.booleans.now (told (said_found 12) c.before.before.before.before.before.before.before.before.first-bad-byte.ensures c.before.before.before.before.before.before.enum_told.given.1) (told (said_found 14) c.before.before.before.before.before.first-outside.ensures c.before.before.before.enum-told2.given.1) (told (said_found 13) c.before.before.first-broken.ensures c.enum-told3.given.1)
+    solving_is (board_of c.args.bytes.now) c.args.values.now c.args.booleans.now (told (said_found 12) c.first_bad_byte.ensures c.in-Nothing.is) (told (said_found 14) c.first_outside.ensures c.in-Nothing-first_outside.is) (told (said_found 13) c.first_broken.ensures c.in-Nothing-first_broken.is)
 
-pub solved-spec : {M : Type 1} → statement M
-solved-spec =
+pub solved_spec : {M : Type 1} → statement M
+solved_spec =
     tie.close
     (tie.spec
     first-bad-byte-requires

@@ -11,44 +11,44 @@ use Rattle.judge.proofs.clauses.piece_holds.Statement.{statement}
 use Rattle.judge.proofs.clauses.piece_holds.Tie as tie
 
 -- a comparison alone
-module _ (p : tie.After-piece2) where
+module _ (p : tie.In-Lone) where
   abbrev s : tie.Start
-  s = p.before.before.before.before
+  s = p.before.before.before
 
-  stands : Stands (length s.args.values.now) s.args.rules.now p.piece2.given.0.0 p.piece2.given.0.1.0
-  stands = rw s.pre.suited.ints (subst (Held s.pre.ctx s.args.rules.now) p.piece2.given.1 s.pre.such)
+  stands : Stands (length s.args.values.now) s.args.rules.now p.in-Lone.place p.in-Lone.constant
+  stands = rw s.requires.suited.ints (subst (Held s.requires.ctx s.args.rules.now) p.in-Lone.is s.requires.such)
 
-enum-known-piece : tie.Need-enum-known-piece
+enum-known-piece : tie.Need-enum_known-piece
 enum-known-piece c = search rules
 
-any-holds-requires : tie.Need-any-holds-requires
+any-holds-requires : tie.Need-any_holds-requires
 any-holds-requires c κs =
-    let s = c.before.before.before.before.before in
-    record { ctx = s.requires.ctx; suited = s.requires.suited; such = subst (Held s.requires.ctx s.args.rules.now) c.before.piece.given.1 s.requires.such }
+    let s = c.before.before.before in
+    record { ctx = s.requires.ctx; suited = s.requires.suited; such = subst (Held s.requires.ctx s.args.rules.now) c.in-Line.is s.requires.such }
 
-enum-known-piece-2 : tie.Need-enum-known-piece-2
+enum-known-piece-2 : tie.Need-enum_known-piece-in-Lone-1
 enum-known-piece-2 c = search rules
 
 compares-requires : tie.Need-compares-requires
-compares-requires c κs = let p = c.before in ((s p).requires.suited.near, rw (to_z-of_z (good-constant (stands p).well-formed)) (stands p))
+compares-requires c κs = let p = c in ((s p).requires.suited.near, rw (to_z-of_z (good-constant (stands p).good)) (stands p))
 
-enum_told : tie.Need-enum-told
+enum_told : tie.Need-enum_told-1
 enum_told c = search rules
 
-returns : tie.Need-returns
-returns c = rw c.before.before.piece.given.1 c.any-holds.ensures
+returns : tie.Need-returns-in-Line
+returns c = rw c.in-Line.is c.any_holds.ensures
 
-returns-2 : tie.Need-returns-2
+returns-2 : tie.Need-returns-in-Lone
 unfolding assigned compares
 returns-2 c =
-    let p = c.before.before in
-    rw p.piece2.given.1 (rw (to_z-of_z (good-constant (stands p).well-formed)) at c.compares.ensures)
+    let p = c.before in
+    rw p.in-Lone.is (rw (to_z-of_z (good-constant (stands p).good)) at c.compares.ensures)
 
-returns-3 : tie.Need-returns-3
-returns-3 c = rw c.enum_told.given.1
+returns-3 : tie.Need-returns-in-Led
+returns-3 c = rw c.in-Led.is
 
-pub piece-holds-spec : {M : Type 1} → statement M
-piece-holds-spec =
+pub piece_holds_spec : {M : Type 1} → statement M
+piece_holds_spec =
     tie.close
     (tie.spec
     enum-known-piece

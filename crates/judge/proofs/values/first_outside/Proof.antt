@@ -1,5 +1,6 @@
 -- `judge::values::first_outside` meets its contract: the search from variable x on answers what the search from 0 on does.
-use mathlib.Core.Path.{◌≡◌, refl, sym, ◌∙◌}
+use mathlib.Core.Path.{◌≡◌, refl, sym, ap, ◌∙◌}
+use mathlib.Core.Bool.{not}
 use mathlib.Core.List.{[], map}
 use Prim.Native.Nat.{◌-◌}
 use native.Mathlib.Omega.{arith}
@@ -17,49 +18,49 @@ use Rattle.judge.proofs.Bounded.{variables-count, outside, inside}
 use Rattle.judge.proofs.values.first_outside.Statement.{statement}
 use Rattle.judge.proofs.values.first_outside.Tie as tie
 
-abbrev invariant-loop : tie.invariant-loop
+abbrev invariant-loop : tie.invariant-loop-x
 invariant-loop bytes values x₀ x =
     seek 14 (in_bounds (board_of bytes) (assigned values [])) x (drop x (variables (board_of bytes))) ≡ each 14 0 (map (in_bounds (board_of bytes) (assigned values [])) (variables (board_of bytes)))
 
-abbrev decreases-loop : tie.decreases-loop
+abbrev decreases-loop : tie.decreases-loop-x
 decreases-loop bytes values x₀ x = length values - x
 
-loop-holds : tie.Need-loop-init invariant-loop decreases-loop
+loop-holds : tie.Need-loop-x-init invariant-loop decreases-loop
 loop-holds c = refl
 
-bounds-of-requires : tie.Need-bounds-of-requires invariant-loop decreases-loop
+bounds-of-requires : tie.Need-bounds_of-bounds-requires invariant-loop decreases-loop
 bounds-of-requires c κs =
-    (c.before.before.before.requires.0, omega (arith, c.before.before.before.requires.1))
+    (c.requires.0, omega (arith, c.requires.1))
 
-mul-is-within : tie.Need-overflow-mul-is-within invariant-loop decreases-loop
+mul-is-within : tie.Need-offset_bounds-values-x invariant-loop decreases-loop
 mul-is-within c = search rules
 
-shared-slice-copy-out-is-within : tie.Need-shared-slice-copy-out-is-within invariant-loop decreases-loop
+shared-slice-copy-out-is-within : tie.Need-bounds-values-x invariant-loop decreases-loop
 shared-slice-copy-out-is-within c = search rules
 
-is-within-requires : tie.Need-is-within-requires invariant-loop decreases-loop
+is-within-requires : tie.Need-is_within-requires invariant-loop decreases-loop
 is-within-requires c κs = search rules
 
-returns : tie.Need-returns invariant-loop decreases-loop
+returns : tie.Need-returns-then-not-is_within invariant-loop decreases-loop
 returns c =
-    sym (outside _ _ _ _ (omega (arith, c.before.before.before.before.before.before.before.before.before.requires.1)) c.before.before.before.before.before.bounds_of.ensures _ (rw (to_z-of_z (lower_fits c.before.before.before.before.before.bounds_of.result c.before.before.before.before.before.bounds_of.ensures.good), to_z-of_z (upper_fits c.before.before.before.before.before.bounds_of.result c.before.before.before.before.before.bounds_of.ensures.good), to_z-of_z (bound_fits _ c.before.before.before.before.is-within-arg.given)) at c.before.is_within.ensures) c.if1.true) ∙ c.before.before.before.before.before.before.before.loop.invariant
+    sym (outside _ _ _ _ (omega (arith, c.requires.1)) c.bounds_of-bounds.ensures _ (rw (to_z-of_z (lower_fits c.bounds_of-bounds.result c.bounds_of-bounds.ensures.good), to_z-of_z (upper_fits c.bounds_of-bounds.result c.bounds_of-bounds.ensures.good), to_z-of_z (bound_fits _ c.is_within-arg-1.given)) at c.is_within.ensures) (ap not c.if-not-is_within.true)) ∙ c.loop-x.invariant
 
-add-x : tie.Need-overflow-add-x invariant-loop decreases-loop
+add-x : tie.Need-overflow_add-x invariant-loop decreases-loop
 add-x c = search rules
 
-loop-less : tie.Need-loop-smaller invariant-loop decreases-loop
+loop-less : tie.Need-loop-x-smaller invariant-loop decreases-loop
 loop-less c = search rules
 
-loop-again : tie.Need-loop-preserved invariant-loop decreases-loop
+loop-again : tie.Need-loop-x-preserved invariant-loop decreases-loop
 loop-again c =
-    sym (inside _ _ _ _ (omega (arith, c.before.before.before.before.before.before.before.before.before.requires.1)) c.before.before.before.before.before.bounds_of.ensures _ (rw (to_z-of_z (lower_fits c.before.before.before.before.before.bounds_of.result c.before.before.before.before.before.bounds_of.ensures.good), to_z-of_z (upper_fits c.before.before.before.before.before.bounds_of.result c.before.before.before.before.before.bounds_of.ensures.good), to_z-of_z (bound_fits _ c.before.before.before.before.is-within-arg.given)) at c.before.is_within.ensures) c.if1.false) ∙ c.before.before.before.before.before.before.before.loop.invariant
+    sym (inside _ _ _ _ (omega (arith, c.requires.1)) c.bounds_of-bounds.ensures _ (rw (to_z-of_z (lower_fits c.bounds_of-bounds.result c.bounds_of-bounds.ensures.good), to_z-of_z (upper_fits c.bounds_of-bounds.result c.bounds_of-bounds.ensures.good), to_z-of_z (bound_fits _ c.is_within-arg-1.given)) at c.is_within.ensures) (ap not c.if-not-is_within.false)) ∙ c.loop-x.invariant
 
-returns-2 : tie.Need-returns-2 invariant-loop decreases-loop
+returns-2 : tie.Need-returns invariant-loop decreases-loop
 returns-2 c =
-    sym (seek-end 14 (in_bounds (board_of c.before.before.before.args.bytes.now) (assigned c.before.before.before.args.values.now [])) (variables (board_of c.before.before.before.args.bytes.now)) c.before.loop.x (omega (arith, variables-count (board_of c.before.before.before.args.bytes.now), c.before.before.before.requires.1))) ∙ c.before.loop.invariant
+    sym (seek-end 14 (in_bounds (board_of c.args.bytes.now) (assigned c.args.values.now [])) (variables (board_of c.args.bytes.now)) c.loop-x.x (omega (arith, variables-count (board_of c.args.bytes.now), c.requires.1))) ∙ c.loop-x.invariant
 
-pub first-outside-spec : {M : Type 1} → statement M
-first-outside-spec =
+pub first_outside_spec : {M : Type 1} → statement M
+first_outside_spec =
     tie.close
     (tie.spec
     invariant-loop

@@ -4,13 +4,13 @@ use Rattle.reader.proofs.Tests.{tested}
 use Rattle.judge.proofs.values.is_within.Statement.{statement}
 use Rattle.judge.proofs.values.is_within.Tie as tie
 
-returns : tie.Need-returns
+returns : tie.Need-returns-then-value-lower
 returns c =
-    rw (tested c.before.ranges.value c.before.ranges.lower c.if1.true)
+    rw (tested c.ranges.value c.ranges.lower c.if-value-lower.true)
 
-returns-2 : tie.Need-returns-2
+returns-2 : tie.Need-returns
 returns-2 c =
-    rw (tested c.before.ranges.value c.before.ranges.lower c.if1.false, to_z-of_z c.before.ranges.value, to_z-of_z c.before.ranges.upper)
+    rw (tested c.ranges.value c.ranges.lower c.if-value-lower.false, to_z-of_z c.ranges.value, to_z-of_z c.ranges.upper)
 
-pub is-within-spec : {M : Type 1} → statement M
-is-within-spec = tie.close (tie.spec returns returns-2)
+pub is_within_spec : {M : Type 1} → statement M
+is_within_spec = tie.close (tie.spec returns returns-2)

@@ -20,15 +20,15 @@ abbrev decreases-loop : tie.decreases-loop-piece
 decreases-loop bytes clauses rules total₀ cursor₀ total cursor = todo cursor
 
 -- a piece was met
-module _ (p : tie.In-Met-2 invariant-loop decreases-loop) where
+module _ (p : tie.In-Met invariant-loop decreases-loop) where
   abbrev s : tie.Start invariant-loop decreases-loop
-  s = p.before.before.before.before.before.before.before
+  s = p.before.before.before.before.before.before
 
   met : Meets (context_of (board_of s.args.bytes.now)) s.args.rules.now p.loop-piece.cursor p.in-Met.piece p.in-Met.next
-  met = meets _ _ _ (p.next_piece.ensures _ p.loop-piece.inv.0) p.in-Met.is
+  met = meets _ _ _ (p.next_piece.ensures _ p.loop-piece.invariant.0) p.in-Met.is
 
   adding : Adding (bounds_of (board_of s.args.bytes.now)) (pieces_from 0 (board_of s.args.bytes.now).clauses) (said_piece s.args.rules.now p.in-Met.piece ∷ coming_at s.args.rules.now p.in-Met.next) p.loop-piece.total
-  adding = still_adding _ _ met.comes p.loop-piece.inv.1
+  adding = still_adding _ _ met.comes p.loop-piece.invariant.1
 
 start-requires : tie.Need-start-cursor-requires invariant-loop decreases-loop
 start-requires c κs = search rules
@@ -52,21 +52,21 @@ returns c =
 
 share-of-requires : tie.Need-share_of-requires invariant-loop decreases-loop
 share-of-requires c κs =
-    let p = c.before in
+    let p = c in
     let o = (s p).requires.0.opens in
     (o, (met p).held, next_fits _ (opens_recorded _ o) _ _ _ (adding p))
 
 and-requires : tie.Need-and-total-requires invariant-loop decreases-loop
 and-requires c κs =
-    let p = c.before.before in
+    let p = c.before in
     plus_fits _ (opens_recorded _ (s p).requires.0.opens) _ _ _ (adding p) _ c.share_of.ensures
 
 loop-less : tie.Need-loop-piece-smaller invariant-loop decreases-loop
-loop-less c = (met c.before.before.before).onward.less
+loop-less c = (met c.before.before).onward.less
 
 loop-again : tie.Need-loop-piece-preserved invariant-loop decreases-loop
 loop-again c =
-    let p = c.before.before.before in
+    let p = c.before.before in
     ((met p).onward.sound, rw c.and-total.ensures (adding-more _ _ _ _ _ _ (adding p) c.share_of.ensures))
 
 pub rules_share_spec : {M : Type 1} → statement M

@@ -39,15 +39,13 @@ clauses-after-requires c κs =
 loop-less : tie.Need-loop-size-smaller invariant-loop decreases-loop
 loop-less c =
     let next-number = c.next_number in
-    let size = c.size in
-    let h = rw size.given.1 at next-number.ensures.1 in omega (arith, h.0, h.1)
+    let h = rw c.in-Number.is at next-number.ensures.1 in omega (arith, h.0, h.1)
 
 loop-again : tie.Need-loop-size-preserved invariant-loop decreases-loop
 loop-again c =
     let loop = c.loop-size in
     let next-number = c.next_number in
-    let size = c.size in
-    let h = rw size.given.1 at next-number.ensures.1 in counts_more _ _ _ _ loop.invariant _ _ _ _ _ (told (said_next _) next-number.ensures.0 size.given.1) h.0 h.1 c.clauses_after-clauses.ensures
+    let h = rw c.in-Number.is at next-number.ensures.1 in counts_more _ _ _ _ loop.invariant _ _ _ _ _ (told (said_next _) next-number.ensures.0 c.in-Number.is) h.0 h.1 c.clauses_after-clauses.ensures
 
 enum-known-end : tie.Need-enum_known-end invariant-loop decreases-loop
 enum-known-end c = search rules
@@ -56,15 +54,13 @@ returns : tie.Need-returns-then-clauses-m invariant-loop decreases-loop
 returns c =
     let loop = c.loop-size in
     let next-number = c.next_number in
-    let end = c.end in
-    counts_all _ _ _ _ loop.invariant _ (told (said_next _) next-number.ensures.0 end.given.1) c.if-clauses-m.true
+    counts_all _ _ _ _ loop.invariant _ (told (said_next _) next-number.ensures.0 c.in-End.is) c.if-clauses-m.true
 
 returns-2 : tie.Need-returns-in-End invariant-loop decreases-loop
 returns-2 c =
     let loop = c.loop-size in
     let next-number = c.next_number in
-    let end = c.end in
-    counts_short _ _ _ _ loop.invariant _ (told (said_next _) next-number.ensures.0 end.given.1) c.if-clauses-m.false
+    counts_short _ _ _ _ loop.invariant _ (told (said_next _) next-number.ensures.0 c.in-End.is) c.if-clauses-m.false
 
 enum-known-d : tie.Need-enum_known-d invariant-loop decreases-loop
 enum-known-d c = search rules

@@ -4,7 +4,6 @@ use mathlib.Core.Path.{◌≡◌, refl, sym, ◌∙◌}
 use Prim.Native.Nat.{◌-◌, ◌≤◌}
 use native.Mathlib.Omega.{arith}
 use lib.ListN.{length, drop}
-use borrow.Author.Tests.{not-true, not-false}
 use Rattle.replies.specs.Parts.{found_from}
 use Rattle.replies.specs.Said.{said_numeral}
 use Rattle.replies.specs.Bytes.{via, told, found_blank, found_no_room, found_number, found_bad, found_end}
@@ -32,7 +31,7 @@ returns c =
     let loop = c.loop-at in
     let loop-test = c.loop-at-test in
     let is-blank = c.is_blank in
-    (sym (found_no_room _ _ loop-test.true _ _ (via is-blank.ensures (not-true _ c.if-not-is_blank.true)) (not-true _ c.if-not-room.true)) ∙ loop.invariant.0, tt)
+    (sym (found_no_room _ _ loop-test.true _ _ (via is-blank.ensures c.if-not-is_blank.true) c.if-not-room.true) ∙ loop.invariant.0, tt)
 
 number-at-requires : tie.Need-number_at-read-requires invariant-loop decreases-loop
 number-at-requires c κs = search rules
@@ -54,7 +53,7 @@ returns-2 c =
     let if1 = c.if-not-is_blank in
     let if2 = c.if-not-room in
     let number_at = c.number_at-read in
-    (sym (found_bad _ _ loop-test.true _ _ (via is-blank.ensures (not-true _ if1.true)) (not-false _ if2.false) (told (said_numeral _ _) number_at.ensures.0 c.of_numeral.ensures)) ∙ loop.invariant.0, tt)
+    (sym (found_bad _ _ loop-test.true _ _ (via is-blank.ensures if1.true) if2.false (told (said_numeral _ _) number_at.ensures.0 c.of_numeral.ensures)) ∙ loop.invariant.0, tt)
 
 returns-3 : tie.Need-returns-then-not-is_blank invariant-loop decreases-loop
 returns-3 c =
@@ -65,7 +64,7 @@ returns-3 c =
     let if2 = c.if-not-room in
     let number_at = c.number_at-read in
     let h = rw c.in-Number.is at number_at.ensures.1 in
-    (sym (found_number _ _ loop-test.true _ _ (via is-blank.ensures (not-true _ if1.true)) (not-false _ if2.false) (told (said_numeral _ _) number_at.ensures.0 c.in-Number.is)) ∙ loop.invariant.0, (omega (arith, h.0, loop.invariant.1), h.1))
+    (sym (found_number _ _ loop-test.true _ _ (via is-blank.ensures if1.true) if2.false (told (said_numeral _ _) number_at.ensures.0 c.in-Number.is)) ∙ loop.invariant.0, (omega (arith, h.0, loop.invariant.1), h.1))
 
 add_at : tie.Need-overflow_add-at invariant-loop decreases-loop
 add_at c = search rules
@@ -77,7 +76,7 @@ loop-again : tie.Need-loop-at-preserved invariant-loop decreases-loop
 loop-again c =
     let loop = c.loop-at in
     let loop-test = c.loop-at-test in
-    (sym (found_blank _ _ loop-test.true _ _ (via c.is_blank.ensures (not-false _ c.if-not-is_blank.false))) ∙ loop.invariant.0, omega arith, omega arith)
+    (sym (found_blank _ _ loop-test.true _ _ (via c.is_blank.ensures c.if-not-is_blank.false)) ∙ loop.invariant.0, omega arith, omega arith)
 
 returns-4 : tie.Need-returns invariant-loop decreases-loop
 returns-4 c =

@@ -7,9 +7,6 @@ use borrow.Author.Rules.{rules}
 use Rattle.replies.proofs.line.first_line.Statement.{statement}
 use Rattle.replies.proofs.line.first_line.Tie as tie
 
-slice-aggregate-word-count : tie.Need-slice-aggregate-word-count
-slice-aggregate-word-count c = search rules
-
 word-count-requires : tie.Need-word_count-read-requires
 word-count-requires c κs = search rules
 
@@ -37,14 +34,12 @@ returns-2 : tie.Need-returns
 returns-2 c =
     let args = c.args in
     let word_count = c.word_count-read in
-    let read = c.read in
-    (c.line_rest.ensures.0 ∙ sym (line_is args.text.now (told (said_count args.text.now) word_count.ensures.0 read.given.1)), c.line_rest.ensures.1)
+    (c.line_rest.ensures.0 ∙ sym (line_is args.text.now (told (said_count args.text.now) word_count.ensures.0 c.in-Value.is)), c.line_rest.ensures.1)
 
 pub first_line_spec : {M : Type 1} → statement M
 first_line_spec =
     tie.close
     (tie.spec
-    slice-aggregate-word-count
     word-count-requires
     enum-known-read
     enum_told

@@ -8,9 +8,6 @@ use borrow.Author.Rules.{rules}
 use Rattle.replies.proofs.line.line_end.Statement.{statement}
 use Rattle.replies.proofs.line.line_end.Tie as tie
 
-slice-aggregate-word-at : tie.Need-slice-aggregate-word-at
-slice-aggregate-word-at c = search rules
-
 word-at-requires : tie.Need-word_at-read-requires
 word-at-requires c κs = search rules
 
@@ -39,7 +36,6 @@ pub line_end_spec : {M : Type 1} → statement M
 line_end_spec =
     tie.close
     (tie.spec
-    slice-aggregate-word-at
     word-at-requires
     enum-known-read
     enum_told

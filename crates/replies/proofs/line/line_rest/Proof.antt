@@ -8,9 +8,6 @@ use borrow.Author.Rules.{rules}
 use Rattle.replies.proofs.line.line_rest.Statement.{statement}
 use Rattle.replies.proofs.line.line_rest.Tie as tie
 
-slice-aggregate-word-count : tie.Need-slice-aggregate-word-count
-slice-aggregate-word-count c = search rules
-
 word-count-requires : tie.Need-word_count-read-requires
 word-count-requires c κs = search rules
 
@@ -38,14 +35,12 @@ returns-2 : tie.Need-returns
 returns-2 c =
     let args = c.args in
     let word_count = c.word_count-read in
-    let read = c.read in
-    (c.line_end.ensures.0 ∙ sym (rest_is args.n args.from (drop args.from args.text.now) (told (said_count args.text.now) word_count.ensures.0 read.given.1)), c.line_end.ensures.1)
+    (c.line_end.ensures.0 ∙ sym (rest_is args.n args.from (drop args.from args.text.now) (told (said_count args.text.now) word_count.ensures.0 c.in-Value.is)), c.line_end.ensures.1)
 
 pub line_rest_spec : {M : Type 1} → statement M
 line_rest_spec =
     tie.close
     (tie.spec
-    slice-aggregate-word-count
     word-count-requires
     enum-known-read
     enum_told

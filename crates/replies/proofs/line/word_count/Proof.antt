@@ -35,8 +35,7 @@ returns-2 : tie.Need-returns
 returns-2 c =
     let args = c.args in
     let word_at = c.word_at-read in
-    let read = c.read in
-    (c.count_at.ensures.0 ∙ sym (word_count_is args.word.now args.from (drop args.from args.text.now) (told (said_word args.text.now) word_at.ensures.0 read.given.1)), count_anywhere read.given.0.0 args.text.now c.count_at.result c.count_at.ensures.1)
+    (c.count_at.ensures.0 ∙ sym (word_count_is args.word.now args.from (drop args.from args.text.now) (told (said_word args.text.now) word_at.ensures.0 c.in-Past.is)), count_anywhere c.in-Past.next args.text.now c.count_at.result c.count_at.ensures.1)
 
 pub word_count_spec : {M : Type 1} → statement M
 word_count_spec =

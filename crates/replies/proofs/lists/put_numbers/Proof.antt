@@ -41,46 +41,40 @@ mul-t16 c =
     let pre = c.requires in
     let loop = c.loop-minus in
     let next-number = c.next_number in
-    let minus = c.minus in
-    let h : loop.numbers < length args.list.now = writes_room _ _ _ _ _ pre.2 loop.invariant _ _ _ _ (told (said_next _) next-number.ensures.0 minus.given.1) in search rules
+    let h : loop.numbers < length args.list.now = writes_room _ _ _ _ _ pre.2 loop.invariant _ _ _ _ (told (said_next _) next-number.ensures.0 c.in-Number.is) in search rules
 
 slice-set-from-list : tie.Need-bounds-list-numbers invariant-loop decreases-loop
 slice-set-from-list c =
     let pre = c.requires in
     let loop = c.loop-minus in
     let next-number = c.next_number in
-    let minus = c.minus in
-    omega (arith, writes_room _ _ _ _ _ pre.2 loop.invariant _ _ _ _ (told (said_next _) next-number.ensures.0 minus.given.1), now_length _ _ _ _ _ pre.2 loop.invariant)
+    omega (arith, writes_room _ _ _ _ _ pre.2 loop.invariant _ _ _ _ (told (said_next _) next-number.ensures.0 c.in-Number.is), now_length _ _ _ _ _ pre.2 loop.invariant)
 
 add-numbers : tie.Need-overflow_add-numbers invariant-loop decreases-loop
 add-numbers c =
     let loop = c.loop-minus in
     let next-number = c.next_number in
-    let minus = c.minus in
-    let h = rw minus.given.1 at next-number.ensures.1 in omega (arith, h.0, h.1, loop.invariant.counts.short)
+    let h = rw c.in-Number.is at next-number.ensures.1 in omega (arith, h.0, h.1, loop.invariant.counts.short)
 
 clauses-after-requires : tie.Need-clauses_after-clauses-requires invariant-loop decreases-loop
 clauses-after-requires c κs =
     let loop = c.loop-minus in
     let next-number = c.next_number in
-    let minus = c.minus in
-    let h = rw minus.given.1 at next-number.ensures.1 in omega (arith, h.0, h.1, loop.invariant.counts.short, loop.invariant.counts.few)
+    let h = rw c.in-Number.is at next-number.ensures.1 in omega (arith, h.0, h.1, loop.invariant.counts.short, loop.invariant.counts.few)
 
 loop-less : tie.Need-loop-minus-smaller invariant-loop decreases-loop
 loop-less c =
     let next-number = c.next_number in
-    let minus = c.minus in
-    let h = rw minus.given.1 at next-number.ensures.1 in omega (arith, h.0, h.1)
+    let h = rw c.in-Number.is at next-number.ensures.1 in omega (arith, h.0, h.1)
 
 loop-again : tie.Need-loop-minus-preserved invariant-loop decreases-loop
 loop-again c =
     let pre = c.requires in
     let loop = c.loop-minus in
     let next-number = c.next_number in
-    let minus = c.minus in
-    let h = rw minus.given.1 at next-number.ensures.1 in
-    let f : SFits w32 c.before.Signed-of.result = record { sfits = c.before.Signed-of.type_inv } in
-    (writes_more _ _ _ _ _ pre.2 loop.invariant _ _ _ _ (told (said_next _) next-number.ensures.0 minus.given.1) _ _ (to_z-of_z f ∙ c.before.Signed-of.ensures) h.0 h.1 c.clauses_after-clauses.ensures)
+    let h = rw c.in-Number.is at next-number.ensures.1 in
+    let f : SFits w32 c.signed_of.result = record { sfits = c.signed_of.type_inv } in
+    (writes_more _ _ _ _ _ pre.2 loop.invariant _ _ _ _ (told (said_next _) next-number.ensures.0 c.in-Number.is) _ _ (to_z-of_z f ∙ c.signed_of.ensures) h.0 h.1 c.clauses_after-clauses.ensures)
 
 enum_told : tie.Need-enum_told-1 invariant-loop decreases-loop
 enum_told c = search rules

@@ -45,28 +45,23 @@ returns-2 : tie.Need-returns-in_default-counted
 returns-2 c =
     let args = c.args in
     let first-line = c.first_line-head in
-    let head = c.head in
     let count-numbers = c.count_numbers-counted in
-    apart (taken-bad args.text.now args.list.now (numbers-bad args.text.now (told (said_head args.text.now) first-line.ensures.0 head.given.1) (told (said_counted _ _) count-numbers.ensures c.of_counted.ensures)))
+    apart (taken-bad args.text.now args.list.now (numbers-bad args.text.now (told (said_head args.text.now) first-line.ensures.0 c.in-Sizes.is) (told (said_counted _ _) count-numbers.ensures c.of_counted.ensures)))
 
 returns-3 : tie.Need-returns-then-list-k
 returns-3 c =
     let args = c.args in
     let first-line = c.first_line-head in
-    let head = c.head in
     let count-numbers = c.count_numbers-counted in
-    let counted = c.counted in
-    apart (taken_short args.text.now args.list.now (told (said_head args.text.now) first-line.ensures.0 head.given.1) (told (said_counted _ _) count-numbers.ensures counted.given.1) c.if-list-k.true)
+    apart (taken_short args.text.now args.list.now (told (said_head args.text.now) first-line.ensures.0 c.in-Sizes.is) (told (said_counted _ _) count-numbers.ensures c.in-Numbers.is) c.if-list-k.true)
 
 put-numbers-requires : tie.Need-put_numbers-requires
 put-numbers-requires c κs =
     let args = c.args in
     let first-line = c.first_line-head in
-    let head = c.head in
     let count-numbers = c.count_numbers-counted in
-    let counted = c.counted in
-    let line = told (said_head args.text.now) first-line.ensures.0 head.given.1 in
-    (omega (arith, line_small args.text.now line), rw head.given.1 at first-line.ensures.1, taken_fits args.text.now args.list.now line (told (said_counted _ _) count-numbers.ensures counted.given.1) (omega (arith, c.if-list-k.false)))
+    let line = told (said_head args.text.now) first-line.ensures.0 c.in-Sizes.is in
+    (omega (arith, line_small args.text.now line), rw c.in-Sizes.is at first-line.ensures.1, taken_fits args.text.now args.list.now line (told (said_counted _ _) count-numbers.ensures c.in-Numbers.is) (omega (arith, c.if-list-k.false)))
 
 cast-t13 : tie.Need-overflow_cast-result
 cast-t13 c = search rules
@@ -81,11 +76,9 @@ returns-4 : tie.Need-returns
 returns-4 c =
     let args = c.args in
     let first-line = c.first_line-head in
-    let head = c.head in
     let count-numbers = c.count_numbers-counted in
-    let counted = c.counted in
     let if1 = c.if-list-k in
-    apart (taken-all args.text.now args.list.now (told (said_head args.text.now) first-line.ensures.0 head.given.1) (told (said_counted _ _) count-numbers.ensures counted.given.1) _ (omega (arith, if1.false)) c.put_numbers.ensures)
+    apart (taken-all args.text.now args.list.now (told (said_head args.text.now) first-line.ensures.0 c.in-Sizes.is) (told (said_counted _ _) count-numbers.ensures c.in-Numbers.is) _ (omega (arith, if1.false)) c.put_numbers.ensures)
 
 pub read_text_spec : {M : Type 1} → statement M
 read_text_spec =

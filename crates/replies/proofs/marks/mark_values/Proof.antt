@@ -39,19 +39,17 @@ mark-requires c κs = search rules
 loop-less : tie.Need-loop-size-smaller invariant-loop decreases-loop
 loop-less c =
     let value-at = c.value_at in
-    let size = c.size in
-    let h = rw size.given.1 at value-at.ensures.1 in omega (arith, h.0, h.1)
+    let h = rw c.in-Literal.is at value-at.ensures.1 in omega (arith, h.0, h.1)
 
 loop-again : tie.Need-loop-size-preserved invariant-loop decreases-loop
 loop-again c =
     let args = c.args in
     let loop = c.loop-size in
     let value-at = c.value_at in
-    let size = c.size in
     let mark = c.mark in
-    let h = rw size.given.1 at value-at.ensures.1 in
-    let minus = size.given.0.0 in
-    passing-more _ _ _ _ loop.invariant (told (said_value _) value-at.ensures.0 size.given.1) h.1 (λ ns e. mark.ensures ∙ ap (changed raised args.first _) e ∙ marks_more args.first (length args.marks.now) ns minus size.given.0.1.0)
+    let h = rw c.in-Literal.is at value-at.ensures.1 in
+    let minus = c.in-Literal.minus in
+    passing-more _ _ _ _ loop.invariant (told (said_value _) value-at.ensures.0 c.in-Literal.is) h.1 (λ ns e. mark.ensures ∙ ap (changed raised args.first _) e ∙ marks_more args.first (length args.marks.now) ns minus c.in-Literal.size)
 
 enum_told : tie.Need-enum_told-1 invariant-loop decreases-loop
 enum_told c = search rules

@@ -40,8 +40,7 @@ put-literal-requires c κs = search rules
 loop-less : tie.Need-loop-minus-smaller invariant-loop decreases-loop
 loop-less c =
     let value-at = c.value_at in
-    let minus = c.minus in
-    let h = rw minus.given.1 at value-at.ensures.1 in omega (arith, h.0, h.1)
+    let h = rw c.in-Literal.is at value-at.ensures.1 in omega (arith, h.0, h.1)
 
 loop-again : tie.Need-loop-minus-preserved invariant-loop decreases-loop
 loop-again c =

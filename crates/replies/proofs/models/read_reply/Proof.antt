@@ -21,9 +21,8 @@ take-model-requires : tie.Need-take_model-requires
 take-model-requires c κs =
     let args = c.args in
     let check-reply = c.check_reply in
-    let from = c.from in
-    let h = rw from.given.1 at check-reply.ensures.1 in
-    reply_told args.n args.text.now args.model.now (told said_heard check-reply.ensures.0 from.given.1) h.0 h.1
+    let h = rw c.in-Literals.is at check-reply.ensures.1 in
+    reply_told args.n args.text.now args.model.now (told said_heard check-reply.ensures.0 c.in-Literals.is) h.0 h.1
 
 enum-known-d : tie.Need-enum_known-d
 enum-known-d c = search rules
@@ -41,10 +40,9 @@ returns-2 : tie.Need-returns-in-Literals
 returns-2 c =
     let args = c.args in
     let check-reply = c.check_reply in
-    let from = c.from in
     let take-model = c.take_model in
-    let h = rw from.given.1 at check-reply.ensures.1 in
-    apart (take-model.ensures ∙ reply-taken args.n args.text.now args.model.now (told said_heard check-reply.ensures.0 from.given.1) h.0 h.1)
+    let h = rw c.in-Literals.is at check-reply.ensures.1 in
+    apart (take-model.ensures ∙ reply-taken args.n args.text.now args.model.now (told said_heard check-reply.ensures.0 c.in-Literals.is) h.0 h.1)
 
 returns-3 : tie.Need-returns-in-Bad
 returns-3 c =

@@ -63,11 +63,10 @@ returns-3 c =
     let pre = c.requires in
     let sought-from = c.sought_from in
     let least-not-once = c.least_not_once in
-    let enum_told = c.enum_told in
     let if1 = c.if-model-n in
     let clear = c.clear in
     let put-literals = c.put_literals in
-    let once = sought_told pre sought-from.ensures (told (said_found 19) least-not-once.ensures enum_told.given.1) in
+    let once = sought_told pre sought-from.ensures (told (said_found 19) least-not-once.ensures c.in-Nothing.is) in
     let ns = literals_from args.n args.from args.text.now in
     answer_model args.n args.from args.text.now args.model.now once if1.false _ (put-literals.ensures ∙ ap (λ k. model_of k ns) clear.auto.bytes)
 

@@ -1,6 +1,5 @@
 -- `replies::parts::count_at` meets its contract.
 use mathlib.Core.Path.{sym, ◌∙◌}
-use borrow.Author.Tests.{not-true, not-false}
 use Rattle.replies.specs.Bytes.{via, count_none, count_wrong, count_begins, count_sooner}
 use borrow.Author.Rules.{rules}
 use Rattle.replies.proofs.parts.count_at.Statement.{statement}
@@ -18,7 +17,7 @@ is-digit-requires c κs = search rules
 returns-2 : tie.Need-returns-then-not-is_digit
 returns-2 c =
     let if1 = c.if-text-from in
-    (sym (count_wrong _ _ if1.false (via c.is_digit.ensures (not-true _ c.if-not-is_digit.true))), tt)
+    (sym (count_wrong _ _ if1.false (via c.is_digit.ensures c.if-not-is_digit.true)), tt)
 
 worth-requires : tie.Need-worth-requires
 worth-requires c κs = search rules
@@ -35,7 +34,7 @@ returns-3 c =
     let if1 = c.if-text-from in
     let is_digit = c.is_digit in
     let if2 = c.if-not-is_digit in
-    (c.count_from.ensures.0 ∙ sym (count_begins _ _ if1.false _ (via is_digit.ensures (not-false _ if2.false)) c.worth.ensures.0), count_sooner args.from args.text.now c.count_from.result c.count_from.ensures.1)
+    (c.count_from.ensures.0 ∙ sym (count_begins _ _ if1.false _ (via is_digit.ensures if2.false) c.worth.ensures.0), count_sooner args.from args.text.now c.count_from.result c.count_from.ensures.1)
 
 pub count_at_spec : {M : Type 1} → statement M
 count_at_spec =

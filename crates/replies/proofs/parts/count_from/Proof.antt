@@ -4,7 +4,6 @@ use mathlib.Core.Path.{◌≡◌, refl, sym, ◌∙◌}
 use Prim.Native.Nat.{◌-◌, ◌≤◌}
 use native.Mathlib.Omega.{arith}
 use lib.ListN.{length, drop}
-use borrow.Author.Tests.{not-true, not-false}
 use Rattle.definitions.specs.Texts.{most}
 use Rattle.replies.specs.Parts.{count_from}
 use Rattle.replies.specs.Bytes.{via, count-step, count-over, count-stops, count-end}
@@ -31,7 +30,7 @@ returns : tie.Need-returns-then-not-is_more invariant-loop decreases-loop
 returns c =
     let loop = c.loop-at in
     let loop-test = c.loop-at-test in
-    (sym (count-stops _ _ loop-test.true _ (via c.is_more.ensures (not-true _ c.if-not-is_more.true))) ∙ loop.invariant.0, (omega arith, omega arith))
+    (sym (count-stops _ _ loop-test.true _ (via c.is_more.ensures c.if-not-is_more.true)) ∙ loop.invariant.0, (omega arith, omega arith))
 
 cast-more : tie.Need-overflow_cast-more invariant-loop decreases-loop
 cast-more c = search rules
@@ -54,7 +53,7 @@ returns-2 c =
     let loop-test = c.loop-at-test in
     let is-more = c.is_more in
     let if1 = c.if-not-is_more in
-    (sym (count-over _ _ loop-test.true _ _ (via is-more.ensures (not-false _ if1.false)) c.worth.ensures.0 c.if-more-gt2147483647.true) ∙ loop.invariant.0, tt)
+    (sym (count-over _ _ loop-test.true _ _ (via is-more.ensures if1.false) c.worth.ensures.0 c.if-more-gt2147483647.true) ∙ loop.invariant.0, tt)
 
 cast-value : tie.Need-overflow_cast-value invariant-loop decreases-loop
 cast-value c = search rules
@@ -71,7 +70,7 @@ loop-again c =
     let loop-test = c.loop-at-test in
     let is-more = c.is_more in
     let if1 = c.if-not-is_more in
-    (sym (count-step _ _ loop-test.true _ _ (via is-more.ensures (not-false _ if1.false)) c.worth.ensures.0 c.if-more-gt2147483647.false) ∙ loop.invariant.0, omega arith, omega arith, omega arith)
+    (sym (count-step _ _ loop-test.true _ _ (via is-more.ensures if1.false) c.worth.ensures.0 c.if-more-gt2147483647.false) ∙ loop.invariant.0, omega arith, omega arith, omega arith)
 
 returns-3 : tie.Need-returns invariant-loop decreases-loop
 returns-3 c =

@@ -1,5 +1,5 @@
 -- `replies::parts::grow` meets its contract.
-use borrow.Author.Tests.{lt-leb, le-leb, not-true, not-false}
+use borrow.Author.Tests.{lt-leb, le-leb}
 use Rattle.replies.specs.Bytes.{via}
 use borrow.Author.Rules.{rules}
 use Rattle.replies.proofs.parts.grow.Statement.{statement}
@@ -10,7 +10,7 @@ is-further-requires c κs = search rules
 
 returns : tie.Need-returns-then-not-is_further
 returns c =
-    rw (via c.is_further.ensures (not-true _ c.if-not-is_further.true))
+    rw (via c.is_further.ensures c.if-not-is_further.true)
 
 mul-more : tie.Need-overflow_mul-more
 mul-more c = search rules
@@ -28,7 +28,7 @@ returns-2 : tie.Need-returns-then-n-more
 returns-2 c =
     let is-further = c.is_further in
     let if1 = c.if-not-is_further in
-    rw (via is-further.ensures (not-false _ if1.false), ← c.worth.ensures.0, lt-leb _ _ c.if-n-more.true)
+    rw (via is-further.ensures if1.false, ← c.worth.ensures.0, lt-leb _ _ c.if-n-more.true)
 
 cast-t12 : tie.Need-overflow_cast-result
 cast-t12 c = search rules
@@ -37,7 +37,7 @@ returns-3 : tie.Need-returns
 returns-3 c =
     let is-further = c.is_further in
     let if1 = c.if-not-is_further in
-    rw (via is-further.ensures (not-false _ if1.false), ← c.worth.ensures.0, le-leb _ _ c.if-n-more.false)
+    rw (via is-further.ensures if1.false, ← c.worth.ensures.0, le-leb _ _ c.if-n-more.false)
 
 pub grow_spec : {M : Type 1} → statement M
 grow_spec =

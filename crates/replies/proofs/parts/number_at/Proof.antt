@@ -1,6 +1,5 @@
 -- `replies::parts::number_at` meets its contract.
 use mathlib.Core.Path.{sym, ◌∙◌}
-use borrow.Author.Tests.{not-true, not-false}
 use Rattle.replies.specs.Bytes.{via, number_begins, number_wrong, begun_minus, begun_no_minus, begun_wrong, begun-beyond, begun-digit}
 use borrow.Author.Rules.{rules}
 use Rattle.replies.proofs.parts.number_at.Statement.{statement}
@@ -34,7 +33,7 @@ returns-3 c =
     let pre = c.requires in
     let args = c.args in
     let if1 = c.if-b-eq45 in
-    (sym (number_wrong _ _ (pre) _ (begun_wrong args.n _ _ if1.false (via c.is_digit.ensures (not-true _ c.if-not-is_digit.true)))), tt)
+    (sym (number_wrong _ _ (pre) _ (begun_wrong args.n _ _ if1.false (via c.is_digit.ensures c.if-not-is_digit.true))), tt)
 
 worth-requires : tie.Need-worth-first-requires
 worth-requires c κs = search rules
@@ -45,7 +44,7 @@ returns-4 c =
     let if1 = c.if-b-eq45 in
     let is_digit = c.is_digit in
     let if3 = c.if-not-is_digit in
-    (sym (number_wrong _ _ (pre) _ (begun-beyond _ _ _ _ if1.false (via is_digit.ensures (not-false _ if3.false)) c.worth-first.ensures.0 c.if-n-first.true)), tt)
+    (sym (number_wrong _ _ (pre) _ (begun-beyond _ _ _ _ if1.false (via is_digit.ensures if3.false) c.worth-first.ensures.0 c.if-n-first.true)), tt)
 
 add-number-from-2 : tie.Need-overflow_add-start-2
 add-number-from-2 c = search rules
@@ -60,7 +59,7 @@ returns-5 c =
     let is_digit = c.is_digit in
     let if3 = c.if-not-is_digit in
     let worth = c.worth-first in
-    (c.number_from-2.ensures.0 ∙ sym (number_begins _ _ (pre) _ (begun-digit _ _ _ _ if1.false (via is_digit.ensures (not-false _ if3.false)) worth.ensures.0 c.if-n-first.false)), c.number_from-2.ensures.1)
+    (c.number_from-2.ensures.0 ∙ sym (number_begins _ _ (pre) _ (begun-digit _ _ _ _ if1.false (via is_digit.ensures if3.false) worth.ensures.0 c.if-n-first.false)), c.number_from-2.ensures.1)
 
 pub number_at_spec : {M : Type 1} → statement M
 number_at_spec =

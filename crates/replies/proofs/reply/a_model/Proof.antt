@@ -7,9 +7,6 @@ use borrow.Author.Rules.{rules}
 use Rattle.replies.proofs.reply.a_model.Statement.{statement}
 use Rattle.replies.proofs.reply.a_model.Tie as tie
 
-slice-aggregate-word-at : tie.Need-slice-aggregate-word-at
-slice-aggregate-word-at c = search rules
-
 word-at-requires : tie.Need-word_at-word-requires
 word-at-requires c κs = search rules
 
@@ -46,26 +43,23 @@ returns-2 : tie.Need-returns-in_default-listed
 returns-2 c =
     let args = c.args in
     let word_at = c.word_at-word in
-    let word = c.word in
     let count-values = c.count_values-listed in
-    (model-bad args.from (drop args.from args.text.now) args.n (told (said_word args.text.now) word_at.ensures.0 word.given.1) (told said_listed count-values.ensures c.of_listed.ensures), tt)
+    (model-bad args.from (drop args.from args.text.now) args.n (told (said_word args.text.now) word_at.ensures.0 c.in-Past.is) (told said_listed count-values.ensures c.of_listed.ensures), tt)
 
 returns-3 : tie.Need-returns
 returns-3 c =
     let args = c.args in
     let word_at = c.word_at-word in
-    let word = c.word in
     let count-values = c.count_values-listed in
-    let past = told (said_word args.text.now) word_at.ensures.0 word.given.1 in
+    let past = told (said_word args.text.now) word_at.ensures.0 c.in-Past.is in
     let tail = drop args.from args.text.now in
-    let h = rw word.given.1 at word_at.ensures.1 in
+    let h = rw c.in-Past.is at word_at.ensures.1 in
     (model_is args.from tail args.n past (told said_listed count-values.ensures c.in-Literals.is), (h.1, model-from args.from tail args.n past))
 
 pub a_model_spec : {M : Type 1} → statement M
 a_model_spec =
     tie.close
     (tie.spec
-    slice-aggregate-word-at
     word-at-requires
     enum-known-word
     enum_told

@@ -9,9 +9,6 @@ use borrow.Author.Rules.{rules}
 use Rattle.replies.proofs.reply.check_reply.Statement.{statement}
 use Rattle.replies.proofs.reply.check_reply.Tie as tie
 
-slice-aggregate-word-at : tie.Need-slice-aggregate-word-at
-slice-aggregate-word-at c = search rules
-
 word-at-requires : tie.Need-word_at-read-requires
 word-at-requires c κs = search rules
 
@@ -34,8 +31,7 @@ returns-2 : tie.Need-returns-then-text-next
 returns-2 c =
     let args = c.args in
     let word_at = c.word_at-read in
-    let read = c.read in
-    (reply_ends args.n args.text.now (told (said_word args.text.now) word_at.ensures.0 read.given.1) c.if-text-next.true, tt)
+    (reply_ends args.n args.text.now (told (said_word args.text.now) word_at.ensures.0 c.in-Past.is) c.if-text-next.true, tt)
 
 shared-slice-read-if2 : tie.Need-bounds-text-next
 shared-slice-read-if2 c = search rules
@@ -47,9 +43,8 @@ returns-3 : tie.Need-returns-then-text-next-eq85
 returns-3 c =
     let args = c.args in
     let word_at = c.word_at-read in
-    let read = c.read in
     let if1 = c.if-text-next in
-    (c.no_model.ensures ∙ reply_none args.n args.text.now (told (said_word args.text.now) word_at.ensures.0 read.given.1) if1.false c.if-text-next-eq85.true, none_in read.given.0.0 (drop read.given.0.0 args.text.now) args.n args.text.now _ c.no_model.result c.no_model.ensures)
+    (c.no_model.ensures ∙ reply_none args.n args.text.now (told (said_word args.text.now) word_at.ensures.0 c.in-Past.is) if1.false c.if-text-next-eq85.true, none_in c.in-Past.next (drop c.in-Past.next args.text.now) args.n args.text.now _ c.no_model.result c.no_model.ensures)
 
 a-model-requires : tie.Need-a_model-requires
 a-model-requires c κs = search rules
@@ -58,16 +53,14 @@ returns-4 : tie.Need-returns
 returns-4 c =
     let args = c.args in
     let word_at = c.word_at-read in
-    let read = c.read in
     let if1 = c.if-text-next in
-    let whole = reply-model args.n args.text.now (told (said_word args.text.now) word_at.ensures.0 read.given.1) if1.false c.if-text-next-eq85.false in
+    let whole = reply-model args.n args.text.now (told (said_word args.text.now) word_at.ensures.0 c.in-Past.is) if1.false c.if-text-next-eq85.false in
     (c.a_model.ensures.0 ∙ ap summed whole, subst (λ m. HeardIn args.n args.text.now m c.a_model.result) whole c.a_model.ensures.1)
 
 pub check_reply_spec : {M : Type 1} → statement M
 check_reply_spec =
     tie.close
     (tie.spec
-    slice-aggregate-word-at
     word-at-requires
     enum-known-read
     enum_told

@@ -7,9 +7,6 @@ use borrow.Author.Rules.{rules}
 use Rattle.replies.proofs.reply.no_model.Statement.{statement}
 use Rattle.replies.proofs.reply.no_model.Tie as tie
 
-slice-aggregate-word-at : tie.Need-slice-aggregate-word-at
-slice-aggregate-word-at c = search rules
-
 word-at-requires : tie.Need-word_at-read-requires
 word-at-requires c κs = search rules
 
@@ -32,21 +29,18 @@ returns-2 : tie.Need-returns-then-text-next
 returns-2 c =
     let args = c.args in
     let word_at = c.word_at-read in
-    let read = c.read in
-    none_ends args.from (drop args.from args.text.now) args.text.now (told (said_word args.text.now) word_at.ensures.0 read.given.1) c.if-text-next.true
+    none_ends args.from (drop args.from args.text.now) args.text.now (told (said_word args.text.now) word_at.ensures.0 c.in-Past.is) c.if-text-next.true
 
 returns-3 : tie.Need-returns
 returns-3 c =
     let args = c.args in
     let word_at = c.word_at-read in
-    let read = c.read in
-    none_more args.from (drop args.from args.text.now) args.text.now (told (said_word args.text.now) word_at.ensures.0 read.given.1) c.if-text-next.false
+    none_more args.from (drop args.from args.text.now) args.text.now (told (said_word args.text.now) word_at.ensures.0 c.in-Past.is) c.if-text-next.false
 
 pub no_model_spec : {M : Type 1} → statement M
 no_model_spec =
     tie.close
     (tie.spec
-    slice-aggregate-word-at
     word-at-requires
     enum-known-read
     enum_told

@@ -1,6 +1,7 @@
 -- `replies::values::after_number` meets its contract.
 use mathlib.Core.Path.{sym}
 use native.Mathlib.Omega.{arith}
+use Rattle.std.proofs.Common.{eq-eqb, ne_eqb}
 use Rattle.laws.specs.Stepping.{num}
 use Rattle.replies.specs.Replied.{after_none, after_literal, after_zero_wrong, after_zero, after_zero_more}
 use borrow.Author.Rules.{rules}
@@ -22,7 +23,7 @@ returns-2 c =
     let args = c.args in
     let if1 = c.if-text-from in
     let if2 = c.if-size-eq0 in
-    (sym (after_zero (num 0 args.minus args.size) args.text.now args.from if1.false if2.true c.if-newline.true c.if-text-from-2.true), tt)
+    (sym (after_zero (num 0 args.minus args.size) args.text.now args.from if1.false if2.true (eq-eqb _ 10 c.if-newline.true) c.if-text-from-2.true), tt)
 
 add-t11 : tie.Need-overflow_add-result
 add-t11 c = search rules
@@ -32,13 +33,13 @@ returns-3 c =
     let args = c.args in
     let if1 = c.if-text-from in
     let if2 = c.if-size-eq0 in
-    (sym (after_zero_more (num 0 args.minus args.size) args.text.now args.from if1.false if2.true c.if-newline.true c.if-text-from-2.false), tt)
+    (sym (after_zero_more (num 0 args.minus args.size) args.text.now args.from if1.false if2.true (eq-eqb _ 10 c.if-newline.true) c.if-text-from-2.false), tt)
 
 returns-4 : tie.Need-returns-then-size-eq0
 returns-4 c =
     let args = c.args in
     let if1 = c.if-text-from in
-    (sym (after_zero_wrong (num 0 args.minus args.size) args.text.now args.from if1.false c.if-size-eq0.true c.if-newline.false), tt)
+    (sym (after_zero_wrong (num 0 args.minus args.size) args.text.now args.from if1.false c.if-size-eq0.true (ne_eqb _ 10 c.if-newline.false)), tt)
 
 add-t6 : tie.Need-overflow_add-result-2
 add-t6 c = search rules

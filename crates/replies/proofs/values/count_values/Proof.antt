@@ -34,21 +34,18 @@ add-literals : tie.Need-overflow_add-literals invariant-loop decreases-loop
 add-literals c =
     let loop = c.loop-size in
     let value-at = c.value_at in
-    let size = c.size in
-    let h = rw size.given.1 at value-at.ensures.1 in omega (arith, h.0, h.1, loop.invariant.short)
+    let h = rw c.in-Literal.is at value-at.ensures.1 in omega (arith, h.0, h.1, loop.invariant.short)
 
 loop-less : tie.Need-loop-size-smaller invariant-loop decreases-loop
 loop-less c =
     let value-at = c.value_at in
-    let size = c.size in
-    let h = rw size.given.1 at value-at.ensures.1 in omega (arith, h.0, h.1)
+    let h = rw c.in-Literal.is at value-at.ensures.1 in omega (arith, h.0, h.1)
 
 loop-again : tie.Need-loop-size-preserved invariant-loop decreases-loop
 loop-again c =
     let loop = c.loop-size in
     let value-at = c.value_at in
-    let size = c.size in
-    let h = rw size.given.1 at value-at.ensures.1 in literals-more _ _ _ loop.invariant size.given.0.0 _ _ _ _ (told (said_value _) value-at.ensures.0 size.given.1) h.0 h.1 c.is_next-rising.ensures
+    let h = rw c.in-Literal.is at value-at.ensures.1 in literals-more _ _ _ loop.invariant c.in-Literal.minus _ _ _ _ (told (said_value _) value-at.ensures.0 c.in-Literal.is) h.0 h.1 c.is_next-rising.ensures
 
 enum_told : tie.Need-enum_told-1 invariant-loop decreases-loop
 enum_told c = search rules

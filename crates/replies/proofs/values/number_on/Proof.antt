@@ -41,9 +41,8 @@ returns-3 : tie.Need-returns
 returns-3 c =
     let args = c.args in
     let number_at = c.number_at-read in
-    let read = c.read in
-    let h = rw read.given.1 at number_at.ensures.1 in
-    (c.after_number.ensures.0 ∙ sym (number_then args.n args.from (drop args.from args.text.now) (told (said_numeral args.from args.text.now) number_at.ensures.0 read.given.1)), value_sooner args.from read.given.0.1.1.0 args.text.now c.after_number.result (omega (arith, h.0)) c.after_number.ensures.1)
+    let h = rw c.in-Number.is at number_at.ensures.1 in
+    (c.after_number.ensures.0 ∙ sym (number_then args.n args.from (drop args.from args.text.now) (told (said_numeral args.from args.text.now) number_at.ensures.0 c.in-Number.is)), value_sooner args.from c.in-Number.next args.text.now c.after_number.result (omega (arith, h.0)) c.after_number.ensures.1)
 
 pub number_on_spec : {M : Type 1} → statement M
 number_on_spec =

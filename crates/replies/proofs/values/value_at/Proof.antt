@@ -8,9 +8,6 @@ use borrow.Author.Rules.{rules}
 use Rattle.replies.proofs.values.value_at.Statement.{statement}
 use Rattle.replies.proofs.values.value_at.Tie as tie
 
-slice-aggregate-word-at : tie.Need-slice-aggregate-word-at
-slice-aggregate-word-at c = search rules
-
 word-at-requires : tie.Need-word_at-read-requires
 word-at-requires c κs = search rules
 
@@ -40,9 +37,8 @@ returns-2 c =
     let args = c.args in
     let if1 = c.if-line in
     let word_at = c.word_at-read in
-    let read = c.read in
-    let h = rw read.given.1 at word_at.ensures.1 in
-    (c.number_on.ensures.0 ∙ sym (value_line args.n args.from (drop args.from args.text.now) args.line if1.true (told (said_word args.text.now) word_at.ensures.0 read.given.1)), value_sooner args.from read.given.0.0 args.text.now c.number_on.result h.0 c.number_on.ensures.1)
+    let h = rw c.in-Past.is at word_at.ensures.1 in
+    (c.number_on.ensures.0 ∙ sym (value_line args.n args.from (drop args.from args.text.now) args.line if1.true (told (said_word args.text.now) word_at.ensures.0 c.in-Past.is)), value_sooner args.from c.in-Past.next args.text.now c.number_on.result h.0 c.number_on.ensures.1)
 
 number-on-requires-2 : tie.Need-number_on-requires-2
 number-on-requires-2 c κs = search rules
@@ -56,7 +52,6 @@ pub value_at_spec : {M : Type 1} → statement M
 value_at_spec =
     tie.close
     (tie.spec
-    slice-aggregate-word-at
     word-at-requires
     enum-known-read
     enum_told

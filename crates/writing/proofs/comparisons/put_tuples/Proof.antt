@@ -40,13 +40,12 @@ after-row-requires c κs = subst (Walking _) c.in-Tuple.is c.loop-tuple.invarian
 
 row-at-requires : tie.Need-row_at-requires invariant-loop decreases-loop
 row-at-requires c κs =
-    let l = c.before.before.before.before in
-    (l.requires.0, subst (Walking _) c.in-Tuple.is l.loop-tuple.invariant.1)
+    (c.requires.0, subst (Walking _) c.in-Tuple.is c.loop-tuple.invariant.1)
 
 -- what is to come is the row, and what is to come behind it
 module _ (c : tie.After-row_at invariant-loop decreases-loop) where
   abbrev l : tie.At-loop-tuple invariant-loop decreases-loop
-  l = c.before.before.before.before.before
+  l = c.before.before.before
 
   abbrev s : tie.Start invariant-loop decreases-loop
   s = l.before.before
@@ -59,12 +58,11 @@ module _ (c : tie.After-row_at invariant-loop decreases-loop) where
 
   more : led s.args.lead (to_come s.args.c l.loop-tuple.tuple) ≡ row ++ behind
   more =
-      let t = c.tuple-1.given in
       let rest = to_come s.args.c c.after_row-onward.result in
-      led_on s.args.c s.args.lead l.loop-tuple.tuple t.0.0 t.1 (in_row c.row_at.result) rest (c.after_row-onward.ensures.1 ∙ ap (λ r. r ++ rest) (sym c.row_at.ensures.1))
+      led_on s.args.c s.args.lead l.loop-tuple.tuple c.in-Tuple.w c.in-Tuple.is (in_row c.row_at.result) rest (c.after_row-onward.ensures.1 ∙ ap (λ r. r ++ rest) (sym c.row_at.ensures.1))
 
   fits : l.loop-tuple.at + length row ≤ length l.loop-tuple.list
-  fits = room_for l.loop-tuple.inv.0 row behind more
+  fits = room_for l.loop-tuple.invariant.0 row behind more
 
 mul-put-row : tie.Need-offset_bounds-list-at invariant-loop decreases-loop
 mul-put-row c = let h : (l c).loop-tuple.at ≤ length (s c).args.list.now = omega (arith, room_before (l c).loop-tuple.invariant.0) in search rules
@@ -87,14 +85,13 @@ add_at : tie.Need-overflow_add-at invariant-loop decreases-loop
 add_at c =
     let r = c.before.before.before in
     let here = (l r).loop-tuple in
-    let h : here.at + c.put_row-at.result ≤ length (s r).args.list.now = omega (arith, c.put_row-at.ensures.0, here.inv.0.long, fits r) in search (rules, (s r).well-formed.1.1.1.0)
+    let h : here.at + c.put_row-at.result ≤ length (s r).args.list.now = omega (arith, c.put_row-at.ensures.0, here.invariant.0.long, fits r) in search rules
 
 loop-less : tie.Need-loop-tuple-smaller invariant-loop decreases-loop
 loop-less c =
     let r = c.before.before.before in
     let q = (s r).args.c in
-    let t = r.tuple-1.given in
-    omega (arith, ap (λ z. length (to_come q z)) t.1, ap length r.after_row-onward.ensures.1, length-append (row_clauses q t.0.0) (to_come q r.after_row-onward.result), row_some q t.0.0)
+    omega (arith, ap (λ z. length (to_come q z)) r.in-Tuple.is, ap length r.after_row-onward.ensures.1, length-append (row_clauses q r.in-Tuple.w) (to_come q r.after_row-onward.result), row_some q r.in-Tuple.w)
 
 loop-again : tie.Need-loop-tuple-preserved invariant-loop decreases-loop
 loop-again c =
@@ -107,9 +104,7 @@ same_length c = c.loop-tuple.invariant.0.long
 
 returns : tie.Need-returns invariant-loop decreases-loop
 returns c =
-    let k = c.before.before in
-    let a = k.args in
-    ended k.loop-tuple.invariant.0 (led-end a.c a.lead k.loop-tuple.tuple c.in_default.is)
+    ended c.loop-tuple.invariant.0 (led-end c.args.c c.args.lead c.loop-tuple.tuple c.in_default.is)
 
 pub put_tuples_spec : {M : Type 1} → statement M
 put_tuples_spec =

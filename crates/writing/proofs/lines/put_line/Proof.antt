@@ -6,6 +6,7 @@ use Prim.Native.Nat.{◌+◌, ◌-◌, ◌≤◌, ◌<◌}
 use native.Mathlib.Omega.{arith}
 use lib.ListN.{length, length-set}
 use lib.IntN.{pos}
+use mir.Syntax.{w32}
 use mir.Facts.{to_z-of_z}
 use Rattle.laws.specs.Again.{literals_at}
 use Rattle.laws.specs.Filling.{Filling, begin, room_before, room, ended, one}
@@ -28,7 +29,7 @@ module _ (r : tie.After-literal_again-read invariant-loop decreases-loop) where
 
   line-next : line_numbers r.loop-left.number (literals_at s.args.rules.now r.loop-left.left r.loop-left.next_place).value
       ≡ literal_here r.loop-left.number r.literal_again-read.result.literal ∷ line_numbers (r.loop-left.number + takes r.literal_again-read.result.literal) (literals_at s.args.rules.now (r.loop-left.left - 1) r.literal_again-read.result.next).value
-  line-next = line_first r.loop-left-test.taken r.loop-left.inv.1 r.literal_again-read.ensures r.loop-left.number
+  line-next = line_first r.loop-left-test.true r.loop-left.invariant.1 r.literal_again-read.ensures r.loop-left.number
 
   fits : r.loop-left.at < length s.args.list.now
   fits = omega (arith, room_before r.loop-left.invariant.0, ap length line-next)
@@ -83,7 +84,7 @@ loop-again c =
     let r = c.before.before in
     let l = r.loop-left in
     let x = r.literal_again-read.result in
-    let v = to_z-of_z (record { sfits = c.number_of_lem.type_inv }) ∙ c.number_of_lem.ensures in
+    let v = to_z-of_z {w = w32} (record { sfits = c.number_of.type_inv }) ∙ c.number_of.ensures in
     let rest = ap₂ (λ z k. z ∷ line_numbers (l.number + k) (literals_at (s r).args.rules.now (l.left - 1) x.next).value) (sym v) (sym c.selectors_of-number.ensures) in
     (one l.invariant.0 _ _ (line-next r ∙ rest), rest_read r.loop-left-test.true l.invariant.1 r.literal_again-read.ensures, omega (arith, l.invariant.2, r.loop-left-test.true, c.selectors_of-number.ensures, takes_few x.literal))
 

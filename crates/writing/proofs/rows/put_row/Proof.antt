@@ -13,41 +13,32 @@ enum-known-row c = search rules
 
 put-short-requires : tie.Need-put_short-requires
 put-short-requires c κs =
-    let s = c.before.before.before.before in
-    let row = c.row-1.given in
-    omega (arith, ap length (led-single s.args.lead (front_of row.0.0)), rw row.1 at s.requires.1)
+    omega (arith, ap length (led-single c.args.lead (front_of c.in-One.front)), rw c.in-One.is at c.requires.1)
 
 enum-known-row-2 : tie.Need-enum_known-row-in-Many-1
 enum-known-row-2 c = search rules
 
 add-if1 : tie.Need-overflow_add-y
 add-if1 c =
-    let r = c.before.before.before.before.before in
-    let ready : ReadyRun r.in-Many.run' = rw r.in-Many.is at r.requires.0 in
+    let ready : ReadyRun c.in-Many.run' = rw c.in-Many.is at c.requires.0 in
     record { fits = omega (arith, ready.rising.few, ready.falling.few) }
 
 put-units-requires : tie.Need-put_units-requires
 put-units-requires c κs =
-    let r = c.before.before.before.before.before.before.before in
-    let s = r.before.before in
-    let e = r.in-Many.is in
-    (rw e at s.requires.0, c.if-y-z-lt3.true, rw e at s.requires.1)
+    let e = c.in-Many.is in
+    (rw e at c.requires.0, c.if-y-z-lt3.true, rw e at c.requires.1)
 
 put-stepped-requires : tie.Need-put_stepped-requires
 put-stepped-requires c κs =
-    let r = c.before.before.before.before.before.before.before in
-    let s = r.before.before in
-    let e = r.in-Many.is in
-    (rw e at s.requires.0, rw e at s.requires.1)
+    let e = c.in-Many.is in
+    (rw e at c.requires.0, rw e at c.requires.1)
 
 same_length : tie.Need-shape_of-list-in-One
 same_length c = search rules
 
 returns : tie.Need-returns-in-One
 returns c =
-    let r = c.before.before.before.before in
-    let s = r.before.before in
-    rw (r.in-One.is, led-single s.args.lead (front_of r.in-One.front)) c.put_short.ensures
+    rw (c.in-One.is, led-single c.args.lead (front_of c.in-One.front)) c.put_short.ensures
 
 same-length-2 : tie.Need-shape_of-list-then-y-z-lt3
 same-length-2 c = search rules

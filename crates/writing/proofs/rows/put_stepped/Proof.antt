@@ -81,15 +81,15 @@ add_at : tie.Need-overflow_add-at invariant-loop decreases-loop
 add_at c =
     let p = c.before in
     let here = (l (b p)).loop-rest in
-    let h : here.at + p.put_clause-at.result ≤ length (l (b p)).args.list.now = omega (arith, (wrote p).0, here.invariant.0.long, fits (b p)) in search (rules, (l (b p)).good.1.1.0)
+    let h : here.at + p.put_clause-at.result ≤ length (l (b p)).args.list.now = omega (arith, (wrote p).0, here.invariant.0.long, fits (b p)) in search rules
 
 onward-requires : tie.Need-onward-rest-requires invariant-loop decreases-loop
-onward-requires c κs = let r = b c.before in ((l r).loop-rest.invariant.1, r.loop-rest-test.taken)
+onward-requires c κs = let r = b c.before in ((l r).loop-rest.invariant.1, r.loop-rest-test.true)
 
 loop-less : tie.Need-loop-rest-smaller invariant-loop decreases-loop
 loop-less c =
     let r = b c.before.before in
-    omega (arith, ap length c.onward-rest.ensures.2, ap length (run-first (run r) r.loop-rest-test.taken))
+    omega (arith, ap length c.onward-rest.ensures.2, ap length (run-first (run r) r.loop-rest-test.true))
 
 loop-again : tie.Need-loop-rest-preserved invariant-loop decreases-loop
 loop-again c =

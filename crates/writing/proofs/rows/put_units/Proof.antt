@@ -62,10 +62,10 @@ module _ (c : tie.In-loop-left invariant-loop decreases-loop) where
   front = s.args.run.front
 
   abbrev y : ℤ
-  y = to_z w32 l.loop-left.p
+  y = to_z w32 l.loop-left.p-bits
 
   abbrev z : ℤ
-  z = to_z w32 l.loop-left.q
+  z = to_z w32 l.loop-left.q-bits
 
   abbrev first : List ℤ
   first = clause (stays lead front ++ (y ∷ z ∷ []))
@@ -77,13 +77,13 @@ module _ (c : tie.In-loop-left invariant-loop decreases-loop) where
   more = units_more lead front y z l.loop-left.left c.loop-left-test.true
 
   fits : l.loop-left.at + length first ≤ length l.loop-left.list
-  fits = room_for l.loop-left.inv.0 first (led lead (in_run behind)) more
+  fits = room_for l.loop-left.invariant.0 first (led lead (in_run behind)) more
 
   up_fits : SFits w32 (y +ℤ pos 1)
-  up_fits = abs_fits (omega (arith, abs_add y (pos 1), l.loop-left.inv.1.rising.near))
+  up_fits = abs_fits (omega (arith, abs_add y (pos 1), l.loop-left.invariant.1.rising.near))
 
   down_fits : SFits w32 (z -ℤ pos 1)
-  down_fits = abs_fits (omega (arith, abs_sub z (pos 1), l.loop-left.inv.1.falling.near))
+  down_fits = abs_fits (omega (arith, abs_sub z (pos 1), l.loop-left.invariant.1.falling.near))
 
 mul-put-clause : tie.Need-offset_bounds-list-at invariant-loop decreases-loop
 mul-put-clause c = let h : (l c).loop-left.at ≤ length (s c).args.list.now = omega (arith, room_before (l c).loop-left.invariant.0) in search rules
@@ -136,7 +136,7 @@ returns c =
     let a = c.before.before.before.before.before.before in
     let lead = a.args.lead in
     subst (λ r. (here.at ≡ length (led lead (in_run r))) × (here.list ≡ written (led lead (in_run r)) a.args.list.now)) (sym (same a))
-    (ended here.invariant.0 (run_end lead (run_at a.args.run.front here.p here.q here.left) (omega (arith, c.loop-left-test.false))))
+    (ended here.invariant.0 (run_end lead (run_at a.args.run.front here.p-bits here.q-bits here.left) (omega (arith, c.loop-left-test.false))))
 
 pub put_units_spec : {M : Type 1} → statement M
 put_units_spec =
