@@ -1,5 +1,7 @@
 // WriteText: an accepted record's text into lent bytes. The text is made clause by clause, and no clause list is lent: one pass over the
 // record counts its bytes, and where there is room a second one, the same, writes them.
+#![tactic(auto)]
+
 ghost use Rattle.std.specs.Prelude.{◌≡◌, length};
 ghost use Rattle.laws.specs.Boards.{board_of};
 ghost use Rattle.laws.specs.Pieces.{pieces_from};

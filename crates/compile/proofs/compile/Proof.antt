@@ -14,33 +14,33 @@ use Rattle.compile.proofs.compile.Tie as tie
 measure-requires : tie.Need-measure-requires
 measure-requires c κs = search rules
 
-enum-known-header : tie.Need-enum-known-header
+enum-known-header : tie.Need-enum_known-header
 enum-known-header c = search rules
 
-put-list-requires : tie.Need-put-list-requires
+put-list-requires : tie.Need-put_list-k-requires
 put-list-requires c κs =
-    let m = measured c.before.before.before.before.before.before.before.before.args.bytes.now (told said_measured c.before.before.before.before.before.before.measure.ensures c.before.before.before.before.header.given.1) in (m.opened, omega (arith, c.before.if1.false, ap (λ z. z.k) m.totals, K_is (board_of c.before.before.before.before.before.before.before.before.args.bytes.now)))
+    let m = measured c.args.bytes.now (told said_measured c.measure.ensures c.in-Accepted.is) in (m.opened, omega (arith, c.if-list-totals.false, ap (λ z. z.k) m.totals, K_is (board_of c.args.bytes.now)))
 
-enum-known-r : tie.Need-enum-known-r
+enum-known-r : tie.Need-enum_known-r
 enum-known-r c = search rules
 
-returns : tie.Need-returns
+returns : tie.Need-returns-then-list-totals
 returns c =
-    too_short c.before.before.before.before.before.before.before.args.bytes.now c.before.before.before.before.before.before.before.args.list.now _ _ (told said_measured c.before.before.before.before.before.measure.ensures c.before.before.before.header.given.1) c.if1.true
+    too_short c.args.bytes.now c.args.list.now _ _ (told said_measured c.measure.ensures c.in-Accepted.is) c.if-list-totals.true
 
-same_length : tie.Need-same-length
+same_length : tie.Need-shape_of-list
 same_length c = search rules
 
-returns-2 : tie.Need-returns-2
+returns-2 : tie.Need-returns-else-list-totals
 returns-2 c =
-    compiled c.before.before.before.before.before.before.before.before.before.before.args.bytes.now c.before.before.before.before.before.before.before.before.before.before.args.list.now _ _ (told said_measured c.before.before.before.before.before.before.before.before.measure.ensures c.before.before.before.before.before.before.header.given.1) c.before.before.before.if1.false _ _ c.before.put-list.ensures.0 c.before.put-list.ensures.1
+    compiled c.args.bytes.now c.args.list.now _ _ (told said_measured c.measure.ensures c.in-Accepted.is) c.if-list-totals.false _ _ c.put_list-k.ensures.0 c.put_list-k.ensures.1
 
-returns-3 : tie.Need-returns-3
+returns-3 : tie.Need-returns-in-Refused
 returns-3 c =
-    unmeasured c.before.before.before.before.before.args.bytes.now c.before.before.before.before.before.args.list.now _ _ (told said_measured c.before.before.before.measure.ensures c.before.r.given.1)
+    unmeasured c.args.bytes.now c.args.list.now _ _ (told said_measured c.measure.ensures c.in-Refused.is)
 
-pub compile-spec : {M : Type 1} → statement M
-compile-spec =
+pub compile_spec : {M : Type 1} → statement M
+compile_spec =
     tie.close
     (tie.spec
     measure-requires

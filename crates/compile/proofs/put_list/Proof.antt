@@ -30,79 +30,79 @@ module _ (c : tie.Start) where
   all_fit = omega (arith, ap length (whole_list B), c.requires.1)
 
 -- the axioms are in the list, the clauses of the rules are to come
-module _ (c : tie.After-put-variables) where
+module _ (c : tie.After-put_variables-at) where
   abbrev start : tie.Start
   start = c.before.before.before.before.before.before.before.before
 
-  axioms-put : Filling (axioms_from (B start) 0 ++ pieces start) (pieces start) start.args.list.now c.put-variables.new.1.1.1.0 c.put-variables.result
-  axioms-put = begun (axioms_from (B start) 0) (pieces start) _ _ _ (all_fit start) c.put-variables.ensures.0 c.put-variables.ensures.1
+  axioms-put : Filling (axioms_from (B start) 0 ++ pieces start) (pieces start) start.args.list.now c.put_variables-at.new.list c.put_variables-at.result
+  axioms-put = begun (axioms_from (B start) 0) (pieces start) _ _ _ (all_fit start) c.put_variables-at.ensures.0 c.put_variables-at.ensures.1
 
-slice-aggregate-put-firsts : tie.Need-slice-aggregate-put-firsts
+slice-aggregate-put-firsts : tie.Need-slice_bounds-put_firsts-end
 slice-aggregate-put-firsts c = search rules
 
-put-firsts-requires : tie.Need-put-firsts-requires
+put-firsts-requires : tie.Need-put_firsts-requires
 put-firsts-requires c κs =
-    let o = c.before.before.requires.0 in
+    let o = c.requires.0 in
     (o.opens, bools_is o, ints_is o, omega (arith, counts_small o))
 
-slice-aggregate-first-in : tie.Need-slice-aggregate-first-in
+slice-aggregate-first-in : tie.Need-slice_bounds-first_in-end
 slice-aggregate-first-in c = search rules
 
-first-in-requires : tie.Need-first-in-requires
+first-in-requires : tie.Need-first_in-selectors-requires
 first-in-requires c κs = search rules
 
-put-variables-requires : tie.Need-put-variables-requires
+put-variables-requires : tie.Need-put_variables-at-requires
 put-variables-requires c κs =
     let s = c.before.before.before.before.before.before.before in
     let o = s.requires.0 in (o.opens, ints_is o, bools_is o, omega (arith, all_fit s, length-append (axioms_from (B s) 0) (pieces s)))
 
-slice-aggregate-put-pieces : tie.Need-slice-aggregate-put-pieces
+slice-aggregate-put-pieces : tie.Need-slice_bounds-put_pieces-end
 slice-aggregate-put-pieces c = search rules
 
-sub-put-pieces : tie.Need-overflow-sub-put-pieces
-sub-put-pieces c = rules_inside c.before.before.before.before.before.before.before.before.before.before.requires.0
+sub-put-pieces : tie.Need-slice_bounds-put_pieces-count
+sub-put-pieces c = rules_inside c.requires.0
 
-part-put-pieces-start : tie.Need-slice-bounds-put-pieces-start
-part-put-pieces-start c = omega (arith, rules_inside c.before.before.before.before.before.before.before.before.before.before.requires.0)
+part-put-pieces-start : tie.Need-slice_bounds-put_pieces-start
+part-put-pieces-start c = omega (arith, rules_inside c.requires.0)
 
-part-put-pieces-end : tie.Need-slice-bounds-put-pieces-end
+part-put-pieces-end : tie.Need-slice_bounds-put_pieces-end-2
 part-put-pieces-end c = search rules
 
-mul-put-pieces : tie.Need-overflow-mul-put-pieces
+mul-put-pieces : tie.Need-offset_bounds-list-at
 mul-put-pieces c =
-    let h : c.before.before.before.put-variables.result ≤ length c.before.before.before.before.before.before.before.before.before.before.before.args.list.now = omega (arith, room_before (axioms-put c.before.before.before)) in search rules
+    let h : c.put_variables-at.result ≤ length c.args.list.now = omega (arith, room_before (axioms-put c.before.before.before)) in search rules
 
-sub-put-pieces-2 : tie.Need-overflow-sub-put-pieces-2
+sub-put-pieces-2 : tie.Need-slice_bounds-put_pieces-count-2
 sub-put-pieces-2 c = omega (arith, room (axioms-put c.before.before.before))
 
-part-put-pieces-start-2 : tie.Need-slice-bounds-put-pieces-start-2
+part-put-pieces-start-2 : tie.Need-slice_bounds-put_pieces-start-2
 part-put-pieces-start-2 c = omega (arith, room (axioms-put c.before.before.before))
 
-part-put-pieces-end-2 : tie.Need-slice-bounds-put-pieces-end-2
+part-put-pieces-end-2 : tie.Need-slice_bounds-put_pieces-end-3
 part-put-pieces-end-2 c = search rules
 
-put-pieces-requires : tie.Need-put-pieces-requires
+put-pieces-requires : tie.Need-put_pieces-requires
 put-pieces-requires c κs =
     let s = c.before.before.before.before.before.before.before.before.before.before.before.before in
     let o = s.requires.0 in
     let l = c.before.before.before.before in
-    (known o, c.before.before.before.before.before.before.before.before.before.put-firsts.ensures, clauses_is o, c.before.before.before.before.before.before.first-in.ensures ∙ c.before.before.before.before.before.before.before.before.before.put-firsts.ensures s.args.header.ints (omega (arith, ints_is o)) ∙ ap (first (B s)) (ints_is o), omega (arith, room (axioms-put l), rest-length l.put-variables.new.1.1.1.0 l.put-variables.result))
+    (known o, c.put_firsts.ensures, clauses_is o, c.first_in-selectors.ensures ∙ c.put_firsts.ensures s.args.header.ints (omega (arith, ints_is o)) ∙ ap (first (B s)) (ints_is o), omega (arith, room (axioms-put l), rest-length l.put_variables-at.new.list l.put_variables-at.result))
 
-add-result : tie.Need-overflow-add-result
+add-result : tie.Need-overflow_add-result
 add-result c =
-    let h : c.before.before.before.before.before.before.put-variables.result + c.before.put-pieces.result ≤ length c.before.before.before.before.before.before.before.before.before.before.before.before.before.before.args.list.now = omega (arith, c.before.put-pieces.ensures.0, room_before (axioms-put c.before.before.before.before.before.before)) in search rules
+    let h : c.put_variables-at.result + c.put_pieces.result ≤ length c.args.list.now = omega (arith, c.put_pieces.ensures.0, room_before (axioms-put c.before.before.before.before.before.before)) in search rules
 
-same_length : tie.Need-same-length
-same_length c = (last (axioms-put c.before.before.before.before.before.before) _ _ c.before.put-pieces.ensures.0 c.before.put-pieces.ensures.1).2
+same_length : tie.Need-shape_of-list
+same_length c = (last (axioms-put c.before.before.before.before.before.before) _ _ c.put_pieces.ensures.0 c.put_pieces.ensures.1).2
 
 returns : tie.Need-returns
 returns c =
     let s = c.before.before.before.before.before.before.before.before.before.before.before.before.before.before in
-    let e = last (axioms-put c.before.before.before.before.before.before) _ _ c.before.put-pieces.ensures.0 c.before.put-pieces.ensures.1 in
+    let e = last (axioms-put c.before.before.before.before.before.before) _ _ c.put_pieces.ensures.0 c.put_pieces.ensures.1 in
     renamed s.args.list.now (sym (whole_list (B s))) (e.0, e.1)
 
-pub put-list-spec : {M : Type 1} → statement M
-put-list-spec =
+pub put_list_spec : {M : Type 1} → statement M
+put_list_spec =
     tie.close
     (tie.spec
     slice-aggregate-put-firsts

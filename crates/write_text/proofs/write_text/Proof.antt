@@ -12,52 +12,47 @@ use Rattle.write_text.proofs.write_text.Tie as tie
 measure-requires : tie.Need-measure-requires
 measure-requires c κs = search rules
 
-enum-known-header : tie.Need-enum-known-header
+enum-known-header : tie.Need-enum_known-header
 enum-known-header c = search rules
 
-text-length-requires : tie.Need-text-length-requires
+text-length-requires : tie.Need-text_length-length-requires
 text-length-requires c κs =
-    let s = c.before.before.before.before.before.before in
-    let a = s.args in
-    let e = told said_measured c.before.before.before.measure.ensures c.before.header.given.1 in
+    let a = c.args in
+    let e = told said_measured c.measure.ensures c.in-Accepted.is in
     let m = measured a.bytes.now e in
     (m.opened, m.totals, counted a.bytes.now a.out.now _ _ e)
 
-add-text-requires : tie.Need-add-text-requires
+add-text-requires : tie.Need-add_text-requires
 add-text-requires c κs =
-    let s = c.before.before.before.before.before.before.before.before.before in
-    let a = s.args in
-    let e = told said_measured c.before.before.before.before.before.before.measure.ensures c.before.before.before.before.header.given.1 in
+    let a = c.args in
+    let e = told said_measured c.measure.ensures c.in-Accepted.is in
     let m = measured a.bytes.now e in
     (m.opened, m.totals, counted a.bytes.now a.out.now _ _ e)
 
-enum-known-r : tie.Need-enum-known-r
+enum-known-r : tie.Need-enum_known-r
 enum-known-r c = search rules
 
-returns : tie.Need-returns
+returns : tie.Need-returns-then-out-length
 returns c =
-    let s = c.before.before.before.before.before.before.before.before in
-    let a = s.args in
-    too_short a.bytes.now a.out.now _ _ (told said_measured c.before.before.before.before.before.measure.ensures c.before.before.before.header.given.1) _ c.before.text-length.ensures c.if1.true
+    let a = c.args in
+    too_short a.bytes.now a.out.now _ _ (told said_measured c.measure.ensures c.in-Accepted.is) _ c.text_length-length.ensures c.if-out-length.true
 
-same_length : tie.Need-same-length
-same_length c = c.before.before.add-text.ensures.long
+same_length : tie.Need-shape_of-out
+same_length c = c.add_text.ensures.long
 
-returns-2 : tie.Need-returns-2
+returns-2 : tie.Need-returns-else-out-length
 returns-2 c =
-    let s = c.before.before.before.before.before.before.before.before.before.before.before.before in
-    let a = s.args in
-    let t = c.before.before.add-text.ensures in
-    texted a.bytes.now a.out.now _ _ (told said_measured c.before.before.before.before.before.before.before.before.before.measure.ensures c.before.before.before.before.before.before.before.header.given.1) (omega (arith, c.before.before.before.before.before.text-length.ensures, c.before.before.before.before.if1.false)) _ _ (omega (arith, t.place)) (all_held t (omega (arith, c.before.before.before.before.before.text-length.ensures, c.before.before.before.before.if1.false)))
+    let a = c.args in
+    let t = c.add_text.ensures in
+    texted a.bytes.now a.out.now _ _ (told said_measured c.measure.ensures c.in-Accepted.is) (omega (arith, c.text_length-length.ensures, c.if-out-length.false)) _ _ (omega (arith, t.place)) (all_held t (omega (arith, c.text_length-length.ensures, c.if-out-length.false)))
 
-returns-3 : tie.Need-returns-3
+returns-3 : tie.Need-returns-in-Refused
 returns-3 c =
-    let s = c.before.before.before.before.before.before in
-    let a = s.args in
-    unmeasured a.bytes.now a.out.now _ _ (told said_measured c.before.before.before.measure.ensures c.before.r.given.1)
+    let a = c.args in
+    unmeasured a.bytes.now a.out.now _ _ (told said_measured c.measure.ensures c.in-Refused.is)
 
-pub write-text-spec : {M : Type 1} → statement M
-write-text-spec =
+pub write_text_spec : {M : Type 1} → statement M
+write_text_spec =
     tie.close
     (tie.spec
     measure-requires

@@ -17,11 +17,11 @@ use Rattle.compile.proofs.Passes.{numbers_met}
 use Rattle.compile.proofs.pieces.put_pieces.Statement.{statement}
 use Rattle.compile.proofs.pieces.put_pieces.Tie as tie
 
-abbrev invariant-loop : tie.invariant-loop
+abbrev invariant-loop : tie.invariant-loop-piece
 invariant-loop bytes firsts rules clauses selectors list₀ at₀ cursor₀ list at cursor =
     Sound (context_of (board_of bytes)) rules cursor × Filling (pieces_numbers (board_of bytes) (pieces_from 0 (board_of bytes).clauses)) (pieces_numbers (board_of bytes) (coming_at rules cursor)) list₀ list at
 
-abbrev decreases-loop : tie.decreases-loop
+abbrev decreases-loop : tie.decreases-loop-piece
 decreases-loop bytes firsts rules clauses selectors list₀ at₀ cursor₀ list at cursor = todo cursor
 
 module _ (s : tie.Start invariant-loop decreases-loop) where
@@ -29,83 +29,83 @@ module _ (s : tie.Start invariant-loop decreases-loop) where
   B = board_of s.args.bytes.now
 
 -- a piece was met
-module _ (p : tie.After-piece invariant-loop decreases-loop) where
+module _ (p : tie.In-Met invariant-loop decreases-loop) where
   abbrev s : tie.Start invariant-loop decreases-loop
-  s = p.before.before.before.before.before.before.before.before
+  s = p.before.before.before.before.before.before.before
 
-  met : Meets (context_of (B s)) s.args.rules.now p.before.before.before.loop.cursor p.piece.given.0.0 p.piece.given.0.1.0
-  met = meets _ _ _ (p.before.before.next-piece.ensures _ p.before.before.before.loop.inv.0) p.piece.given.1
+  met : Meets (context_of (B s)) s.args.rules.now p.loop-piece.cursor p.in-Met.piece p.in-Met.next
+  met = meets _ _ _ (p.next_piece.ensures _ p.loop-piece.invariant.0) p.in-Met.is
 
-  its-room : p.before.before.before.loop.at + length (piece_numbers (B s) (said_piece s.args.rules.now p.piece.given.0.0)) ≤ length p.before.before.before.loop.list
-  its-room = room_for p.before.before.before.loop.inv.1 (piece_numbers (B s) (said_piece s.args.rules.now p.piece.given.0.0)) (pieces_numbers (B s) (coming_at s.args.rules.now p.piece.given.0.1.0)) (numbers_met (B s) met)
+  its-room : p.loop-piece.at + length (piece_numbers (B s) (said_piece s.args.rules.now p.in-Met.piece)) ≤ length p.loop-piece.list
+  its-room = room_for p.loop-piece.invariant.1 (piece_numbers (B s) (said_piece s.args.rules.now p.in-Met.piece)) (pieces_numbers (B s) (coming_at s.args.rules.now p.in-Met.next)) (numbers_met (B s) met)
 
-start-requires : tie.Need-start-requires invariant-loop decreases-loop
+start-requires : tie.Need-start-cursor-requires invariant-loop decreases-loop
 start-requires c κs = search rules
 
-loop-holds : tie.Need-loop-init invariant-loop decreases-loop
+loop-holds : tie.Need-loop-piece-init invariant-loop decreases-loop
 loop-holds c =
     let s = c.before.before.before.before in
-    rw c.start.ensures (starts s.requires.0 s.requires.2, begin _ _ _ (ap (pieces_numbers (B s)) (all-coming s.requires.0 s.requires.2)) s.requires.4)
+    rw c.start-cursor.ensures (starts s.requires.0 s.requires.2, begin _ _ _ (ap (pieces_numbers (B s)) (all-coming s.requires.0 s.requires.2)) s.requires.4)
 
-next-piece-requires : tie.Need-next-piece-requires invariant-loop decreases-loop
-next-piece-requires c κs = (_, c.loop.invariant.0)
+next-piece-requires : tie.Need-next_piece-requires invariant-loop decreases-loop
+next-piece-requires c κs = (_, c.loop-piece.invariant.0)
 
-enum-known-piece : tie.Need-enum-known-piece invariant-loop decreases-loop
+enum-known-piece : tie.Need-enum_known-piece invariant-loop decreases-loop
 enum-known-piece c = search rules
 
-enum_told : tie.Need-enum-told invariant-loop decreases-loop
+enum_told : tie.Need-enum_told-1 invariant-loop decreases-loop
 enum_told c = search rules
 
-same_length : tie.Need-same-length invariant-loop decreases-loop
-same_length c = c.before.before.before.loop.invariant.1.long
+same_length : tie.Need-shape_of-list-in_default invariant-loop decreases-loop
+same_length c = c.loop-piece.invariant.1.long
 
-returns : tie.Need-returns invariant-loop decreases-loop
+returns : tie.Need-returns-in_default invariant-loop decreases-loop
 returns c =
-    let s = c.before.before.before.before.before.before.before.before in
-    let here = c.before.before.before.loop in
-    ended here.invariant.1 (ap (pieces_numbers (B s)) (ends _ _ _ (c.before.before.next-piece.ensures _ here.invariant.0) c.enum_told.given.1) ∙ pieces_end (B s))
+    let s = c.before.before.before.before.before.before.before in
+    let here = c.loop-piece in
+    ended here.invariant.1 (ap (pieces_numbers (B s)) (ends _ _ _ (c.next_piece.ensures _ here.invariant.0) c.in_default.is) ∙ pieces_end (B s))
 
-mul-put-piece : tie.Need-overflow-mul-put-piece invariant-loop decreases-loop
+mul-put-piece : tie.Need-offset_bounds-list-at invariant-loop decreases-loop
 mul-put-piece c =
-    let here = c.before.before.before.before.loop in
-    let h : here.at ≤ length (s c.before).args.list.now = omega (arith, room_before here.invariant.1) in search rules
+    let here = c.loop-piece in
+    let h : here.at ≤ length (s c).args.list.now = omega (arith, room_before here.invariant.1) in search rules
 
-sub-put-piece : tie.Need-overflow-sub-put-piece invariant-loop decreases-loop
+sub-put-piece : tie.Need-slice_bounds-put_piece-count invariant-loop decreases-loop
 sub-put-piece c =
-    omega (arith, room c.before.before.before.before.loop.invariant.1)
+    omega (arith, room c.loop-piece.invariant.1)
 
-part-put-piece-start : tie.Need-slice-bounds-put-piece-start invariant-loop decreases-loop
+part-put-piece-start : tie.Need-slice_bounds-put_piece-start invariant-loop decreases-loop
 part-put-piece-start c =
-    let here = c.before.before.before.before.loop in
+    let here = c.loop-piece in
     let h : here.at ≤ length here.list = omega (arith, room here.invariant.1) in search rules
 
-part-put-piece-end : tie.Need-slice-bounds-put-piece-end invariant-loop decreases-loop
+part-put-piece-end : tie.Need-slice_bounds-put_piece-end invariant-loop decreases-loop
 part-put-piece-end c = search rules
 
-put-piece-requires : tie.Need-put-piece-requires invariant-loop decreases-loop
+put-piece-requires : tie.Need-put_piece-at-requires invariant-loop decreases-loop
 put-piece-requires c κs =
-    let p = c.before.before in
+    let p = c.before in
     let q = (s p).requires in
-    let here = p.before.before.before.loop in
+    let here = p.loop-piece in
     (q.0, q.1, q.3, (met p).held, (met p).few, omega (arith, rest-length here.list here.at, its-room p))
 
-add_at : tie.Need-overflow-add-at invariant-loop decreases-loop
+add_at : tie.Need-overflow_add-at invariant-loop decreases-loop
 add_at c =
-    let p = c.before.before.before.before in
-    let here = p.before.before.before.loop in
-    let h : here.at + c.before.put-piece.result ≤ length (s p).args.list.now = omega (arith, c.before.put-piece.ensures.0, here.invariant.1.long, its-room p) in
-    search (rules, (s p).well-formed.1.1.1.1.1.0)
+    let p = c.before.before.before in
+    let here = p.loop-piece in
+    let h : here.at + c.put_piece-at.result ≤ length (s p).args.list.now = omega (arith, c.put_piece-at.ensures.0, here.invariant.1.long, its-room p) in
+    search (rules, (s p).well_formed.1.1.1.1.1.0)
 
-loop-less : tie.Need-loop-smaller invariant-loop decreases-loop
-loop-less c = (met c.before.before.before.before).onward.less
+loop-less : tie.Need-loop-piece-smaller invariant-loop decreases-loop
+loop-less c = (met c.before.before.before).onward.less
 
-loop-again : tie.Need-loop-preserved invariant-loop decreases-loop
+loop-again : tie.Need-loop-piece-preserved invariant-loop decreases-loop
 loop-again c =
-    let p = c.before.before.before.before in
-    ((met p).onward.sound, part p.before.before.before.loop.invariant.1 _ _ (numbers_met (B (s p)) (met p)) _ _ c.before.put-piece.ensures.0 c.before.put-piece.ensures.1)
+    let p = c.before.before.before in
+    ((met p).onward.sound, part p.loop-piece.invariant.1 _ _ (numbers_met (B (s p)) (met p)) _ _ c.put_piece-at.ensures.0 c.put_piece-at.ensures.1)
 
-pub put-pieces-spec : {M : Type 1} → statement M
-put-pieces-spec =
+pub put_pieces_spec : {M : Type 1} → statement M
+put_pieces_spec =
     tie.close
     (tie.spec
     invariant-loop

@@ -8,64 +8,64 @@ use borrow.Author.Rules.{rules}
 use Rattle.write_text.proofs.entries.add_entry.Statement.{statement}
 use Rattle.write_text.proofs.entries.add_entry.Tie as tie
 
-entry-length-requires : tie.Need-entry-length-requires
+entry-length-requires : tie.Need-entry_length-requires
 entry-length-requires c κs = search rules
 
-add-next : tie.Need-overflow-add-next
+add-next : tie.Need-overflow_add-next
 add-next c =
     let s = c.before.before in
     let f = s.ranges.number in
     let e = simp to_z-of_z at c.entry_length.ensures in
     omega (arith, e, s.requires)
 
-returns : tie.Need-returns
+returns : tie.Need-returns-then-out-next
 returns c =
     let s = c.before.before.before in
     let f = s.ranges.number in
-    let e = simp to_z-of_z at c.before.entry_length.ensures in
-    no_room (entry s.args.number) _ _ _ e c.if1.true
+    let e = simp to_z-of_z at c.entry_length.ensures in
+    no_room (entry s.args.number) _ _ _ e c.if-out-next.true
 
-sub-put-entry : tie.Need-overflow-sub-put-entry
-sub-put-entry c = omega (arith, c.if1.false)
+sub-put-entry : tie.Need-slice_bounds-put_entry-count
+sub-put-entry c = omega (arith, c.if-out-next.false)
 
-part-put-entry-start : tie.Need-slice-bounds-put-entry-start
-part-put-entry-start c = omega (arith, c.if1.false)
+part-put-entry-start : tie.Need-slice_bounds-put_entry-start
+part-put-entry-start c = omega (arith, c.if-out-next.false)
 
-part-put-entry-end : tie.Need-slice-bounds-put-entry-end
+part-put-entry-end : tie.Need-slice_bounds-put_entry-end
 part-put-entry-end c = search rules
 
-put-entry-requires : tie.Need-put-entry-requires
+put-entry-requires : tie.Need-put_entry-requires
 put-entry-requires c κs =
     let s = c.before.before.before.before in
     let f = s.ranges.number in
-    let e = simp to_z-of_z at c.before.before.entry_length.ensures in
-    simp to_z-of_z (omega (arith, e, c.before.if1.false, rest-length s.args.out.now s.args.at))
+    let e = simp to_z-of_z at c.entry_length.ensures in
+    simp to_z-of_z (omega (arith, e, c.if-out-next.false, rest-length s.args.out.now s.args.at))
 
-add-result : tie.Need-overflow-add-result
+add-result : tie.Need-overflow_add-result
 add-result c =
     let s = c.before.before.before.before.before.before.before in
     let f = s.ranges.number in
-    let e = simp to_z-of_z at c.before.before.put-entry.ensures.0 in
+    let e = simp to_z-of_z at c.put_entry.ensures.0 in
     omega (arith, e, s.requires)
 
-same_length : tie.Need-same-length
+same_length : tie.Need-shape_of-out
 same_length c =
     let s = c.before.before.before.before.before.before.before in
     let f = s.ranges.number in
-    let e = simp to_z-of_z at c.before.before.before.before.before.entry_length.ensures in
-    let p = simp to_z-of_z at c.before.before.put-entry.ensures in
-    (put (entry s.args.number) s.args.at s.args.out.now _ _ (omega (arith, e, c.before.before.before.before.if1.false)) p.0 p.1).long
+    let e = simp to_z-of_z at c.entry_length.ensures in
+    let p = simp to_z-of_z at c.put_entry.ensures in
+    (put (entry s.args.number) s.args.at s.args.out.now _ _ (omega (arith, e, c.if-out-next.false)) p.0 p.1).long
 
-returns-2 : tie.Need-returns-2
+returns-2 : tie.Need-returns
 returns-2 c =
     let s = c.before.before.before.before.before.before.before in
     let f = s.ranges.number in
-    let e = simp to_z-of_z at c.before.before.before.before.before.entry_length.ensures in
-    let p = simp to_z-of_z at c.before.before.put-entry.ensures in
-    put (entry s.args.number) s.args.at s.args.out.now _ _ (omega (arith, e, c.before.before.before.before.if1.false)) p.0 p.1
+    let e = simp to_z-of_z at c.entry_length.ensures in
+    let p = simp to_z-of_z at c.put_entry.ensures in
+    put (entry s.args.number) s.args.at s.args.out.now _ _ (omega (arith, e, c.if-out-next.false)) p.0 p.1
 
-pub add-entry-spec : {M : Type 1} → statement M
-add-entry-spec =
+pub add_entry_spec : {M : Type 1} → statement M
+add_entry_spec =
     tie.close
     (tie.spec
     entry-length-requires

@@ -4,22 +4,20 @@ use lib.Seq.{length-take-le}
 use Rattle.write_text.proofs.entries.add_first.Statement.{statement}
 use Rattle.write_text.proofs.entries.add_first.Tie as tie
 
-slice-aggregate-add-entries : tie.Need-slice-aggregate-add-entries
+slice-aggregate-add-entries : tie.Need-slice_bounds-add_entries-end
 slice-aggregate-add-entries c =
-    let s = c.before.before in
-    sym (length-take-le s.args.n s.args.list.now s.requires.0)
+    sym (length-take-le c.args.n c.args.list.now c.requires.0)
 
-add-entries-requires : tie.Need-add-entries-requires
+add-entries-requires : tie.Need-add_entries-requires
 add-entries-requires c κs =
-    let s = c.before.before.before in
-    s.requires.1
+    c.requires.1
 
-same_length : tie.Need-same-length
-same_length c = c.before.before.add-entries.ensures.long
+same_length : tie.Need-shape_of-out
+same_length c = c.add_entries.ensures.long
 
 returns : tie.Need-returns
-returns c = c.before.before.add-entries.ensures
+returns c = c.add_entries.ensures
 
-pub add-first-spec : {M : Type 1} → statement M
-add-first-spec =
+pub add_first_spec : {M : Type 1} → statement M
+add_first_spec =
     tie.close (tie.spec slice-aggregate-add-entries add-entries-requires same_length returns)

@@ -15,40 +15,40 @@ magnitude-requires c κs = search rules
 digits-requires : tie.Need-digits-requires
 digits-requires c κs = search rules
 
-add-result : tie.Need-overflow-add-result
+add-result : tie.Need-overflow_add-result
 add-result c =
-    omega (arith, c.digits.ensures, digits-length 19 c.before.magnitude.result)
+    omega (arith, c.digits.ensures, digits-length 19 c.magnitude.result)
 
-returns : tie.Need-returns
+returns : tie.Need-returns-then-number-gt0
 returns c =
     let s = c.before.before.before in
     let f = s.ranges.number in
-    omega (arith, c.digits.ensures, length_above s.args.number c.before.magnitude.result (simp to_z-of_z at c.before.magnitude.ensures) (omega (whole, back f)))
+    omega (arith, c.digits.ensures, length_above s.args.number c.magnitude.result (simp to_z-of_z at c.magnitude.ensures) (omega (whole, back f)))
 
-magnitude-requires-2 : tie.Need-magnitude-requires-2
+magnitude-requires-2 : tie.Need-magnitude-requires-then-number-lt0
 magnitude-requires-2 c κs = search rules
 
-digits-requires-2 : tie.Need-digits-requires-2
+digits-requires-2 : tie.Need-digits-requires-then-number-lt0
 digits-requires-2 c κs = search rules
 
-add-result-2 : tie.Need-overflow-add-result-2
+add-result-2 : tie.Need-overflow_add-result-then-number-lt0
 add-result-2 c =
-    omega (arith, c.digits2.ensures, digits-length 19 c.before.magnitude2.result)
+    omega (arith, c.digits-then-number-lt0.ensures, digits-length 19 c.magnitude-then-number-lt0.result)
 
-returns-2 : tie.Need-returns-2
+returns-2 : tie.Need-returns-then-number-lt0
 returns-2 c =
     let s = c.before.before.before.before in
     let f = s.ranges.number in
-    omega (arith, c.digits2.ensures, length-below s.args.number c.before.magnitude2.result (simp to_z-of_z at c.before.magnitude2.ensures) (omega (whole, back f)))
+    omega (arith, c.digits-then-number-lt0.ensures, length-below s.args.number c.magnitude-then-number-lt0.result (simp to_z-of_z at c.magnitude-then-number-lt0.ensures) (omega (whole, back f)))
 
-returns-3 : tie.Need-returns-3
+returns-3 : tie.Need-returns
 returns-3 c =
     let s = c.before.before in
     let f = s.ranges.number in
     sym (length_zero s.args.number (omega (whole, back f)) (omega (whole, back f)))
 
-pub entry-length-spec : {M : Type 1} → statement M
-entry-length-spec =
+pub entry_length_spec : {M : Type 1} → statement M
+entry_length_spec =
     tie.close
     (tie.spec
     magnitude-requires

@@ -9,52 +9,45 @@ use borrow.Author.Rules.{rules}
 use Rattle.write_text.proofs.head.add_bytes.Statement.{statement}
 use Rattle.write_text.proofs.head.add_bytes.Tie as tie
 
-add-next : tie.Need-overflow-add-next
+add-next : tie.Need-overflow_add-next
 add-next c =
-    let s = c.before.before in
-    omega (arith, s.requires.1, length-take-le s.args.n s.args.bytes.now s.requires.0)
+    omega (arith, c.requires.1, length-take-le c.args.n c.args.bytes.now c.requires.0)
 
-returns : tie.Need-returns
+returns : tie.Need-returns-then-out-next
 returns c =
-    let s = c.before.before.before in
-    no_room (take s.args.n s.args.bytes.now) s.args.at s.args.out.now s.args.n (sym (length-take-le s.args.n s.args.bytes.now s.requires.0)) c.if1.true
+    no_room (take c.args.n c.args.bytes.now) c.args.at c.args.out.now c.args.n (sym (length-take-le c.args.n c.args.bytes.now c.requires.0)) c.if-out-next.true
 
-slice-aggregate-put-word : tie.Need-slice-aggregate-put-word
+slice-aggregate-put-word : tie.Need-slice_bounds-put_word-end
 slice-aggregate-put-word c =
-    let s = c.before.before.before.before in
-    sym (length-take-le s.args.n s.args.bytes.now s.requires.0)
+    sym (length-take-le c.args.n c.args.bytes.now c.requires.0)
 
-sub-put-word : tie.Need-overflow-sub-put-word
-sub-put-word c = omega (arith, c.before.if1.false)
+sub-put-word : tie.Need-slice_bounds-put_word-count
+sub-put-word c = omega (arith, c.if-out-next.false)
 
-part-put-word-start : tie.Need-slice-bounds-put-word-start
-part-put-word-start c = omega (arith, c.before.if1.false)
+part-put-word-start : tie.Need-slice_bounds-put_word-start
+part-put-word-start c = omega (arith, c.if-out-next.false)
 
-part-put-word-end : tie.Need-slice-bounds-put-word-end
+part-put-word-end : tie.Need-slice_bounds-put_word-end-2
 part-put-word-end c = search rules
 
-put-word-requires : tie.Need-put-word-requires
+put-word-requires : tie.Need-put_word-requires
 put-word-requires c κs =
-    let s = c.before.before.before.before.before in
-    omega (arith, c.before.before.if1.false, rest-length s.args.out.now s.args.at, length-take-le s.args.n s.args.bytes.now s.requires.0)
+    omega (arith, c.if-out-next.false, rest-length c.args.out.now c.args.at, length-take-le c.args.n c.args.bytes.now c.requires.0)
 
-add-result : tie.Need-overflow-add-result
+add-result : tie.Need-overflow_add-result
 add-result c =
-    let s = c.before.before.before.before.before.before.before.before in
-    omega (arith, c.before.before.put_word.ensures.0, s.requires.1)
+    omega (arith, c.put_word.ensures.0, c.requires.1)
 
-same_length : tie.Need-same-length
+same_length : tie.Need-shape_of-out
 same_length c =
-    let s = c.before.before.before.before.before.before.before.before in
-    (put (take s.args.n s.args.bytes.now) s.args.at s.args.out.now _ _ (omega (arith, c.before.before.before.before.before.if1.false, length-take-le s.args.n s.args.bytes.now s.requires.0)) c.before.before.put_word.ensures.0 c.before.before.put_word.ensures.1).long
+    (put (take c.args.n c.args.bytes.now) c.args.at c.args.out.now _ _ (omega (arith, c.if-out-next.false, length-take-le c.args.n c.args.bytes.now c.requires.0)) c.put_word.ensures.0 c.put_word.ensures.1).long
 
-returns-2 : tie.Need-returns-2
+returns-2 : tie.Need-returns
 returns-2 c =
-    let s = c.before.before.before.before.before.before.before.before in
-    put (take s.args.n s.args.bytes.now) s.args.at s.args.out.now _ _ (omega (arith, c.before.before.before.before.before.if1.false, length-take-le s.args.n s.args.bytes.now s.requires.0)) c.before.before.put_word.ensures.0 c.before.before.put_word.ensures.1
+    put (take c.args.n c.args.bytes.now) c.args.at c.args.out.now _ _ (omega (arith, c.if-out-next.false, length-take-le c.args.n c.args.bytes.now c.requires.0)) c.put_word.ensures.0 c.put_word.ensures.1
 
-pub add-bytes-spec : {M : Type 1} → statement M
-add-bytes-spec =
+pub add_bytes_spec : {M : Type 1} → statement M
+add_bytes_spec =
     tie.close
     (tie.spec
     add-next

@@ -29,148 +29,148 @@ module _ (s : tie.Start) where
   B = board_of s.args.bytes.now
 
   held : {p : Piece} → s.args.piece ≡ p → Held (context_of B) s.args.rules.now p
-  held e = subst (Held (context_of B) s.args.rules.now) e s.pre.3
+  held e = subst (Held (context_of B) s.args.rules.now) e s.requires.3
 
   few : {p : Piece} → s.args.piece ≡ p → s.args.selectors + selectors_to p < numbers_limit
-  few e = few_selectors _ s.pre.0.opens s.pre.2 (subst (λ p. selectors_to p ≤ selectors_limit) e s.pre.4)
+  few e = few_selectors _ s.requires.0.opens s.requires.2 (subst (λ p. selectors_to p ≤ selectors_limit) e s.requires.4)
 
   sound : {p : Piece} → s.args.piece ≡ p → Sound B (said_piece s.args.rules.now p)
-  sound e = subst (λ p. Sound B (said_piece s.args.rules.now p)) e s.pre.5
+  sound e = subst (λ p. Sound B (said_piece s.args.rules.now p)) e s.requires.5
 
   counted : {p : Piece} → s.args.piece ≡ p → Counts s.args.at (entries (piece_numbers B (said_piece s.args.rules.now p)))
-  counted e = subst (λ p. Counts s.args.at (entries (piece_numbers B (said_piece s.args.rules.now p)))) e s.pre.6
+  counted e = subst (λ p. Counts s.args.at (entries (piece_numbers B (said_piece s.args.rules.now p)))) e s.requires.6
 
 -- a line
-module _ (p : tie.After-piece) where
+module _ (p : tie.In-Line) where
   abbrev at-line : tie.Start
-  at-line = p.before.before.before.before.before.before
+  at-line = p.before.before.before.before.before
 
   abbrev selector : ℕ
-  selector = p.piece.given.0.1.1.0
+  selector = p.in-Line.selector
 
   abbrev literals : Clause
-  literals = (literals_at at-line.args.rules.now p.piece.given.0.1.0 p.piece.given.0.0).value
+  literals = (literals_at at-line.args.rules.now p.in-Line.literals p.in-Line.place).value
 
   line_same : line_numbers (at-line.args.selectors + selector) literals ≡ piece_numbers (B at-line) (line selector literals)
-  line_same = line-numbers (B at-line) at-line.args.selectors at-line.pre.2 selector literals
+  line_same = line-numbers (B at-line) at-line.args.selectors at-line.requires.2 selector literals
 
 -- a comparison alone
-module _ (p : tie.After-piece2) where
+module _ (p : tie.In-Lone) where
   abbrev at-lone : tie.Start
-  at-lone = p.before.before.before.before.before.before
+  at-lone = p.before.before.before.before.before
 
-  lone : Stands (length (B at-lone).bounds) at-lone.args.rules.now p.piece2.given.0.0 p.piece2.given.0.1.0
-  lone = held at-lone p.piece2.given.1
+  lone : Stands (length (B at-lone).bounds) at-lone.args.rules.now p.in-Lone.place p.in-Lone.constant
+  lone = held at-lone p.in-Lone.is
 
 module _ (r : tie.After-ready) where
-  abbrev lone-piece : tie.After-piece2
-  lone-piece = r.before.before
+  abbrev lone-piece : tie.In-Lone
+  lone-piece = r.before
 
-  lone-ready : ReadyFor (B (at-lone lone-piece)) (comparison_at (at-lone lone-piece).args.rules.now lone-piece.piece2.given.0.0 lone-piece.piece2.given.0.1.0) r.ready.result
-  lone-ready = is_ready _ (at-lone lone-piece).pre.0.opens (at-lone lone-piece).args.firsts.now (at-lone lone-piece).pre.1 (lone lone-piece) r.ready.ensures
+  lone-ready : ReadyFor (B (at-lone lone-piece)) (comparison_at (at-lone lone-piece).args.rules.now lone-piece.in-Lone.place lone-piece.in-Lone.constant) r.ready.result
+  lone-ready = is_ready _ (at-lone lone-piece).requires.0.opens (at-lone lone-piece).args.firsts.now (at-lone lone-piece).requires.1 (lone lone-piece) r.ready.ensures
 
 -- a comparison under its selector
-module _ (p : tie.After-piece3) where
+module _ (p : tie.In-Led) where
   abbrev at-led : tie.Start
-  at-led = p.before.before.before.before.before.before
+  at-led = p.before.before.before.before.before
 
-  led : Stands (length (B at-led).bounds) at-led.args.rules.now p.piece3.given.0.1.0 p.piece3.given.0.1.1.0
-  led = held at-led p.piece3.given.1
+  led : Stands (length (B at-led).bounds) at-led.args.rules.now p.in-Led.place p.in-Led.constant
+  led = held at-led p.in-Led.is
 
-  led-few : at-led.args.selectors + (p.piece3.given.0.0 + 1) < numbers_limit
-  led-few = few at-led p.piece3.given.1
+  led-few : at-led.args.selectors + (p.in-Led.selector + 1) < numbers_limit
+  led-few = few at-led p.in-Led.is
 
-module _ (r : tie.After-ready2) where
-  abbrev led-piece : tie.After-piece3
-  led-piece = r.before.before
+module _ (r : tie.After-ready-in-Led) where
+  abbrev led-piece : tie.In-Led
+  led-piece = r.before
 
-  led-ready : ReadyFor (B (at-led led-piece)) (comparison_at (at-led led-piece).args.rules.now led-piece.piece3.given.0.1.0 led-piece.piece3.given.0.1.1.0) r.ready2.result
-  led-ready = is_ready _ (at-led led-piece).pre.0.opens (at-led led-piece).args.firsts.now (at-led led-piece).pre.1 (led led-piece) r.ready2.ensures
+  led-ready : ReadyFor (B (at-led led-piece)) (comparison_at (at-led led-piece).args.rules.now led-piece.in-Led.place led-piece.in-Led.constant) r.ready-in-Led.result
+  led-ready = is_ready _ (at-led led-piece).requires.0.opens (at-led led-piece).args.firsts.now (at-led led-piece).requires.1 (led led-piece) r.ready-in-Led.ensures
 
-enum-known-piece : tie.Need-enum-known-piece
+enum-known-piece : tie.Need-enum_known-piece
 enum-known-piece c = search rules
 
-cast-add-line : tie.Need-overflow-cast-add-line
-cast-add-line c = let p = c.before in omega (arith, few (at-line p) p.piece.given.1)
+cast-add-line : tie.Need-overflow_cast-selector
+cast-add-line c = omega (arith, few (at-line c) c.in-Line.is)
 
-add-add-line : tie.Need-overflow-add-add-line
-add-add-line c = let p = c.before in omega (arith, few (at-line p) p.piece.given.1)
+add-add-line : tie.Need-overflow_add-selectors
+add-add-line c = omega (arith, few (at-line c) c.in-Line.is)
 
-add-line-requires : tie.Need-add-line-requires
+add-line-requires : tie.Need-add_line-requires
 add-line-requires c κs =
-    let p = c.before.before in
+    let p = c.before in
     let s = at-line p in
-    let e = p.piece.given.1 in
-    (line_read _ s.pre.0.opens (held s e), omega (arith, few s e), omega (arith, ap length (line_same p), line_few (B s) (selector p) (literals p) (sound s e).0), omega (arith, ap (λ l. length (entries l)) (line_same p), counted s e))
+    let e = p.in-Line.is in
+    (line_read _ s.requires.0.opens (held s e), omega (arith, few s e), omega (arith, ap length (line_same p), line_few (B s) (selector p) (literals p) (sound s e).0), omega (arith, ap (λ l. length (entries l)) (line_same p), counted s e))
 
-enum-known-piece-2 : tie.Need-enum-known-piece-2
+enum-known-piece-2 : tie.Need-enum_known-piece-in-Lone-1
 enum-known-piece-2 c = search rules
 
 ready-requires : tie.Need-ready-requires
-ready-requires c κs = let s = at-lone c.before in to_ready _ s.pre.0.opens s.args.firsts.now s.pre.1 (lone c.before)
+ready-requires c κs = let s = at-lone c in to_ready _ s.requires.0.opens s.args.firsts.now s.requires.1 (lone c)
 
-add-comparison-requires : tie.Need-add-comparison-requires
+add-comparison-requires : tie.Need-add_comparison-requires
 add-comparison-requires c κs =
     let r = lone-ready c.before in
     let p = lone-piece c.before in
-    (r.fair, omega (arith, ap (λ l. length (entries l)) (lone-numbers (B (at-lone p)) _ _ r.shows), counted (at-lone p) p.piece2.given.1))
+    (r.fair, omega (arith, ap (λ l. length (entries l)) (lone-numbers (B (at-lone p)) _ _ r.shows), counted (at-lone p) p.in-Lone.is))
 
-enum-known-piece-3 : tie.Need-enum-known-piece-3
+enum-known-piece-3 : tie.Need-enum_known-piece-in-Led-1
 enum-known-piece-3 c = search rules
 
-cast-number : tie.Need-overflow-cast-number
-cast-number c = omega (arith, led-few c.before)
+cast-number : tie.Need-overflow_cast-number
+cast-number c = omega (arith, led-few c)
 
-add-number : tie.Need-overflow-add-number
-add-number c = omega (arith, led-few c.before)
+add-number : tie.Need-overflow_add-number
+add-number c = omega (arith, led-few c)
 
-cast-negated : tie.Need-overflow-cast-negated
-cast-negated c = omega (arith, led-few c.before)
+cast-negated : tie.Need-overflow_cast-negated
+cast-negated c = omega (arith, led-few c)
 
-sub-negated : tie.Need-overflow-sub-negated
-sub-negated c = let p = c.before in minus_fits ((at-led p).args.selectors + p.piece3.given.0.0) (omega (arith, led-few p))
+sub-negated : tie.Need-overflow_sub-negated
+sub-negated c = minus_fits ((at-led c).args.selectors + c.in-Led.selector) (omega (arith, led-few c))
 
-ready-requires-2 : tie.Need-ready-requires-2
-ready-requires-2 c κs = let s = at-led c.before in to_ready _ s.pre.0.opens s.args.firsts.now s.pre.1 (led c.before)
+ready-requires-2 : tie.Need-ready-requires-in-Led
+ready-requires-2 c κs = let s = at-led c in to_ready _ s.requires.0.opens s.args.firsts.now s.requires.1 (led c)
 
-add-comparison-requires-2 : tie.Need-add-comparison-requires-2
+add-comparison-requires-2 : tie.Need-add_comparison-requires-in-Led
 add-comparison-requires-2 c κs =
     let r = led-ready c.before in
     let p = led-piece c.before in
     let s = at-led p in
-    let j = p.piece3.given.0.0 in
-    (r.fair, rw (minus_is (s.args.selectors + j) (omega (arith, led-few p))) (omega (arith, ap (λ l. length (entries l)) (led-numbers (B s) s.args.selectors s.pre.2 j _ _ r.shows), counted s p.piece3.given.1)))
+    let j = p.in-Led.selector in
+    (r.fair, rw (minus_is (s.args.selectors + j) (omega (arith, led-few p))) (omega (arith, ap (λ l. length (entries l)) (led-numbers (B s) s.args.selectors s.requires.2 j _ _ r.shows), counted s p.in-Led.is)))
 
-same_length : tie.Need-same-length
-same_length c = c.before.before.add-line.ensures.long
+same_length : tie.Need-shape_of-out-in-Line
+same_length c = c.add_line.ensures.long
 
-returns : tie.Need-returns
+returns : tie.Need-returns-in-Line
 returns c =
-    let p = c.before.before.before.before.before in
-    rw p.piece.given.1 (retold (ap entries (line_same p)) c.before.before.add-line.ensures)
+    let p = c.before.before.before.before in
+    rw p.in-Line.is (retold (ap entries (line_same p)) c.add_line.ensures)
 
-same-length-2 : tie.Need-same-length-2
-same-length-2 c = c.before.before.add-comparison.ensures.long
+same-length-2 : tie.Need-shape_of-out-in-Lone
+same-length-2 c = c.add_comparison.ensures.long
 
-returns-2 : tie.Need-returns-2
+returns-2 : tie.Need-returns-in-Lone
 returns-2 c =
     let r = c.before.before.before.before in
     let p = lone-piece r in
-    rw p.piece2.given.1 (retold (ap entries (lone-numbers (B (at-lone p)) _ _ (lone-ready r).shows)) c.before.before.add-comparison.ensures)
+    rw p.in-Lone.is (retold (ap entries (lone-numbers (B (at-lone p)) _ _ (lone-ready r).shows)) c.add_comparison.ensures)
 
-same-length-3 : tie.Need-same-length-3
-same-length-3 c = c.before.before.add-comparison2.ensures.long
+same-length-3 : tie.Need-shape_of-out-in-Led
+same-length-3 c = c.add_comparison-in-Led.ensures.long
 
-returns-3 : tie.Need-returns-3
+returns-3 : tie.Need-returns-in-Led
 returns-3 c =
     let r = c.before.before.before.before in
     let p = led-piece r in
     let s = at-led p in
-    let j = p.piece3.given.0.0 in
-    rw p.piece3.given.1 (retold (ap entries (led-numbers (B s) s.args.selectors s.pre.2 j _ _ (led-ready r).shows)) (rw (minus_is (s.args.selectors + j) (omega (arith, led-few p))) at c.before.before.add-comparison2.ensures))
+    let j = p.in-Led.selector in
+    rw p.in-Led.is (retold (ap entries (led-numbers (B s) s.args.selectors s.requires.2 j _ _ (led-ready r).shows)) (rw (minus_is (s.args.selectors + j) (omega (arith, led-few p))) at c.add_comparison-in-Led.ensures))
 
-pub add-piece-spec : {M : Type 1} → statement M
-add-piece-spec =
+pub add_piece_spec : {M : Type 1} → statement M
+add_piece_spec =
     tie.close
     (tie.spec
     enum-known-piece

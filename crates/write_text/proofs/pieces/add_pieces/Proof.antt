@@ -22,11 +22,11 @@ use Rattle.write_text.proofs.Parts.{entries-append, entries-empty, sound_met}
 use Rattle.write_text.proofs.pieces.add_pieces.Statement.{statement}
 use Rattle.write_text.proofs.pieces.add_pieces.Tie as tie
 
-abbrev invariant-loop : tie.invariant-loop
+abbrev invariant-loop : tie.invariant-loop-piece
 invariant-loop bytes firsts rules clauses selectors at out₀ to₀ cursor₀ out to cursor =
     Sound (context_of (board_of bytes)) rules cursor × Adding (entries (pieces_numbers (board_of bytes) (pieces_from 0 (board_of bytes).clauses))) (entries (pieces_numbers (board_of bytes) (coming_at rules cursor))) at out₀ to out × All (mentions.Sound (board_of bytes)) (coming_at rules cursor)
 
-abbrev decreases-loop : tie.decreases-loop
+abbrev decreases-loop : tie.decreases-loop-piece
 decreases-loop bytes firsts rules clauses selectors at out₀ to₀ cursor₀ out to cursor = todo cursor
 
 module _ (s : tie.Start invariant-loop decreases-loop) where
@@ -34,21 +34,21 @@ module _ (s : tie.Start invariant-loop decreases-loop) where
   B = board_of s.args.bytes.now
 
 -- a piece was met: its text, and what is coming behind it
-module _ (p : tie.After-piece invariant-loop decreases-loop) where
+module _ (p : tie.In-Met invariant-loop decreases-loop) where
   abbrev s : tie.Start invariant-loop decreases-loop
-  s = p.before.before.before.before.before.before.before.before.before
+  s = p.before.before.before.before.before.before.before.before
 
   abbrev cursor : Cursor
-  cursor = p.before.before.before.loop.cursor
+  cursor = p.loop-piece.cursor
 
   abbrev piece : Piece
-  piece = p.piece.given.0.0
+  piece = p.in-Met.piece
 
   abbrev next : Cursor
-  next = p.piece.given.0.1.0
+  next = p.in-Met.next
 
   met : Meets (context_of (B s)) s.args.rules.now cursor piece next
-  met = meets _ _ _ (p.before.before.next-piece.ensures _ p.before.before.before.loop.inv.0) p.piece.given.1
+  met = meets _ _ _ (p.next_piece.ensures _ p.loop-piece.invariant.0) p.in-Met.is
 
   abbrev here : List ℤ
   here = piece_numbers (B s) (said_piece s.args.rules.now piece)
@@ -60,52 +60,51 @@ module _ (p : tie.After-piece invariant-loop decreases-loop) where
   text-next = ap entries (numbers_met (B s) met) ∙ entries-append here later
 
   sound : mentions.Sound (B s) (said_piece s.args.rules.now piece) × All (mentions.Sound (B s)) (coming_at s.args.rules.now next)
-  sound = sound_met (B s) met p.before.before.before.loop.inv.2
+  sound = sound_met (B s) met p.loop-piece.invariant.2
 
-start-requires : tie.Need-start-requires invariant-loop decreases-loop
+start-requires : tie.Need-start-cursor-requires invariant-loop decreases-loop
 start-requires c κs = search rules
 
-loop-holds : tie.Need-loop-init invariant-loop decreases-loop
+loop-holds : tie.Need-loop-piece-init invariant-loop decreases-loop
 loop-holds c =
     let s = c.before.before.before.before.before in
     let k = s.requires.0 in
     let all = all-coming k s.requires.2 in
-    rw c.start.ensures (starts k s.requires.2, begin _ _ (ap (λ ps. entries (pieces_numbers (B s) ps)) all), subst (All (mentions.Sound (B s))) (sym all) (pieces_sound (B s) (opens_admitted _ k.opens)))
+    rw c.start-cursor.ensures (starts k s.requires.2, begin _ _ (ap (λ ps. entries (pieces_numbers (B s) ps)) all), subst (All (mentions.Sound (B s))) (sym all) (pieces_sound (B s) (opens_admitted _ k.opens)))
 
-next-piece-requires : tie.Need-next-piece-requires invariant-loop decreases-loop
-next-piece-requires c κs = (_, c.loop.invariant.0)
+next-piece-requires : tie.Need-next_piece-requires invariant-loop decreases-loop
+next-piece-requires c κs = (_, c.loop-piece.invariant.0)
 
-enum-known-piece : tie.Need-enum-known-piece invariant-loop decreases-loop
+enum-known-piece : tie.Need-enum_known-piece invariant-loop decreases-loop
 enum-known-piece c = search rules
 
-enum_told : tie.Need-enum-told invariant-loop decreases-loop
+enum_told : tie.Need-enum_told-1 invariant-loop decreases-loop
 enum_told c = search rules
 
-same_length : tie.Need-same-length invariant-loop decreases-loop
-same_length c = c.before.before.before.loop.invariant.1.added.long
+same_length : tie.Need-shape_of-out-in_default invariant-loop decreases-loop
+same_length c = c.loop-piece.invariant.1.added.long
 
-returns : tie.Need-returns invariant-loop decreases-loop
+returns : tie.Need-returns-in_default invariant-loop decreases-loop
 returns c =
-    let s = c.before.before.before.before.before.before.before.before.before in
-    let here = c.before.before.before.loop in
-    ended here.invariant.1 (ap entries (ap (pieces_numbers (B s)) (ends _ _ _ (c.before.before.next-piece.ensures _ here.invariant.0) c.enum_told.given.1) ∙ pieces_end (B s)) ∙ entries-empty)
+    let here = c.loop-piece in
+    ended here.invariant.1 (ap entries (ap (pieces_numbers (board_of c.args.bytes.now)) (ends _ _ _ (c.next_piece.ensures _ here.invariant.0) c.in_default.is) ∙ pieces_end (board_of c.args.bytes.now)) ∙ entries-empty)
 
-add-piece-requires : tie.Need-add-piece-requires invariant-loop decreases-loop
+add-piece-requires : tie.Need-add_piece-to-requires invariant-loop decreases-loop
 add-piece-requires c κs =
-    let p = c.before.before in
+    let p = c.before in
     let q = (s p).requires in
-    (q.0, q.1, q.3, (met p).held, (met p).few, (sound p).0, counts_first p.before.before.before.loop.invariant.1 (entries (here p)) (entries (later p)) (text-next p) q.4)
+    (q.0, q.1, q.3, (met p).held, (met p).few, (sound p).0, counts_first p.loop-piece.invariant.1 (entries (here p)) (entries (later p)) (text-next p) q.4)
 
-loop-less : tie.Need-loop-smaller invariant-loop decreases-loop
-loop-less c = (met c.before.before.before.before.before).onward.less
+loop-less : tie.Need-loop-piece-smaller invariant-loop decreases-loop
+loop-less c = (met c.before.before.before.before).onward.less
 
-loop-again : tie.Need-loop-preserved invariant-loop decreases-loop
+loop-again : tie.Need-loop-piece-preserved invariant-loop decreases-loop
 loop-again c =
-    let p = c.before.before.before.before.before in
-    ((met p).onward.sound, on p.before.before.before.loop.invariant.1 (entries (here p)) (entries (later p)) (text-next p) c.before.before.add-piece.ensures, (sound p).1)
+    let p = c.before.before.before.before in
+    ((met p).onward.sound, on p.loop-piece.invariant.1 (entries (here p)) (entries (later p)) (text-next p) c.add_piece-to.ensures, (sound p).1)
 
-pub add-pieces-spec : {M : Type 1} → statement M
-add-pieces-spec =
+pub add_pieces_spec : {M : Type 1} → statement M
+add_pieces_spec =
     tie.close
     (tie.spec
     invariant-loop

@@ -21,24 +21,24 @@ module _ (s : tie.Start) where
   second = entries (clause (to_z w32 (of_z w32 s.args.y) ∷ to_z w32 (of_z w32 s.args.z) ∷ []))
 
   parts : entries (clause (stays s.args.lead s.args.front ++ (s.args.y ∷ s.args.z ∷ []))) ≡ first ++ second
-  parts = rw (to_z-of_z s.fits.y, to_z-of_z s.fits.z) (fixed-text (stays s.args.lead s.args.front) (s.args.y ∷ s.args.z ∷ []))
+  parts = rw (to_z-of_z s.ranges.y, to_z-of_z s.ranges.z) (fixed-text (stays s.args.lead s.args.front) (s.args.y ∷ s.args.z ∷ []))
 
-add-fixed-requires : tie.Need-add-fixed-requires
+add-fixed-requires : tie.Need-add_fixed-place-requires
 add-fixed-requires c κs = let s = c.before.before in first_counts s.args.at s.requires (first s) (second s) (parts s)
 
-add-pair-requires : tie.Need-add-pair-requires
+add-pair-requires : tie.Need-add_pair-requires
 add-pair-requires c κs =
     let a = c.before.before.before in
     let s = a.before.before.before in
-    then_counts s.args.at s.requires (first s) (second s) (parts s) a.add-fixed.ensures
+    then_counts s.args.at s.requires (first s) (second s) (parts s) a.add_fixed-place.ensures
 
-same_length : tie.Need-same-length
-same_length c = c.before.before.add-pair.ensures.long ∙ c.before.before.before.before.before.before.add-fixed.ensures.long
+same_length : tie.Need-shape_of-out
+same_length c = c.add_pair.ensures.long ∙ c.add_fixed-place.ensures.long
 
 returns : tie.Need-returns
 returns c =
     let a = c.before.before.before.before.before.before in
-    retold (sym (parts a.before.before.before)) (a.add-fixed.ensures then c.before.before.add-pair.ensures)
+    retold (sym (parts a.before.before.before)) (a.add_fixed-place.ensures then c.add_pair.ensures)
 
-pub add-clause-spec : {M : Type 1} → statement M
-add-clause-spec = tie.close (tie.spec add-fixed-requires add-pair-requires same_length returns)
+pub add_clause_spec : {M : Type 1} → statement M
+add_clause_spec = tie.close (tie.spec add-fixed-requires add-pair-requires same_length returns)

@@ -21,22 +21,22 @@ module _ (s : tie.Start) where
   parts : entries (stays s.args.lead s.args.front) ≡ first ++ second
   parts = entries-append (front_of s.args.lead) (front_of s.args.front)
 
-add-front-requires : tie.Need-add-front-requires
+add-front-requires : tie.Need-add_front-place-requires
 add-front-requires c κs = let s = c.before.before in first_counts s.args.at s.requires (first s) (second s) (parts s)
 
-add-front-requires-2 : tie.Need-add-front-requires-2
+add-front-requires-2 : tie.Need-add_front-requires
 add-front-requires-2 c κs =
     let a = c.before.before.before in
     let s = a.before.before.before in
-    then_counts s.args.at s.requires (first s) (second s) (parts s) a.add-front.ensures
+    then_counts s.args.at s.requires (first s) (second s) (parts s) a.add_front-place.ensures
 
-same_length : tie.Need-same-length
-same_length c = c.before.before.add-front2.ensures.long ∙ c.before.before.before.before.before.before.add-front.ensures.long
+same_length : tie.Need-shape_of-out
+same_length c = c.add_front.ensures.long ∙ c.add_front-place.ensures.long
 
 returns : tie.Need-returns
 returns c =
     let a = c.before.before.before.before.before.before in
-    retold (sym (parts a.before.before.before)) (a.add-front.ensures then c.before.before.add-front2.ensures)
+    retold (sym (parts a.before.before.before)) (a.add_front-place.ensures then c.add_front.ensures)
 
-pub add-fixed-spec : {M : Type 1} → statement M
-add-fixed-spec = tie.close (tie.spec add-front-requires add-front-requires-2 same_length returns)
+pub add_fixed_spec : {M : Type 1} → statement M
+add_fixed_spec = tie.close (tie.spec add-front-requires add-front-requires-2 same_length returns)

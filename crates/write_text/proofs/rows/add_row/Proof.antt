@@ -9,42 +9,37 @@ use Rattle.write_text.specs.Adds.{Counts, retold}
 use Rattle.write_text.proofs.rows.add_row.Statement.{statement}
 use Rattle.write_text.proofs.rows.add_row.Tie as tie
 
-enum-known-row : tie.Need-enum-known-row
+enum-known-row : tie.Need-enum_known-row
 enum-known-row c = search rules
 
-add-short-requires : tie.Need-add-short-requires
+add-short-requires : tie.Need-add_short-requires
 add-short-requires c κs =
-    let r = c.before.before in
-    let s = r.before.before.before in
-    let h = subst (λ row. Counts s.args.at (entries (led s.args.lead (in_row row)))) r.row.given.1 s.requires.1 in
-    subst (λ l. Counts s.args.at (entries l)) (led-single s.args.lead (front_of r.row.given.0.0)) h
+    let s = c.args in
+    let h = subst (λ row. Counts s.at (entries (led s.lead (in_row row)))) c.in-One.is c.requires.1 in
+    subst (λ l. Counts s.at (entries l)) (led-single s.lead (front_of c.in-One.front)) h
 
-enum-known-row-2 : tie.Need-enum-known-row-2
+enum-known-row-2 : tie.Need-enum_known-row-in-Many-1
 enum-known-row-2 c = search rules
 
-add-run-requires : tie.Need-add-run-requires
+add-run-requires : tie.Need-add_run-requires
 add-run-requires c κs =
-    let r = c.before.before in
-    let s = r.before.before.before in
-    (rw r.row2.given.1 at s.requires.0, subst (λ row. Counts s.args.at (entries (led s.args.lead (in_row row)))) r.row2.given.1 s.requires.1)
+    (rw c.in-Many.is at c.requires.0, subst (λ row. Counts c.args.at (entries (led c.args.lead (in_row row)))) c.in-Many.is c.requires.1)
 
-same_length : tie.Need-same-length
-same_length c = c.before.before.add-short.ensures.long
+same_length : tie.Need-shape_of-out-in-One
+same_length c = c.add_short.ensures.long
 
-returns : tie.Need-returns
+returns : tie.Need-returns-in-One
 returns c =
-    let r = c.before.before.before.before.before in
-    let s = r.before.before.before in
-    rw r.row.given.1 (retold (sym (ap entries (led-single s.args.lead (front_of r.row.given.0.0)))) c.before.before.add-short.ensures)
+    rw c.in-One.is (retold (sym (ap entries (led-single c.args.lead (front_of c.in-One.front)))) c.add_short.ensures)
 
-same-length-2 : tie.Need-same-length-2
-same-length-2 c = c.before.before.add-run.ensures.long
+same-length-2 : tie.Need-shape_of-out-in-Many
+same-length-2 c = c.add_run.ensures.long
 
-returns-2 : tie.Need-returns-2
-returns-2 c = rw c.before.before.before.before.before.row2.given.1 c.before.before.add-run.ensures
+returns-2 : tie.Need-returns-in-Many
+returns-2 c = rw c.in-Many.is c.add_run.ensures
 
-pub add-row-spec : {M : Type 1} → statement M
-add-row-spec =
+pub add_row_spec : {M : Type 1} → statement M
+add_row_spec =
     tie.close
     (tie.spec
     enum-known-row

@@ -22,22 +22,22 @@ module _ (s : tie.Start) where
   parts : entries (clause (stays s.args.lead s.args.front)) ≡ first ++ second
   parts = clause-text (stays s.args.lead s.args.front)
 
-add-fixed-requires : tie.Need-add-fixed-requires
+add-fixed-requires : tie.Need-add_fixed-place-requires
 add-fixed-requires c κs = let s = c.before.before in first_counts s.args.at s.requires (first s) (second s) (parts s)
 
-add-entry-requires : tie.Need-add-entry-requires
+add-entry-requires : tie.Need-add_entry-requires
 add-entry-requires c κs =
     let a = c.before.before.before in
     let s = a.before.before.before in
-    then_counts s.args.at s.requires (first s) (second s) (parts s) a.add-fixed.ensures
+    then_counts s.args.at s.requires (first s) (second s) (parts s) a.add_fixed-place.ensures
 
-same_length : tie.Need-same-length
-same_length c = c.before.before.add-entry.ensures.long ∙ c.before.before.before.before.before.before.add-fixed.ensures.long
+same_length : tie.Need-shape_of-out
+same_length c = c.add_entry.ensures.long ∙ c.add_fixed-place.ensures.long
 
 returns : tie.Need-returns
 returns c =
     let a = c.before.before.before.before.before.before in
-    retold (sym (parts a.before.before.before)) (a.add-fixed.ensures then c.before.before.add-entry.ensures)
+    retold (sym (parts a.before.before.before)) (a.add_fixed-place.ensures then c.add_entry.ensures)
 
-pub add-short-spec : {M : Type 1} → statement M
-add-short-spec = tie.close (tie.spec add-fixed-requires add-entry-requires same_length returns)
+pub add_short_spec : {M : Type 1} → statement M
+add_short_spec = tie.close (tie.spec add-fixed-requires add-entry-requires same_length returns)
