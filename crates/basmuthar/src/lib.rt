@@ -1,5 +1,6 @@
-// The operations for callers. C and other languages call the exported functions (include/basmuthar.h says what a caller owes
-// and is given). A crate in Rattle depends on basmuthar and definitions, and calls the operations by their own names.
+// The operations for callers. The functions `basmuthar_..` say an answer in four numbers, as C has it: crate basmuthar_c exports them
+// under their names (include/basmuthar.h says what a caller owes and is given). A crate in Rattle depends on basmuthar and definitions,
+// and calls the operations by their own names.
 ghost use Rattle.std.specs.Prelude.{◌≡◌};
 ghost use Rattle.definitions.specs.Answers.{refusal, said_hour, said_replied, said_sizing, said_texted, said_verdict};
 ghost use Rattle.basmuthar.specs.Interface.{hour_written, hours_written, length_written, reply_written, sizes_written, verdict_written};
@@ -93,22 +94,19 @@ fn reply_written(replied: Replied) -> [u64; 4]
     }
 }
 
-#[unsafe(no_mangle)]
-pub extern "C" fn basmuthar_size(bytes: &[u8], answer: &mut [u64; 4])
+pub fn basmuthar_size(bytes: &[u8], answer: &mut [u64; 4])
     ensures { SizeLeaves bytes.now answer.new }
 {
     *answer = sizes_written(size(bytes));
 }
 
-#[unsafe(no_mangle)]
-pub extern "C" fn basmuthar_compile(bytes: &[u8], list: &mut [i32], answer: &mut [u64; 4])
+pub fn basmuthar_compile(bytes: &[u8], list: &mut [i32], answer: &mut [u64; 4])
     ensures { CompileLeaves bytes.now list.old answer.new list.new }
 {
     *answer = sizes_written(compile(bytes, list));
 }
 
-#[unsafe(no_mangle)]
-pub extern "C" fn basmuthar_decode(
+pub fn basmuthar_decode(
     bytes: &[u8],
     model: &[u8],
     values: &mut [i32],
@@ -120,20 +118,13 @@ pub extern "C" fn basmuthar_decode(
     *answer = verdict_written(decode(bytes, model, values, booleans));
 }
 
-#[unsafe(no_mangle)]
-pub extern "C" fn basmuthar_judge(
-    bytes: &[u8],
-    values: &[i32],
-    booleans: &[u8],
-    answer: &mut [u64; 4],
-)
+pub fn basmuthar_judge(bytes: &[u8], values: &[i32], booleans: &[u8], answer: &mut [u64; 4])
     ensures { JudgeLeaves bytes.now values.now booleans.now answer.new }
 {
     *answer = verdict_written(judge(bytes, values, booleans));
 }
 
-#[unsafe(no_mangle)]
-pub extern "C" fn basmuthar_image(
+pub fn basmuthar_image(
     bytes: &[u8],
     values: &[i32],
     booleans: &[u8],
@@ -145,8 +136,7 @@ pub extern "C" fn basmuthar_image(
     *answer = verdict_written(image(bytes, values, booleans, model));
 }
 
-#[unsafe(no_mangle)]
-pub extern "C" fn basmuthar_closing(
+pub fn basmuthar_closing(
     bytes: &[u8],
     variable: usize,
     replies: &[u8],
@@ -160,22 +150,19 @@ pub extern "C" fn basmuthar_closing(
     *hours = hours_written(hour, *hours);
 }
 
-#[unsafe(no_mangle)]
-pub extern "C" fn basmuthar_write_text(bytes: &[u8], text: &mut [u8], answer: &mut [u64; 4])
+pub fn basmuthar_write_text(bytes: &[u8], text: &mut [u8], answer: &mut [u64; 4])
     ensures { WriteTextLeaves bytes.now text.old answer.new text.new }
 {
     *answer = length_written(write_text(bytes, text));
 }
 
-#[unsafe(no_mangle)]
-pub extern "C" fn basmuthar_read_text(text: &[u8], list: &mut [i32], answer: &mut [u64; 4])
+pub fn basmuthar_read_text(text: &[u8], list: &mut [i32], answer: &mut [u64; 4])
     ensures { ReadTextLeaves text.now list.old answer.new list.new }
 {
     *answer = sizes_written(read_text(text, list));
 }
 
-#[unsafe(no_mangle)]
-pub extern "C" fn basmuthar_read_reply(n: u32, text: &[u8], model: &mut [u8], answer: &mut [u64; 4])
+pub fn basmuthar_read_reply(n: u32, text: &[u8], model: &mut [u8], answer: &mut [u64; 4])
     ensures { ReadReplyLeaves text.now n model.old answer.new model.new }
 {
     *answer = reply_written(read_reply(n, text, model));

@@ -1,87 +1,89 @@
-// What the operations answer, and lists, as lines.
+// What the operations answer, and lists, as lines on standard output. The first write that fails ends a line, and is the answer.
+#![tactic(auto)]
+
 use answers::{detail_of, number_of};
 use definitions::{Hour, Refusal, Replied, Sizing, Texted, Verdict};
-use libc::STDOUT_FILENO;
+use std::io;
 
-fn put(word: &[u8]) {
-    io::write_all(STDOUT_FILENO, word);
+fn put(rt: &impl Print, word: &[u8]) -> io::Result<()> {
+    rt.write_all(word)
 }
 
-fn put_size(word: &[u8], n: usize) {
-    put(word);
-    io::print_decimal(STDOUT_FILENO, n as u64);
+fn put_size(rt: &impl Print, word: &[u8], n: usize) -> io::Result<()> {
+    put(rt, word)?;
+    rt.print(n)
 }
 
-fn put_refusal(r: Refusal) {
-    put(b": refused ");
-    io::print_decimal(STDOUT_FILENO, number_of(r));
-    put(b" ");
-    io::print_decimal(STDOUT_FILENO, detail_of(r));
+fn put_refusal(rt: &impl Print, r: Refusal) -> io::Result<()> {
+    put(rt, b": refused ")?;
+    rt.print(number_of(r))?;
+    put(rt, b" ")?;
+    rt.print(detail_of(r))
 }
 
-pub fn put_sizing(name: &[u8], sizing: Sizing) {
-    put(name);
+pub fn put_sizing(rt: &impl Print, name: &[u8], sizing: Sizing) -> io::Result<()> {
+    put(rt, name)?;
     match sizing {
         Sizing::Sizes { n, m, k } => {
-            put_size(b": N ", n);
-            put_size(b", M ", m);
-            put_size(b", K ", k);
+            put_size(rt, b": N ", n)?;
+            put_size(rt, b", M ", m)?;
+            put_size(rt, b", K ", k)?;
         }
         Sizing::Unsized(r) => {
-            put_refusal(r);
+            put_refusal(rt, r)?;
         }
     }
-    put(b"\n");
+    put(rt, b"\n")
 }
 
-pub fn put_verdict(name: &[u8], verdict: Verdict) {
-    put(name);
+pub fn put_verdict(rt: &impl Print, name: &[u8], verdict: Verdict) -> io::Result<()> {
+    put(rt, name)?;
     match verdict {
         Verdict::Accepted => {
-            put(b": accepted");
+            put(rt, b": accepted")?;
         }
         Verdict::Refused(r) => {
-            put_refusal(r);
+            put_refusal(rt, r)?;
         }
     }
-    put(b"\n");
+    put(rt, b"\n")
 }
 
 // What the writer of text answers.
-pub fn put_texted(name: &[u8], texted: Texted) {
-    put(name);
+pub fn put_texted(rt: &impl Print, name: &[u8], texted: Texted) -> io::Result<()> {
+    put(rt, name)?;
     match texted {
         Texted::Length(n) => {
-            put_size(b": length ", n);
+            put_size(rt, b": length ", n)?;
         }
         Texted::Refused(r) => {
-            put_refusal(r);
+            put_refusal(rt, r)?;
         }
     }
-    put(b"\n");
+    put(rt, b"\n")
 }
 
 // What the reader of a reply answers.
-pub fn put_replied(name: &[u8], replied: Replied) {
-    put(name);
+pub fn put_replied(rt: &impl Print, name: &[u8], replied: Replied) -> io::Result<()> {
+    put(rt, name)?;
     match replied {
         Replied::Model => {
-            put(b": a model");
+            put(rt, b": a model")?;
         }
         Replied::None => {
-            put(b": none");
+            put(rt, b": none")?;
         }
         Replied::Refused(r) => {
-            put_refusal(r);
+            put_refusal(rt, r)?;
         }
     }
-    put(b"\n");
+    put(rt, b"\n")
 }
 
 // Bytes as text, and a line's end.
-pub fn put_text(text: &[u8]) {
-    put(text);
-    put(b"\n");
+pub fn put_text(rt: &impl Print, text: &[u8]) -> io::Result<()> {
+    put(rt, text)?;
+    put(rt, b"\n")
 }
 
 // A number without its sign.
@@ -92,68 +94,68 @@ fn without_sign(number: i32) -> u64 {
     number as u64
 }
 
-fn put_number(number: i32) {
+fn put_number(rt: &impl Print, number: i32) -> io::Result<()> {
     if number < 0 {
-        put(b" -");
+        put(rt, b" -")?;
     } else {
-        put(b" ");
+        put(rt, b" ")?;
     }
-    io::print_decimal(STDOUT_FILENO, without_sign(number));
+    rt.print(without_sign(number))
 }
 
 // What Closing answers: the value, none, or the range so far and the next question.
-pub fn put_hour(name: &[u8], hour: Hour) {
-    put(name);
+pub fn put_hour(rt: &impl Print, name: &[u8], hour: Hour) -> io::Result<()> {
+    put(rt, name)?;
     match hour {
         Hour::Found(v) => {
-            put(b": found");
-            put_number(v);
+            put(rt, b": found")?;
+            put_number(rt, v)?;
         }
         Hour::None => {
-            put(b": none");
+            put(rt, b": none")?;
         }
         Hour::Unfinished {
             low,
             high,
             question,
         } => {
-            put(b": from");
-            put_number(low);
-            put(b" to");
-            put_number(high);
-            put(b", at most");
-            put_number(question);
-            put(b"?");
+            put(rt, b": from")?;
+            put_number(rt, low)?;
+            put(rt, b" to")?;
+            put_number(rt, high)?;
+            put(rt, b", at most")?;
+            put_number(rt, question)?;
+            put(rt, b"?")?;
         }
         Hour::Refused(r) => {
-            put_refusal(r);
+            put_refusal(rt, r)?;
         }
     }
-    put(b"\n");
+    put(rt, b"\n")
 }
 
 // A list as it was left: all its numbers in one line.
-pub fn put_list(list: &[i32]) {
-    put(b"left:");
+pub fn put_list(rt: &impl Print, list: &[i32]) -> io::Result<()> {
+    put(rt, b"left:")?;
     let mut i: usize = 0;
     while i < list.len() {
-        put_number(list[i]);
+        put_number(rt, list[i])?;
         i += 1;
     }
-    put(b"\n");
+    put(rt, b"\n")
 }
 
-fn put_byte(byte: u8) {
-    put_size(b" ", byte as usize);
+fn put_byte(rt: &impl Print, byte: u8) -> io::Result<()> {
+    put_size(rt, b" ", byte as usize)
 }
 
 // Bytes as they were left: all of them in one line.
-pub fn put_bytes(bytes: &[u8]) {
-    put(b"left:");
+pub fn put_bytes(rt: &impl Print, bytes: &[u8]) -> io::Result<()> {
+    put(rt, b"left:")?;
     let mut i: usize = 0;
     while i < bytes.len() {
-        put_byte(bytes[i]);
+        put_byte(rt, bytes[i])?;
         i += 1;
     }
-    put(b"\n");
+    put(rt, b"\n")
 }

@@ -8,17 +8,17 @@ use Rattle.basmuthar.proofs.basmuthar_compile.Tie as tie
 compile-requires : tie.Need-compile-requires
 compile-requires c κs = search rules
 
-sizes-written-requires : tie.Need-sizes-written-requires
+sizes-written-requires : tie.Need-sizes_written-requires
 sizes-written-requires c κs = search rules
 
-same_length : tie.Need-same-length
+same_length : tie.Need-shape_of-list
 same_length c = search rules
 
 returns : tie.Need-returns
 returns c =
-    let allowed = c.before.before.compile.ensures in
-    (c.sizes-written.ensures ∙ ap sizes_written allowed.0, allowed.1)
+    let allowed = c.compile.ensures in
+    (c.sizes_written.ensures ∙ ap sizes_written allowed.0, allowed.1)
 
-pub basmuthar-compile-spec : {M : Type 1} → statement M
-basmuthar-compile-spec =
+pub basmuthar_compile_spec : {M : Type 1} → statement M
+basmuthar_compile_spec =
     tie.close (tie.spec compile-requires sizes-written-requires same_length returns)

@@ -8,20 +8,20 @@ use Rattle.basmuthar.proofs.basmuthar_decode.Tie as tie
 decode-requires : tie.Need-decode-requires
 decode-requires c κs = search rules
 
-verdict-written-requires : tie.Need-verdict-written-requires
+verdict-written-requires : tie.Need-verdict_written-requires
 verdict-written-requires c κs = search rules
 
-same_length : tie.Need-same-length
+same_length : tie.Need-shape_of-values
 same_length c = search rules
 
-same-length-2 : tie.Need-same-length-2
+same-length-2 : tie.Need-shape_of-booleans
 same-length-2 c = search rules
 
 returns : tie.Need-returns
 returns c =
-    let leaves = c.before.before.before.before.decode.ensures in
-    (c.verdict-written.ensures ∙ ap verdict_written leaves.answer, leaves.values, leaves.booleans)
+    let leaves = c.decode.ensures in
+    (c.verdict_written.ensures ∙ ap verdict_written leaves.answer, leaves.values, leaves.booleans)
 
-pub basmuthar-decode-spec : {M : Type 1} → statement M
-basmuthar-decode-spec =
+pub basmuthar_decode_spec : {M : Type 1} → statement M
+basmuthar_decode_spec =
     tie.close (tie.spec decode-requires verdict-written-requires same_length same-length-2 returns)

@@ -8,17 +8,17 @@ use Rattle.basmuthar.proofs.basmuthar_image.Tie as tie
 image-requires : tie.Need-image-requires
 image-requires c κs = search rules
 
-verdict-written-requires : tie.Need-verdict-written-requires
+verdict-written-requires : tie.Need-verdict_written-requires
 verdict-written-requires c κs = search rules
 
-same_length : tie.Need-same-length
+same_length : tie.Need-shape_of-model
 same_length c = search rules
 
 returns : tie.Need-returns
 returns c =
-    let allowed = c.before.before.before.image.ensures in
-    (c.verdict-written.ensures ∙ ap verdict_written allowed.0, allowed.1)
+    let allowed = c.image.ensures in
+    (c.verdict_written.ensures ∙ ap verdict_written allowed.0, allowed.1)
 
-pub basmuthar-image-spec : {M : Type 1} → statement M
-basmuthar-image-spec =
+pub basmuthar_image_spec : {M : Type 1} → statement M
+basmuthar_image_spec =
     tie.close (tie.spec image-requires verdict-written-requires same_length returns)

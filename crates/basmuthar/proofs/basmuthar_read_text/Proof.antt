@@ -5,20 +5,20 @@ use Rattle.basmuthar.specs.Interface.{sizes_written}
 use Rattle.basmuthar.proofs.basmuthar_read_text.Statement.{statement}
 use Rattle.basmuthar.proofs.basmuthar_read_text.Tie as tie
 
-read-text-requires : tie.Need-read-text-requires
+read-text-requires : tie.Need-read_text-requires
 read-text-requires c κs = search rules
 
-sizes-written-requires : tie.Need-sizes-written-requires
+sizes-written-requires : tie.Need-sizes_written-requires
 sizes-written-requires c κs = search rules
 
-same_length : tie.Need-same-length
+same_length : tie.Need-shape_of-list
 same_length c = search rules
 
 returns : tie.Need-returns
 returns c =
-    let allowed = c.before.before.read-text.ensures in
-    (c.sizes-written.ensures ∙ ap sizes_written allowed.0, allowed.1)
+    let allowed = c.read_text.ensures in
+    (c.sizes_written.ensures ∙ ap sizes_written allowed.0, allowed.1)
 
-pub basmuthar-read-text-spec : {M : Type 1} → statement M
-basmuthar-read-text-spec =
+pub basmuthar_read_text_spec : {M : Type 1} → statement M
+basmuthar_read_text_spec =
     tie.close (tie.spec read-text-requires sizes-written-requires same_length returns)

@@ -8,11 +8,11 @@ use Rattle.basmuthar.proofs.basmuthar_size.Tie as tie
 size-requires : tie.Need-size-requires
 size-requires c κs = search rules
 
-sizes-written-requires : tie.Need-sizes-written-requires
+sizes-written-requires : tie.Need-sizes_written-requires
 sizes-written-requires c κs = search rules
 
 returns : tie.Need-returns
-returns c = c.sizes-written.ensures ∙ ap sizes_written c.before.size.ensures
+returns c = c.sizes_written.ensures ∙ ap sizes_written c.size.ensures
 
-pub basmuthar-size-spec : {M : Type 1} → statement M
-basmuthar-size-spec = tie.close (tie.spec size-requires sizes-written-requires returns)
+pub basmuthar_size_spec : {M : Type 1} → statement M
+basmuthar_size_spec = tie.close (tie.spec size-requires sizes-written-requires returns)

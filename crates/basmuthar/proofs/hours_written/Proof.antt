@@ -9,38 +9,38 @@ use Rattle.basmuthar.specs.Interface.{hours_written}
 use Rattle.basmuthar.proofs.hours_written.Statement.{statement}
 use Rattle.basmuthar.proofs.hours_written.Tie as tie
 
-enum-known-hour : tie.Need-enum-known-hour
+enum-known-hour : tie.Need-enum_known-hour
 enum-known-hour c = search rules
 
-enum-known-hour-2 : tie.Need-enum-known-hour-2
+enum-known-hour-2 : tie.Need-enum_known-hour-in-Unfinished-1
 enum-known-hour-2 c = search rules
 
-enum_told : tie.Need-enum-told
+enum_told : tie.Need-enum_told-1
 enum_told c = search rules
 
-enum-told-2 : tie.Need-enum-told-2
+enum-told-2 : tie.Need-enum_told-in-Refused
 enum-told-2 c = search rules
 
-returns : tie.Need-returns
+returns : tie.Need-returns-in-Found
 returns c =
-    let f : SFits w32 c.before.hour.given.0.0 = record { sfits = c.known-told.given.0.1 } in
-    simp to_z-of_z (ap (λ h. hours_written (said_hour h) c.before.before.before.args.hours) (sym c.before.hour.given.1))
+    let f : SFits w32 c.in-Found.v = search rules in
+    simp to_z-of_z (ap (λ h. hours_written (said_hour h) c.args.hours) (sym c.in-Found.is))
 
-returns-2 : tie.Need-returns-2
+returns-2 : tie.Need-returns-in-Unfinished
 returns-2 c =
-    let f : SFits w32 c.before.hour2.given.0.0 = record { sfits = c.known-told2.given.0.1 } in
-    let g : SFits w32 c.before.hour2.given.0.1.0 = record { sfits = c.known-told2.given.1.0.1 } in
-    let k : SFits w32 c.before.hour2.given.0.1.1.0 = record { sfits = c.known-told2.given.1.1.0.1 } in
-    simp to_z-of_z (ap (λ h. hours_written (said_hour h) c.before.before.before.args.hours) (sym c.before.hour2.given.1))
+    let f : SFits w32 c.in-Unfinished.low = search rules in
+    let g : SFits w32 c.in-Unfinished.high = search rules in
+    let k : SFits w32 c.in-Unfinished.question = search rules in
+    simp to_z-of_z (ap (λ h. hours_written (said_hour h) c.args.hours) (sym c.in-Unfinished.is))
 
-returns-3 : tie.Need-returns-3
+returns-3 : tie.Need-returns-in-None
 returns-3 c = search rules
 
-returns-4 : tie.Need-returns-4
+returns-4 : tie.Need-returns-in-Refused
 returns-4 c = search rules
 
-pub hours-written-spec : {M : Type 1} → statement M
-hours-written-spec =
+pub hours_written_spec : {M : Type 1} → statement M
+hours_written_spec =
     tie.close
     (tie.spec
     enum-known-hour

@@ -6,23 +6,23 @@ use Rattle.basmuthar.specs.Interface.{length_written}
 use Rattle.basmuthar.proofs.length_written.Statement.{statement}
 use Rattle.basmuthar.proofs.length_written.Tie as tie
 
-enum-known-texted : tie.Need-enum-known-texted
+enum-known-texted : tie.Need-enum_known-texted
 enum-known-texted c = search rules
 
-enum-known-texted-2 : tie.Need-enum-known-texted-2
+enum-known-texted-2 : tie.Need-enum_known-texted-in-Refused-1
 enum-known-texted-2 c = search rules
 
-refusal-written-requires : tie.Need-refusal-written-requires
+refusal-written-requires : tie.Need-refusal_written-requires
 refusal-written-requires c κs = search rules
 
-returns : tie.Need-returns
-returns c = ap (λ z. length_written (said_texted z)) (sym c.before.texted.given.1)
+returns : tie.Need-returns-in-Length
+returns c = ap (λ z. length_written (said_texted z)) (sym c.in-Length.is)
 
-returns-2 : tie.Need-returns-2
+returns-2 : tie.Need-returns-in-Refused
 returns-2 c =
-    c.refusal-written.ensures ∙ ap (λ z. length_written (said_texted z)) (sym c.before.before.texted2.given.1)
+    c.refusal_written.ensures ∙ ap (λ z. length_written (said_texted z)) (sym c.in-Refused.is)
 
-pub length-written-spec : {M : Type 1} → statement M
-length-written-spec =
+pub length_written_spec : {M : Type 1} → statement M
+length_written_spec =
     tie.close
     (tie.spec enum-known-texted enum-known-texted-2 refusal-written-requires returns returns-2)

@@ -5,14 +5,14 @@ use borrow.Author.Rules.{rules}
 use Rattle.basmuthar.proofs.refusal_written.Statement.{statement}
 use Rattle.basmuthar.proofs.refusal_written.Tie as tie
 
-number-of-requires : tie.Need-number-of-requires
+number-of-requires : tie.Need-number_of-number-requires
 number-of-requires c κs = search rules
 
-detail-of-requires : tie.Need-detail-of-requires
+detail-of-requires : tie.Need-detail_of-detail-requires
 detail-of-requires c κs = search rules
 
 returns : tie.Need-returns
-returns c = ap₂ (λ number detail. number ∷ detail ∷ 0 ∷ 0 ∷ []) c.before.number_of_lem.ensures c.detail-of.ensures
+returns c = ap₂ (λ number detail. number ∷ detail ∷ 0 ∷ 0 ∷ []) c.number_of-number.ensures c.detail_of-detail.ensures
 
-pub refusal-written-spec : {M : Type 1} → statement M
-refusal-written-spec = tie.close (tie.spec number-of-requires detail-of-requires returns)
+pub refusal_written_spec : {M : Type 1} → statement M
+refusal_written_spec = tie.close (tie.spec number-of-requires detail-of-requires returns)

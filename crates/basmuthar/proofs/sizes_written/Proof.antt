@@ -6,23 +6,23 @@ use Rattle.basmuthar.specs.Interface.{sizes_written}
 use Rattle.basmuthar.proofs.sizes_written.Statement.{statement}
 use Rattle.basmuthar.proofs.sizes_written.Tie as tie
 
-enum-known-sizing : tie.Need-enum-known-sizing
+enum-known-sizing : tie.Need-enum_known-sizing
 enum-known-sizing c = search rules
 
-enum-known-sizing-2 : tie.Need-enum-known-sizing-2
+enum-known-sizing-2 : tie.Need-enum_known-sizing-in-Unsized-1
 enum-known-sizing-2 c = search rules
 
-refusal-written-requires : tie.Need-refusal-written-requires
+refusal-written-requires : tie.Need-refusal_written-requires
 refusal-written-requires c κs = search rules
 
-returns : tie.Need-returns
-returns c = ap (λ z. sizes_written (said_sizing z)) (sym c.before.sizing.given.1)
+returns : tie.Need-returns-in-Sizes
+returns c = ap (λ z. sizes_written (said_sizing z)) (sym c.in-Sizes.is)
 
-returns-2 : tie.Need-returns-2
+returns-2 : tie.Need-returns-in-Unsized
 returns-2 c =
-    c.refusal-written.ensures ∙ ap (λ z. sizes_written (said_sizing z)) (sym c.before.before.sizing2.given.1)
+    c.refusal_written.ensures ∙ ap (λ z. sizes_written (said_sizing z)) (sym c.in-Unsized.is)
 
-pub sizes-written-spec : {M : Type 1} → statement M
-sizes-written-spec =
+pub sizes_written_spec : {M : Type 1} → statement M
+sizes_written_spec =
     tie.close
     (tie.spec enum-known-sizing enum-known-sizing-2 refusal-written-requires returns returns-2)
