@@ -1,4 +1,6 @@
 // A refusal in 01's and 02's numbers.
+#![tactic(auto)]
+
 ghost use Rattle.std.specs.Prelude.{◌≡◌};
 ghost use Rattle.definitions.specs.Answers.{said};
 

@@ -8,7 +8,6 @@ use Rattle.definitions.specs.Tools.{All}
 use Rattle.definitions.specs.Board.{Bounds}
 use Rattle.definitions.specs.Result.{Result, done, refused}
 use Rattle.definitions.specs.Closing.{Earliest, found, none, unfinished, narrowed, tells, after}
-use Rattle.laws.specs.Readings.{same}
 use Rattle.demands.specs.Bytes.{bit, bit-most}
 use Rattle.demands.specs.Bisection.{Finished, Ends, AtMost, True}
 

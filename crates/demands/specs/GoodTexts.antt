@@ -3,7 +3,7 @@ use Rattle.std.specs.Prelude.{◌≡◌, refl, ◌↔◌, Bool, true, false, ◌
 use Rattle.std.proofs.Common.{sym, ap, ◌∙◌, subst, inl, inr, arith, lt-ltb, le-leb, eq-eqb, eqb-true, length-append}
 use mathlib.Core.List.{List, [], ◌∷◌, ◌++◌, append_assoc}
 use Rattle.definitions.specs.Tools.{All}
-use Rattle.definitions.specs.Result.{◌>>=◌, ◌>>◌, done}
+use Rattle.definitions.specs.Result.{◌>>=◌, done}
 use Rattle.definitions.specs.Dimacs.{ascii, decimal}
 use Rattle.laws.specs.Readings.{same, never}
 use Rattle.laws.specs.Lists.{all_append, append-all}

@@ -1,7 +1,7 @@
 -- Where reading stops: the first byte that begins nothing good, for text and replies alike. Assumes nothing.
 use Rattle.std.specs.Prelude.{◌≡◌, refl, ◌⊎◌, ◌↔◌, List, [], ◌∷◌, ◌++◌, ℕ, suc, ◌+◌, ◌≤◌, ◌<◌, length, get_or, take, drop}
 use Rattle.std.proofs.Common.{sym, ap, ◌∙◌, subst, inl, inr, append_assoc, add-zero, arith, length-append, take-append-drop, take_at, take-suc, length-take-le}
-use Rattle.definitions.specs.Result.{Result, ◌>>=◌, ◌>>◌, done, refused}
+use Rattle.definitions.specs.Result.{Result, ◌>>=◌, done, refused}
 use Rattle.laws.specs.Readings.{never}
 use Rattle.laws.specs.Refusals.{refusal_is}
 use Rattle.definitions.specs.TextReading.{State, step, fed}

@@ -1,5 +1,5 @@
 -- What is written for an accepted record is good text, and reading it gives what Compile gives (02, P2). Assumes nothing.
-use Rattle.std.specs.Prelude.{◌≡◌, Bool, true, false, ℕ, zero, suc, ◌+◌, ◌≤◌, T, length, drop, replicate, ℤ, pos, negsuc, nat_abs}
+use Rattle.std.specs.Prelude.{◌≡◌, Bool, true, false, ℕ, zero, suc, ◌≤◌, T, length, drop, replicate, ℤ, pos, negsuc, nat_abs}
 use Rattle.std.proofs.Math.Path.{refl, sym, ap}
 use Rattle.std.proofs.Common.{◌∙◌, subst, arith, take_all, take_at}
 use Rattle.std.proofs.Math.Logic.{inl, inr}

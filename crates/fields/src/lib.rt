@@ -1,4 +1,6 @@
 // Big-endian numbers of 1 to 4 bytes at a place of a slice: unsigned, and as two's complement.
+#![tactic(auto)]
+
 ghost use Rattle.std.specs.Prelude.{◌≡◌, ◌+◌, ◌≤◌, ◌<◌, ◌^◌, length};
 ghost use Rattle.definitions.specs.Reading.{big, twos, unsigned, signed};
 ghost use Rattle.fields.specs.Said.{said_unsigned, said_signed};

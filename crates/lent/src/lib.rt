@@ -1,4 +1,6 @@
 // Tests of lent lists that several operations make.
+#![tactic(auto)]
+
 ghost use Rattle.std.specs.Prelude.{◌≡◌, ◌≤◌, length};
 ghost use Rattle.definitions.specs.Meaning.{on};
 ghost use Rattle.definitions.specs.Operations.{bits};

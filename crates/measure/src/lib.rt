@@ -1,4 +1,6 @@
 // What all operations begin with: the record's refusals, or its header and sizes. They are counted; no tuple is walked.
+#![tactic(auto)]
+
 ghost use Rattle.measure.specs.Outcome.{Allowed};
 
 use crate::sums::totals_of;

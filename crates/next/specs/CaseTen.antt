@@ -63,32 +63,32 @@ starts = record { met = met; none = none }
 
 -- ---- its comparison: three places of 524,225 steps, the sum 786,433 above the least
 -- its three loops, by leaps
-low : (ℕ → ℕ) → ℕ
-low g = (leap (next_low 64) g 524226 14 0).so_far
+low_sum : (ℕ → ℕ) → ℕ
+low_sum g = (leap (next_low 64) g 524226 14 0).so_far
 
-high : (ℕ → ℕ) → ℕ
-high g = (leap (onward 64 524225) g 524226 14 0).so_far
+high_sum : (ℕ → ℕ) → ℕ
+high_sum g = (leap (onward 64 524225) g 524226 14 0).so_far
 
-by_leaps : low (λ k. first_pairs 64 524225 64 524225 64 start (786433 - k)) + high (λ k. strip 64 524225 524225 (786433 - k))
-    - low (λ k. full_pairs 64 524225 64 524225 64 start (786433 - k)) ≡ 100675584
-unfolding low high strip first_pairs full_pairs mixed_of inner_of meeting lows_in highs_in leaving leap
+by_leaps : low_sum (λ k. first_pairs 64 524225 64 524225 64 start (786433 - k)) + high_sum (λ k. strip 64 524225 524225 (786433 - k))
+    - low_sum (λ k. full_pairs 64 524225 64 524225 64 start (786433 - k)) ≡ 100675584
+unfolding low_sum high_sum strip first_pairs full_pairs mixed_of inner_of meeting lows_in highs_in leaving leap
 by_leaps = refl
 
-low_ends : (g : ℕ → ℕ) → leb 524226 (leap (next_low 64) g 524226 14 0).from ≡ true
+low_reaches : (g : ℕ → ℕ) → leb 524226 (leap (next_low 64) g 524226 14 0).from ≡ true
 unfolding leap
-low_ends g = refl
+low_reaches g = refl
 
-high_ends : (g : ℕ → ℕ) → leb 524226 (leap (onward 64 524225) g 524226 14 0).from ≡ true
+high_reaches : (g : ℕ → ℕ) → leb 524226 (leap (onward 64 524225) g 524226 14 0).from ≡ true
 unfolding leap
-high_ends g = refl
+high_reaches g = refl
 
-low_leaps : (g : ℕ → ℕ) → hops (next_low 64) g 524226 524226 0 ≡ low g
-unfolding low
-low_leaps g = leaps (is_low (step 64 524225)) (next_low 64) 524226 (low_hops 64 524225 524226 (lit< tt)) g 14 524226 0 (lit≤ tt) (λ u. refl) (leb→le 524226 _ (rw (low_ends g) tt))
+low_leaps : (g : ℕ → ℕ) → hops (next_low 64) g 524226 524226 0 ≡ low_sum g
+unfolding low_sum
+low_leaps g = leaps (is_low (step 64 524225)) (next_low 64) 524226 (low_hops 64 524225 524226 (lit< tt)) g 14 524226 0 (lit≤ tt) (λ u. refl) (leb→le 524226 _ (rw (low_reaches g) tt))
 
-high_leaps : (g : ℕ → ℕ) → hops (onward 64 524225) g 524226 524226 0 ≡ high g
-unfolding high
-high_leaps g = leaps (is_high (step 64 524225)) (onward 64 524225) 524226 (high-hops 64 524225 524226 (lit< tt) (lit≤ tt)) g 14 524226 0 (lit≤ tt) (λ u. refl) (leb→le 524226 _ (rw (high_ends g) tt))
+high_leaps : (g : ℕ → ℕ) → hops (onward 64 524225) g 524226 524226 0 ≡ high_sum g
+unfolding high_sum
+high_leaps g = leaps (is_high (step 64 524225)) (onward 64 524225) 524226 (high-hops 64 524225 524226 (lit< tt) (lit≤ tt)) g 14 524226 0 (lit≤ tt) (λ u. refl) (leb→le 524226 _ (rw (high_reaches g) tt))
 
 counted : first_triples 64 524225 64 524225 64 524225 64 start 786433 ≡ 100675584
 unfolding first_triples

@@ -1,7 +1,7 @@
 -- Hops taken twice as many at a time: a sum of many thousand hops is computed without going as deep. Assumes nothing.
-use Rattle.std.specs.Prelude.{◌≡◌, Bool, not, T, ltb}
+use Rattle.std.specs.Prelude.{◌≡◌, Bool, T, ltb}
 use Rattle.std.proofs.Math.Path.{sym}
-use Rattle.std.proofs.Common.{◌∙◌, arith, ltb→lt, nltb→le}
+use Rattle.std.proofs.Common.{◌∙◌, arith, ltb→lt}
 use Rattle.std.proofs.Math.Bool.{true, false}
 use Prim.Native.Nat.{ℕ, zero, suc, ◌+◌, ◌-◌, ◌≤◌, ◌<◌}
 use Rattle.definitions.specs.Tools.{if◌then◌else◌}

@@ -1,1 +1,3 @@
+#![tactic(auto)]
+
 // The mathematics of clauses written once; no code.

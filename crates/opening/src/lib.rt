@@ -1,4 +1,6 @@
 // The whole record: its refusals up to 8 and 15 to 17 for every input, or its header: version, counts and places.
+#![tactic(auto)]
+
 ghost use Rattle.std.specs.Prelude.{◌≡◌, ◌≤◌};
 ghost use Rattle.reader.specs.Said.{context_of};
 ghost use Rattle.opening.specs.Said.{context_in};

@@ -1,4 +1,5 @@
 // From the bytes of the rules to literals and clauses, with refusals 4, 6, 7, 8 and 15 to 17. specs/Said.antt gives the definitions' result for each answer.
+#![tactic(auto)]
 
 pub mod faults; // faults.rt: why a reading was refused
 pub mod checks; // checks.rt: fields whose value has a range

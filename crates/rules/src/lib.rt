@@ -1,4 +1,6 @@
 // A pass through the rules by value: a cursor that steps from piece to piece of the rules' clauses.
+#![tactic(auto)]
+
 ghost use Rattle.std.specs.Prelude.{◌≡◌, ◌<◌};
 ghost use Rattle.laws.specs.Again.{There, literals_at};
 ghost use Rattle.laws.specs.Pieces.{lone};

@@ -1,4 +1,6 @@
 // Size: N, M and K, which `measure` counts.
+#![tactic(auto)]
+
 ghost use Rattle.size.specs.Outcome.{Allowed};
 
 use definitions::Sizing;

@@ -1,4 +1,5 @@
 // What later passes read, plainly and without checks, from a record that was accepted before.
+#![tactic(auto)]
 
 // The bounds of an integer variable.
 #[derive(Clone, Copy)]

@@ -22,7 +22,7 @@ use Rattle.walk.specs.declared.At.{At}
 use Rattle.walk.specs.declared.At.TheVariants.{Tuple, End}
 use Rattle.walk.specs.Slots.{FairSlot, slot_bounds, order_number, slot_literal}
 use Rattle.walk.specs.Walks.{places_of, moved, blank, seen, tuples_left, Fine, Over}
-use Rattle.walk.specs.Comparisons.{FairComparison, Walking, padded_ranges, placed, literals_at, present, to_come, present-length, walking_fine}
+use Rattle.walk.specs.Comparisons.{FairComparison, Walking, padded_ranges, placed, literals_at, present, to_come, present-length}
 use Rattle.walk.specs.Rows.{along, run, row_length, row_of, row_clauses, After, Placed, Holds, Steady, raised, lowered, row_from}
 use Rattle.walk.proofs.Moves.{move_second}
 use Rattle.walk.proofs.Slots.{floor_inside, ceil_inside, number_small, literal_rising, literal_falling}

@@ -1,4 +1,5 @@
 // A comparison's tuples one after another, and the literal of each term at the present one.
+#![tactic(auto)]
 
 // A term: its coefficient, its variable's bounds and the number of p(x, lower - 1).
 #[derive(Clone, Copy)]

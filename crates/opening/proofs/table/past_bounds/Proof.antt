@@ -5,7 +5,7 @@ use mir.Val.{SFits}
 use Rattle.definitions.specs.Reading.{read_bounds}
 use Rattle.fields.proofs.Laws.{told}
 use Rattle.reader.specs.Said.{said_whole}
-use Rattle.reader.proofs.Tests.{bound_fits, tested}
+use Rattle.reader.proofs.Tests.{tested}
 use Rattle.opening.proofs.table.past_bounds.Statement.{statement}
 use Rattle.opening.proofs.table.past_bounds.Tie as tie
 

@@ -6,7 +6,7 @@ use mir.Facts.{to_z-of_z}
 use Rattle.fields.proofs.Laws.{told}
 use Rattle.fields.specs.Said.{said_signed}
 use Rattle.reader.specs.Parts.{whole_from}
-use Rattle.reader.proofs.Tests.{bound_fits, tested}
+use Rattle.reader.proofs.Tests.{tested}
 use Rattle.reader.proofs.checks.whole_at.Statement.{statement}
 use Rattle.reader.proofs.checks.whole_at.Tie as tie
 

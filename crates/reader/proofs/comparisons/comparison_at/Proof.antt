@@ -10,7 +10,6 @@ use Rattle.fields.proofs.Laws.{told}
 use Rattle.reader.specs.declared.Why.{Why}
 use Rattle.reader.specs.Said.{said_number, said_whole, said_step}
 use Rattle.reader.specs.Parts.{number_from}
-use Rattle.reader.proofs.Tests.{bound_fits}
 use Rattle.reader.proofs.Fields.{number_got}
 use Rattle.reader.proofs.Terms.{terms_refused, constant_refused, comparison_done}
 use Rattle.reader.proofs.comparisons.comparison_at.Statement.{statement}

@@ -7,7 +7,6 @@ use mir.Val.{of_z}
 use Rattle.fields.proofs.Laws.{told}
 use Rattle.laws.specs.Whole.{bits_is}
 use Rattle.reader.specs.Said.{said_whole}
-use Rattle.reader.proofs.Tests.{bound_fits}
 use Rattle.reader.proofs.Fields.{coefficient_is, not_zero}
 use Rattle.reader.proofs.comparisons.past_coefficient.Statement.{statement}
 use Rattle.reader.proofs.comparisons.past_coefficient.Tie as tie

@@ -1,7 +1,6 @@
 -- `slots::variables::first_in` meets its contract.
 use borrow.Author.Rules.{rules}
 use mathlib.Core.Path.{sym}
-use native.Mathlib.Omega.{arith}
 use lib.ListN.{get_or-eq_default}
 use Rattle.slots.proofs.variables.first_in.Statement.{statement}
 use Rattle.slots.proofs.variables.first_in.Tie as tie
