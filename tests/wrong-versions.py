@@ -1,15 +1,16 @@
 #!/usr/bin/env python3
 """Wrong versions that the proofs must refuse, many at a time: the edits in crates/NAME/wrong/, and beside them those in
-crates/NAME/must-fail/, each of which `rt ci` tries by proving its crate from nothing.
+crates/NAME/must-fail/, each of which `rt ci` tries by itself.
 
-    tests/wrong-versions.py [NAME..]        after `rt ci` or `rt check`; without names, every crate that has a folder wrong/
+    tests/wrong-versions.py [NAME..]        after `rt check`; without names, every crate that has a folder wrong/
 
-A crate is proved once over its incremental folder (`rt dev`), in a copy of the repository with the target/ that rt left. Then
-edits of the bodies of different functions are made together, and what they change is checked again.
+A crate is copied with those below it, and with what rt left in their folders out/, to a temporary folder, and proved there once:
+in seconds over what `rt check` left, else from nothing. Then edits of the bodies of different functions are made together, and
+what they change is checked again.
 
-An edit of bodies is refused if none of its functions is still proved and one of them has a need of its own that fails: in its
-own Proof.antt, or left open by the kit's `search`. A function that only waits for another that is not proved is tried again
-without it. An edit of anything else (a contract, a constant, a definition) is made alone, and is refused if a function's need or
+An edit of bodies is refused if none of its functions is still proved and one of them has a goal of its own that fails: in its
+own proof files, or left open by the prover's `search`. A function that only waits for another that is not proved is tried again
+without it. An edit of anything else (a contract, a constant, a definition) is made alone, and is refused if a function's goal or
 a named fact fails outside of the files edited. An edit after which a proof misses names of the code is bad: it is refused for
 its shape, and may be right.
 
@@ -18,7 +19,6 @@ What is refused need not be wrong: a proof may not follow code of the same meani
 import concurrent.futures
 import os
 import pathlib
-import queue
 import re
 import shutil
 import subprocess
@@ -29,10 +29,10 @@ ROOT = pathlib.Path(__file__).resolve().parent.parent
 FUNCTION = re.compile(r'^(?P<head>(?:pub )?(?:extern "C" )?fn (?P<name>\w+)\b.*?(?:^| )\{)(?P<body>\n.*?^\}\n)', re.M | re.S)
 VERDICT = re.compile(r"^fn (\S+): (.*)$", re.M)
 METHOD = re.compile(r"::[A-Z]\w*::\w+$")  # named after its type; an edit of one is made alone
-ERROR = re.compile(r"^\S*?/crates/\w+/((?:src|specs|proofs)/\S+?):(\d+:\d+): error: (?:`([^`]+)`: )?(.*)$", re.M)
-NOTE = re.compile(r"^note: \S*?/crates/\w+/(src/\S+:\d+:\d+): it is not proved that .*\(`([^`]+)`\)$", re.M)
-FOLLOWS = "was not admitted"
-MISSED = re.compile(r"has no `[^`]*` that can be named|has no field|is not in scope")
+ERROR = re.compile(r"^(?:\./)?((?:src|specs|proofs)/\S+?):(\d+:\d+): error: (?:`([^`]+)`: )?(.*)$", re.M)
+NOTE = re.compile(r"^note: (?:\./)?(src/\S+:\d+:\d+): it is not proved that .*?\(`([^`]+)`\)", re.M)
+FOLLOWS = re.compile(r"\d+ declarations? that depends? on ")
+MISSED = re.compile(r"has no `[^`]*` that can be named|has no field|is not in scope|is no name")
 
 
 class Bad(Exception):
@@ -88,33 +88,37 @@ class Edit:
 
 
 class Crate:
-    """A crate in a copy of the repository: proved once, and put back to that state before each run."""
+    """A crate in a copy of it and those below it: proved once, and put back to that state before each run."""
 
     def __init__(self, copy, name):
         self.copy, self.name, self.folder, self.runs = copy, name, copy / "crates" / name, 0
-        self.cache, self.kept = copy / "target/inc" / name, copy / "target/kept" / name
+        self.out, self.kept = self.folder / "out", copy / "kept"
+        self.fill()
         self.sources = {str(file.relative_to(self.folder)): file.read_text()
                         for part in ("src", "specs") for file in (self.folder / part).rglob("*") if file.is_file()}
-        self.fill()
-        status, told = self.dev()
+        status, told = self.check()
         if status != 0 or "\nlogic=proved " not in told:
             raise Bad(f"unchanged, the crate is not proved:\n{told[-2000:]}")
         there = {path_of(name, file, function) for file, text in self.sources.items() if file.startswith("src/")
                  for function in parts(text)[1]}
         if there != {function for function, verdict in VERDICT.findall(told) if verdict == "proved" and not METHOD.search(function)}:
             raise Bad("the functions found in src/ are not those that the prover names")
-        shutil.copytree(self.cache, self.kept)
+        shutil.copytree(self.out, self.kept)
 
     def fill(self):
-        """Spares proving the crate once more: its library has its checked modules as rt dev keeps them, in a folder named after
-        the kit, which an earlier crate's folder tells. Where they are not found so, rt dev proves the crate."""
-        checked = self.copy / "target/rlib" / f"{self.name}.rlib/toolchain/checked"
-        for folder in {path.name for path in (self.copy / "target/inc").glob("*/*") if checked.is_dir()}:
-            shutil.copytree(checked, self.cache / folder)
+        """The crate with all that rt keeps of it, those below it with their libraries alone, and the lines of crates.txt for these."""
+        lines, below = lines_of(ROOT / "crates.txt"), [self.name]
+        for crate in below:
+            below += [other for other in lines[crate].split(":")[1].split() if other in lines and other not in below]
+        for crate in below:
+            left_out = shutil.ignore_patterns("must-fail", "wrong", *(["incremental"] if crate != self.name else []))
+            shutil.copytree(ROOT / "crates" / crate, self.copy / "crates" / crate, ignore=left_out)
+        (self.copy / "crates.txt").write_text("".join(f"{lines[crate]}\n" for crate in below))
 
-    def dev(self):
+    def check(self):
         self.runs += 1
-        done = subprocess.run(["rt", "dev", self.name], cwd=self.copy, stdout=subprocess.PIPE, stderr=subprocess.STDOUT, text=True)
+        done = subprocess.run(["rt", "check", "--jobs", "2"], cwd=self.folder, stdin=subprocess.DEVNULL, stdout=subprocess.PIPE,
+                              stderr=subprocess.STDOUT, text=True, errors="replace")
         return done.returncode, "\n" + done.stdout
 
     def changed(self, edits):
@@ -128,14 +132,25 @@ class Crate:
     def run(self, edits):
         """What the prover says of the crate with the edits."""
         texts = self.changed(edits)
-        shutil.rmtree(self.cache)
-        shutil.copytree(self.kept, self.cache)
+        shutil.rmtree(self.out)
+        shutil.copytree(self.kept, self.out, copy_function=linked)
         for file, text in texts.items():
             (self.folder / file).write_text(text)
-        answer = self.dev()
+        answer = self.check()
         for file in texts:
             (self.folder / file).write_text(self.sources[file])
         return answer
+
+
+def linked(one, other):
+    """A check replaces what it keeps of a module, and changes none, so a link is enough."""
+    return os.link(one, other) if str(one).endswith(".oantt") else shutil.copy2(one, other)
+
+
+def lines_of(file):
+    """The lines of crates.txt, by the crate that each names."""
+    lines = [line.split("#")[0].strip() for line in file.read_text().split("\n")]
+    return {line.split(":")[0].split()[0]: line for line in lines if line}
 
 
 def failures(crate, told):
@@ -143,15 +158,15 @@ def failures(crate, told):
     proof misses a name, or puts its parts together as the code no longer asks)."""
     for found in re.finditer(f"{ERROR.pattern}|{VERDICT.pattern}", told, re.M):
         file, place, name, message, function, verdict = found.groups()
-        if file and FOLLOWS not in message:
-            own = re.fullmatch(r"proofs/(.+)/Proof\.antt", file)
+        if file and not FOLLOWS.match(message):
+            own = re.fullmatch(r"proofs/(.+)/\w+\.antt", file)
             whose = "::".join([crate, *own[1].replace("+", "").split("/")]) if own else None
-            lost = MISSED.search(message) or (own and name and name.endswith("-spec"))
+            lost = MISSED.search(message) or (own and name and name.endswith("_spec"))
             yield whose, file, f"{file}:{place}", None if lost else name
-        elif function and "`search` does not close " in verdict:
-            need = re.search("does not close `([^`]+)`", verdict)[1]
-            places = [note[1] for note in NOTE.finditer(told, 0, found.start()) if note[2] == need]
-            yield function, None, places[-1] if places else function, need
+        elif function and "`search` did not prove " in verdict:
+            goal = re.search("did not prove `([^`]+)`", verdict)[1]
+            places = [note[1] for note in NOTE.finditer(told, 0, found.start()) if note[2] == goal]
+            yield function, None, places[-1] if places else function, goal
 
 
 def judged(edit, status, told):
@@ -218,37 +233,23 @@ def edits_of(names):
     return edits
 
 
-def copied(folder, jobs):
-    """Copies of the repository to work in, one for each job."""
-    copies = queue.Queue()
-    for number in range(jobs):
-        copy = pathlib.Path(folder) / str(number)
-        for part in ("crates", "target/rlib", "target/stamp"):
-            shutil.copytree(ROOT / part, copy / part)
-        shutil.copy(ROOT / "crates.txt", copy)
-        copies.put(copy)
-    return copies
-
-
 def main():
-    if not (ROOT / "target/stamp").is_dir():
-        sys.exit("wrong versions: nothing is proved here yet: run rt check first")
     edits, runs, refused = edits_of(sys.argv[1:]), 0, {"wrong": 0, "must-fail": 0}
-    jobs = int(os.environ.get("RT_JOBS", min(os.cpu_count(), 4)))
+    jobs = int(os.environ.get("JOBS", min(os.cpu_count(), 2)))
 
     def work(name):
-        copy = copies.get()
-        try:
-            crate = Crate(copy, name)
-            return tried(crate, edits[name]), crate.runs
-        except Bad as wrong:
-            return [(edit, f"NOT TRIED: {wrong}") for edit in edits[name]], 1
-        finally:
-            copies.put(copy)
+        with tempfile.TemporaryDirectory() as copy:
+            try:
+                crate = Crate(pathlib.Path(copy), name)
+                return tried(crate, edits[name]), crate.runs
+            except Bad as wrong:
+                return [(edit, f"NOT TRIED: {wrong}") for edit in edits[name]], 1
 
-    with tempfile.TemporaryDirectory() as folder, concurrent.futures.ThreadPoolExecutor(jobs) as pool:
-        copies = copied(folder, jobs)
-        for answers, times in pool.map(work, edits):
+    with concurrent.futures.ThreadPoolExecutor(jobs) as pool:
+        # Those with the most edits begin.
+        begun = {name: pool.submit(work, name) for name in sorted(edits, key=lambda name: -len(edits[name]))}
+        for name in edits:
+            answers, times = begun[name].result()
             runs += times
             for edit, answer in answers:
                 refused[edit.folder] += answer.startswith("refused at ")
