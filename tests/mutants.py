@@ -4,7 +4,7 @@
 Each is made in a copy of the crates, and the program `cases` or, for Closing, `hours`, for text and replies `texts`, is run over it, unproved,
 by `rt try`. It has to end and to write something else than its file `stdout`; the first line that differs is printed.
 
-    tests/mutants.py        RT_JOBS says how many run at once, 2 if not said
+    tests/mutants.py        JOBS says how many run at once, 2 if not said
 """
 import concurrent.futures
 import os
@@ -164,7 +164,7 @@ def tried(copy, changes):
 
 def main():
     root = pathlib.Path(__file__).resolve().parent.parent
-    jobs = int(os.environ.get("RT_JOBS", min(os.cpu_count(), 2)))
+    jobs = int(os.environ.get("JOBS", min(os.cpu_count(), 2)))
     copies = queue.Queue()
 
     def in_a_copy(call, *words):

@@ -1,48 +1,25 @@
-# What the tests need where the processor is not x86-64, to be sourced in the project's folder after the proofs.
+# What the tests need where the processor is not x86-64, to be sourced in the project's folder before the proofs.
 #
 #     . tests/other-processor.sh
 #
-# The kit's programs and libraries are for x86-64 alone. So an emulator runs the programs, as the kit itself does, and RATTLE_HOME becomes a mirror of the kit in
-# target/kit whose clang is told this processor: `rt staticlib` then writes the same proved code, by the same compiler, for tests in C and Rust to link.
+# The kit's programs are for x86-64 alone, and so is the program that it builds here: an emulator runs them. The library is made by
+# the kit for this processor, for tests in C and Rust to link: tools/build.sh takes the target from LIBRARY_TARGET.
+#
+# Tried on an x86-64 machine: the library with LIBRARY_TARGET=aarch64-unknown-linux-gnu, tests/header.c and tests/stack.c linked with
+# it, run by qemu-aarch64. Not tried with today's kit, which needs a machine with another processor: this script, and whether the
+# kit's own programs run under the emulator; an older kit brought an emulator of its own.
 
-other_kit=${RATTLE_HOME:-$(dirname "$(dirname "$(readlink -f "$(command -v rt)")")")}
-other_mirror=$PWD/target/kit
-other_own=on/$(uname -m)
-
-# Links to all that is in a folder of the kit, but for one name.
-mirror_folder() {
-    local folder=$1 but=$2 file
-    mkdir -p "$other_mirror/$folder"
-    for file in "$other_kit/$folder"/*; do
-        [ "${file##*/}" = "$but" ] || ln -sfn "$(readlink -f "$file")" "$other_mirror/$folder/${file##*/}"
-    done
-}
-
-mirror_folder . on
-mirror_folder "$other_own" toolchain
-mirror_folder "$other_own/toolchain" bin
-mirror_folder "$other_own/toolchain/bin" clang
-cat >"$other_mirror/$other_own/toolchain/bin/clang" <<END
-#!/usr/bin/env bash
-words=()
-for word in "\$@"; do
-    case \$word in
-    --target=*) words+=("--target=$(uname -m)-unknown-linux-gnu" -Wno-override-module) ;;
-    -march=*) ;;
-    *) words+=("\$word") ;;
-    esac
-done
-exec "$other_kit/$other_own/toolchain/bin/clang" "\${words[@]}"
-END
-chmod +x "$other_mirror/$other_own/toolchain/bin/clang"
-export RATTLE_HOME=$other_mirror
+case $(uname -m) in
+aarch64) export LIBRARY_TARGET=aarch64-unknown-linux-gnu ;;
+*) echo "tests/other-processor.sh: the kit builds for x86-64 and aarch64, and this is $(uname -m)" >&2 && exit 1 ;;
+esac
 
 # The emulator is registered with the kernel, so that a program for x86-64 is run by its name.
 formats=/proc/sys/fs/binfmt_misc
 emulates=/usr/lib/binfmt.d/qemu-x86_64.conf
 export QEMU_LD_PREFIX=/usr/x86_64-linux-gnu
-if [ ! -e "$emulates" ] || [ ! -e "$QEMU_LD_PREFIX" ]; then
-    { apt-get update && apt-get install -y qemu-user-binfmt libc6-amd64-cross; } >/dev/null
+if [ ! -e "$emulates" ] || [ ! -e "$QEMU_LD_PREFIX/lib/libgcc_s.so.1" ]; then
+    { apt-get update && apt-get install -y qemu-user-binfmt libc6-amd64-cross libgcc-s1-amd64-cross; } >/dev/null
 fi
 [ -e "$formats/register" ] || mount -t binfmt_misc none "$formats"
 [ -e "$formats/qemu-x86_64" ] || cat "$emulates" >"$formats/register"

@@ -4,7 +4,8 @@
 #     tools/build.sh library        target/staticlib/libbasmuthar.a: the nine functions of include/basmuthar.h
 #     tools/build.sh program        target/bin/dimacs: the program that the script `basmuthar` runs
 #
-# `rt` of the Rattle kit builds only what it has proved, over what earlier runs kept in crates/*/out; RT is another one.
+# `rt` of the Rattle kit builds only what it has proved, over what earlier runs kept in crates/*/out; RT is another one. Both are for
+# x86-64; LIBRARY_TARGET is another target of the kit's for the library, such as aarch64-unknown-linux-gnu.
 set -euo pipefail
 cd "$(dirname "${BASH_SOURCE[0]}")/.."
 rt=${RT:-rt}
@@ -22,7 +23,7 @@ leave() {
 }
 
 build_library() {
-    (cd crates/basmuthar_c && "$rt" lib </dev/null)
+    (cd crates/basmuthar_c && "$rt" lib ${LIBRARY_TARGET:+--target "$LIBRARY_TARGET"} </dev/null)
     leave crates/basmuthar_c/out/libbasmuthar_c.a target/staticlib/libbasmuthar.a
 }
 
