@@ -8,7 +8,7 @@ use Prim.Native.Nat.{ℕ, zero, suc, ◌≤◌, ◌<◌}
 use Rattle.std.proofs.Math.ListN.{get_or-append}
 use Rattle.std.proofs.Math.IntN.{nat_abs}
 use Rattle.std.specs.Int.Signed.{le_z}
-use Rattle.definitions.specs.Tools.{All, all}
+use Rattle.definitions.specs.Tools.{All}
 use Rattle.definitions.specs.Board.{Board, Comparison, Clause, bounds_of, variables}
 use Rattle.definitions.specs.Result.{done, each}
 use Rattle.definitions.specs.Encoding.{Atom, SatClause, least, tuples_of, sharp, clauses_under, axioms_of, axioms}
