@@ -1,6 +1,8 @@
 // The operations for callers. The functions `basmuthar_..` say an answer in four numbers, as C has it: crate basmuthar_c exports them
 // under their names (include/basmuthar.h says what a caller owes and is given). A crate in Rattle depends on basmuthar and definitions,
 // and calls the operations by their own names.
+#![tactic(auto)]
+
 ghost use Rattle.std.specs.Prelude.{◌≡◌};
 ghost use Rattle.definitions.specs.Answers.{refusal, said_hour, said_replied, said_sizing, said_texted, said_verdict};
 ghost use Rattle.basmuthar.specs.Interface.{hour_written, hours_written, length_written, reply_written, sizes_written, verdict_written};

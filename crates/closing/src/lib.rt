@@ -1,4 +1,6 @@
 // Closing: the least value of a variable over all solutions, by a solver's replies to questions 'at most h?'.
+#![tactic(auto)]
+
 ghost use Rattle.closing.specs.Outcome.{Allowed};
 
 use crate::checks::checked;

@@ -1,4 +1,6 @@
 // Compile: the clause list of a record, number for number.
+#![tactic(auto)]
+
 ghost use Rattle.std.specs.Prelude.{◌≡◌, ◌≤◌, length};
 ghost use Rattle.definitions.specs.Encoding.{clause_list};
 ghost use Rattle.laws.specs.Boards.{board_of};

@@ -4,7 +4,7 @@ use Rattle.std.proofs.Math.Path.{refl, ap}
 use Rattle.std.proofs.Common.{◌∙◌}
 use Rattle.std.proofs.Math.ListN.{take}
 use borrow.Author.Tests.{eq-eqb, ne_eqb}
-use Rattle.definitions.specs.Result.{Result, ◌>>=◌, ◌>>◌, done, refused, each}
+use Rattle.definitions.specs.Result.{Result, ◌>>◌, done, refused, each}
 use Rattle.definitions.specs.Board.{Board}
 use Rattle.definitions.specs.Encoding.{N, clauses}
 use Rattle.definitions.specs.Meaning.{values_of}

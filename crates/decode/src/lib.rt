@@ -1,4 +1,6 @@
 // Reading a model back (01, Decode): the search for a clause that does not hold, then the values and the Booleans.
+#![tactic(auto)]
+
 ghost use Rattle.std.specs.Prelude.{◌≡◌};
 ghost use Rattle.definitions.specs.Encoding.{N};
 ghost use Rattle.definitions.specs.Answers.{said_verdict};

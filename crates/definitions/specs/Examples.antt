@@ -1,8 +1,8 @@
 -- The starred examples of 01, its refusals and the figures of 02, in one table. proofs/Examples.antt proves of each row: what the
 -- definitions answer is what the document says, or what follows from it.
-use Rattle.std.specs.Prelude.{ℕ, zero, suc, ◌+◌, ◌*◌, ◌-◌, ◌≡◌, Bool, true, false, not, ◌&&◌, List, [], ◌∷◌, map, length, replicate, ltb, eqb, ℤ, pos}
+use Rattle.std.specs.Prelude.{ℕ, zero, suc, ◌+◌, ◌*◌, ◌-◌, ◌≡◌, Bool, true, false, not, ◌&&◌, List, [], ◌∷◌, map, length, replicate, ltb, eqb, ℤ, pos, if◌then◌else◌}
 use Prim.Native.String.{String}
-use Rattle.definitions.specs.Tools.{if◌then◌else◌, flatten, neg, eq_z, range}
+use Rattle.definitions.specs.Tools.{flatten, neg, eq_z, range}
 use Rattle.definitions.specs.Board.{Board, Bounds, Term, bounds_of}
 use Rattle.definitions.specs.Result.{Result, done, refused}
 use Rattle.definitions.specs.Encoding.{Atom, order, selector, SatLiteral, plus, minus, SatClause, sharp, tuples_of, comparisons, rules, atoms, number, literal_number, N}

@@ -1,7 +1,7 @@
 -- Examples of P2 in one table. proofs/TextExamples.antt proves of each row: what the definitions answer is what 02's sentences say.
 use Prim.Native.String.{String}
-use Rattle.std.specs.Prelude.{◌≡◌}
-use Rattle.definitions.specs.Tools.{ℕ, Bool, true, false, List, [], ◌∷◌, ℤ, pos, neg}
+use Rattle.std.specs.Prelude.{◌≡◌, ◌∷◌}
+use Rattle.definitions.specs.Tools.{ℕ, Bool, true, false, List, [], ℤ, pos, neg}
 use Rattle.definitions.specs.Result.{Result, done, refused}
 use Rattle.definitions.specs.Operations.{Outcome, ◌leaves◌, Sizes}
 use Rattle.definitions.specs.Dimacs.{ascii}

@@ -1,4 +1,6 @@
 // Image: the plain model of a solution.
+#![tactic(auto)]
+
 ghost use Rattle.std.specs.Prelude.{◌≡◌};
 ghost use Rattle.definitions.specs.Meaning.{assigned, plain_model};
 ghost use Rattle.definitions.specs.Answers.{said_verdict};

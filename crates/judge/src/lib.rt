@@ -1,4 +1,6 @@
 // Judge: whether values and Booleans are a solution of a record's board.
+#![tactic(auto)]
+
 ghost use Rattle.judge.specs.Outcome.{Allowed};
 
 use crate::checks::{lengths, solved};
