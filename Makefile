@@ -26,7 +26,7 @@ LIBRARY := target/staticlib/libbasmuthar.a
 SHARED := target/staticlib/libbasmuthar.so.$(VERSION)
 PROGRAM := target/bin/dimacs
 BOARD := $(if $(CARGO_TARGET_DIR),$(CARGO_TARGET_DIR),rust/target)/release/board
-SOURCES := $(shell find crates crates.txt -type f)
+SOURCES := $(shell find crates crates.txt -name out -prune -o -type f -print)
 
 PAGES := README.md docs/BOARDS.md docs/KEEPERS.md docs/LIMITS.md docs/RECORD.md
 EXAMPLES := $(wildcard examples/*)
@@ -46,12 +46,10 @@ FILL = sed -e 's|@PREFIX@|$(PREFIX)|; s|@LIBDIR@|$(LIBDIR)|; s|@VERSION@|$(VERSI
 all: $(LIBRARY) $(SHARED) $(PROGRAM) board
 
 $(LIBRARY): $(SOURCES)
-	$(RT) staticlib basmuthar
-	touch $@
+	RT='$(RT)' tools/build.sh library
 
 $(PROGRAM): $(SOURCES)
-	$(RT) check dimacs
-	touch $@
+	RT='$(RT)' tools/build.sh program
 
 # Nothing but the nine functions is seen from outside, and nothing has to be moved when it is loaded.
 $(SHARED): $(LIBRARY) Makefile rust/Cargo.toml

@@ -15,7 +15,7 @@ fn main() {
     if !library.exists() {
         eprintln!("There is no {}.", library.display());
         eprintln!(
-            "Make it with `rt staticlib basmuthar`, or name its folder in BASMUTHAR_LIB_DIR."
+            "Make it with `tools/build.sh library`, or name its folder in BASMUTHAR_LIB_DIR."
         );
         process::exit(1);
     }

@@ -4,7 +4,7 @@
 #
 #     tests/compare.sh SEED COUNT
 #
-# libbasmuthar.a is taken from BASMUTHAR_LIB_DIR, or else from target/staticlib (`rt staticlib basmuthar`).
+# libbasmuthar.a is taken from BASMUTHAR_LIB_DIR, or else from target/staticlib (`tools/build.sh library`).
 set -euo pipefail
 cd "$(dirname "$0")/../second"
 export BASMUTHAR_LIB_DIR=${BASMUTHAR_LIB_DIR:-$PWD/../target/staticlib}

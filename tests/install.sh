@@ -1,7 +1,7 @@
 #!/usr/bin/env bash
 # `make install` into an empty folder: what is there, programs compiled with what pkg-config tells and nothing else, the pages.
 #
-#     tests/install.sh        after `rt staticlib basmuthar` and `rt check dimacs`, whose files are installed as they are
+#     tests/install.sh        after `tools/build.sh library program`, whose files are installed as they are
 set -euo pipefail
 cd "$(dirname "$0")/.."
 work=$(mktemp -d)
@@ -44,7 +44,7 @@ compile() {
 
 find_program make make "nothing was installed." || exit 0
 for built in target/staticlib/libbasmuthar.a target/bin/dimacs; do
-    [ -e "$built" ] || fail "there is no $built: rt staticlib basmuthar and rt check dimacs write them"
+    [ -e "$built" ] || fail "there is no $built: tools/build.sh library program writes them"
 done
 prefix=$work/prefix
 rm -f target/staticlib/libbasmuthar.so.* # made anew: with -o, make does not see that the library is younger

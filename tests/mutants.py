@@ -1,11 +1,15 @@
 #!/usr/bin/env python3
 """Wrong versions of the operations that change the code's shape, beside the must-fail edits, which keep it.
 
-Each is made in a copy of the crates, and the program `cases` or, for Closing, `hours`, for text and replies `texts`, is run over it, unproved.
-It has to end and to write something else than its file `stdout`; the first line that differs is printed.
+Each is made in a copy of the crates, and the program `cases` or, for Closing, `hours`, for text and replies `texts`, is run over it, unproved,
+by `rt try`. It has to end and to write something else than its file `stdout`; the first line that differs is printed.
+
+    tests/mutants.py        RT_JOBS says how many run at once, 2 if not said
 """
+import concurrent.futures
+import os
 import pathlib
-import re
+import queue
 import shutil
 import subprocess
 import sys
@@ -131,16 +135,18 @@ def changed(crates, changes):
 
 
 def run(copy, program):
-    """Whether the program wrote what is expected; if not, the line of stdout where it first differs."""
-    done = subprocess.run(["rt", "try", program], cwd=copy, capture_output=True, text=True)
-    told = done.stdout + done.stderr
-    if done.returncode == 0:
-        return True, None
-    found = re.search(r"the interpreter ended, but did not write what is expected\non standard output, at byte (\d+)", told)
-    if not found:
+    """Whether the program wrote what is expected; if not, the line where it first differs, if it ran to its end."""
+    folder = copy / "crates" / program
+    done = subprocess.run(["rt", "try"], cwd=folder, stdin=subprocess.DEVNULL, capture_output=True)
+    expected = (folder / "stdout").read_bytes()
+    if done.returncode != 0 or b"\nrun=ended status=0 " not in b"\n" + done.stderr:
         return False, None
-    expected = (copy / "crates" / program / "stdout").read_bytes()
-    return False, expected[:int(found.group(1))].count(b"\n") + 1
+    if done.stdout == expected:
+        return True, None
+    same = 0
+    while done.stdout[:same + 1] == expected[:same + 1]:
+        same += 1
+    return False, expected[:same].count(b"\n") + 1
 
 
 def tried(copy, changes):
@@ -158,16 +164,28 @@ def tried(copy, changes):
 
 def main():
     root = pathlib.Path(__file__).resolve().parent.parent
-    noticed = 0
-    with tempfile.TemporaryDirectory() as folder:
-        copy = pathlib.Path(folder)
-        shutil.copytree(root / "crates", copy / "crates")
-        shutil.copy(root / "crates.txt", copy)
-        for program in ("cases", "hours", "texts"):
-            if not run(copy, program)[0]:
+    jobs = int(os.environ.get("RT_JOBS", min(os.cpu_count(), 2)))
+    copies = queue.Queue()
+
+    def in_a_copy(call, *words):
+        copy = copies.get()
+        try:
+            return call(copy, *words)
+        finally:
+            copies.put(copy)
+
+    with tempfile.TemporaryDirectory() as folder, concurrent.futures.ThreadPoolExecutor(jobs) as pool:
+        for number in range(jobs):
+            copy = pathlib.Path(folder) / str(number)
+            shutil.copytree(root / "crates", copy / "crates", ignore=shutil.ignore_patterns("out"))
+            shutil.copy(root / "crates.txt", copy)
+            copies.put(copy)
+        programs = ("cases", "hours", "texts")
+        for program, (same, _) in zip(programs, pool.map(lambda it: in_a_copy(run, it), programs)):
+            if not same:
                 sys.exit(f"mutants: unchanged, the program {program} does not write what is expected")
-        for name, changes in MUTANTS:
-            answer = tried(copy, changes)
+        noticed = 0
+        for (name, _), answer in zip(MUTANTS, pool.map(lambda it: in_a_copy(tried, it[1]), MUTANTS)):
             noticed += answer.startswith("differs")
             print(f"{name}: {answer}", flush=True)
     print(f"mutants: {noticed} of {len(MUTANTS)} noticed")

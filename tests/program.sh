@@ -1,10 +1,10 @@
 #!/usr/bin/env bash
 # Runs the program over cases of 01, over the edges of what it reads and writes, and over all boards beside the second program.
-#     tests/program.sh [PROGRAM]        PROGRAM is target/bin/dimacs, which `rt check dimacs` writes, unless another is named
+#     tests/program.sh [PROGRAM]        PROGRAM is target/bin/dimacs, which `tools/build.sh program` writes, unless another is named
 set -euo pipefail
 cd "$(dirname "$0")/.."
 program=${1:-target/bin/dimacs}
-[ -x "$program" ] || { echo "program.sh: there is no $program: rt check dimacs writes it" >&2; exit 1; }
+[ -x "$program" ] || { echo "program.sh: there is no $program: tools/build.sh program writes it" >&2; exit 1; }
 work=$(mktemp -d)
 trap 'rm -rf "$work"' EXIT
 stated=0 compared=0

@@ -1,9 +1,9 @@
 #!/usr/bin/env bash
 # The script basmuthar: its statuses, and that it prints what the program prints, from files, pipes, fifos and substitutions.
-#     tests/wrapper.sh        after `rt check dimacs`, which writes target/bin/dimacs
+#     tests/wrapper.sh        after `tools/build.sh program`, which writes target/bin/dimacs
 set -euo pipefail
 cd "$(dirname "$0")/.."
-[ -x target/bin/dimacs ] || { echo "wrapper.sh: there is no target/bin/dimacs: rt check dimacs writes it" >&2; exit 1; }
+[ -x target/bin/dimacs ] || { echo "wrapper.sh: there is no target/bin/dimacs: tools/build.sh program writes it" >&2; exit 1; }
 work=$(mktemp -d)
 trap 'rm -rf "$work"' EXIT
 board=boards/unequal_starts.record

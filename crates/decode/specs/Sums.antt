@@ -1,5 +1,5 @@
 -- Where the axioms hold, all clauses of a comparison hold where it holds at the values (000, Propositions 1 and 2). Assumes nothing.
-use Rattle.std.specs.Prelude.{◌≡◌, refl, Bool, ◌||◌, T, length, get_or, drop, replicate, ℤ, pos}
+use Rattle.std.specs.Prelude.{◌≡◌, refl, Bool, ◌||◌, T, length, get_or, drop, replicate, ℤ, pos, if◌then◌else◌}
 use Rattle.std.proofs.Math.Path.{sym, ap}
 use Rattle.std.proofs.Common.{◌∙◌, subst, arith}
 use Rattle.std.proofs.Math.Bool.{true, false}
@@ -8,7 +8,7 @@ use Prim.Native.Nat.{ℕ, zero, suc, ◌≤◌, ◌<◌}
 use Rattle.std.proofs.Math.ListN.{get_or-append}
 use Rattle.std.proofs.Math.IntN.{nat_abs}
 use Rattle.std.specs.Int.Signed.{le_z}
-use Rattle.definitions.specs.Tools.{All, all, if◌then◌else◌}
+use Rattle.definitions.specs.Tools.{All, all}
 use Rattle.definitions.specs.Board.{Board, Comparison, Clause, bounds_of, variables}
 use Rattle.definitions.specs.Result.{done, each}
 use Rattle.definitions.specs.Encoding.{Atom, SatClause, least, tuples_of, sharp, clauses_under, axioms_of, axioms}

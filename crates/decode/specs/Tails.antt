@@ -1,10 +1,10 @@
 -- The clauses of a piece of the rules: its lead, and the literals of a tuple behind it. Assumes nothing.
-use Rattle.std.specs.Prelude.{◌≡◌, refl, Bool, true, false, not, ◌||◌, ℕ, ◌≤◌, length, ℤ, pos, negsuc, ◌≤ℤ◌, ◌<ℤ◌}
+use Rattle.std.specs.Prelude.{◌≡◌, refl, Bool, true, false, not, ◌||◌, ℕ, ◌≤◌, length, ℤ, pos, negsuc, ◌≤ℤ◌, ◌<ℤ◌, if◌then◌else◌}
 use Rattle.std.proofs.Math.Path.{sym, ap}
 use Rattle.std.proofs.Common.{◌∙◌, arith}
 use Rattle.std.proofs.Math.Bool.{or-false}
 use mathlib.Core.List.{List, [], ◌∷◌, ◌++◌, map, zip_with, append-nil, map-map}
-use Rattle.definitions.specs.Tools.{All, if◌then◌else◌}
+use Rattle.definitions.specs.Tools.{All}
 use Rattle.definitions.specs.Board.{Board, bounds_of}
 use Rattle.definitions.specs.Board as board
 use Rattle.definitions.specs.Encoding.{SatClause, minus, selector, least, tuples, tuples_of, sharp, clauses_under, number, N, literal_number}

@@ -1,10 +1,10 @@
 -- What is read back, by the numbers of the order variables. Assumes nothing.
-use Rattle.std.specs.Prelude.{◌≡◌, Bool, true, false, List, map, ℕ, ◌+◌, ◌-◌, ◌≤◌, ◌<◌, length, get_or, ℤ, ◌+ℤ◌, ◌-ℤ◌, ◌≤ℤ◌}
+use Rattle.std.specs.Prelude.{◌≡◌, Bool, true, false, List, map, ℕ, ◌+◌, ◌-◌, ◌≤◌, ◌<◌, length, get_or, ℤ, ◌+ℤ◌, ◌-ℤ◌, ◌≤ℤ◌, if◌then◌else◌}
 use Rattle.std.proofs.Common.{sym, ◌∙◌, zero-add, arith}
 use Rattle.std.proofs.Math.Path.{ap}
 use Rattle.std.proofs.Math.ListN.{length-map}
 use Rattle.std.proofs.Math.IntN.{pos, suc_ℤ}
-use Rattle.definitions.specs.Tools.{if◌then◌else◌, count_up, size}
+use Rattle.definitions.specs.Tools.{count_up, size}
 use Rattle.definitions.specs.Board.{Board, Bounds, bounds_of, variables}
 use Rattle.definitions.specs.Encoding.{width, first, number}
 use Rattle.definitions.specs.Meaning.{on, in_model, least_true, value_of, values_of}

@@ -1,6 +1,7 @@
 -- The earliest closing hour: the least value of a variable over all solutions, found by a solver's replies to questions
 -- 'at most h?' (02, P9; 003, section 6). A reply is a byte, 1 yes, 0 no.
-use Rattle.definitions.specs.Tools.{ℕ, suc, List, [], ◌∷◌, length, ltb, eqb, ℤ, pos, ◌+ℤ◌, lt_z, if◌then◌else◌, floor}
+use Rattle.std.specs.Prelude.{◌∷◌, ◌+ℤ◌, if◌then◌else◌}
+use Rattle.definitions.specs.Tools.{ℕ, suc, List, [], length, ltb, eqb, ℤ, pos, lt_z, floor}
 use Rattle.definitions.specs.Board.{Bounds, bounds_of}
 use Rattle.definitions.specs.Result.{Result, ◌>>=◌, ◌>>◌, need, done, refused}
 use Rattle.definitions.specs.Operations.{accepted, bits}

@@ -1,8 +1,8 @@
--- The starred examples of 01, its refusals and the figures of 02, in one table, and one statement: what the definitions answer is
--- what the document says, or what follows from it.
-use Rattle.std.specs.Prelude.{ℕ, zero, suc, ◌+◌, ◌*◌, ◌-◌, ◌≡◌, refl, Bool, true, false, not, ◌&&◌, List, [], ◌∷◌, map, length, replicate, ltb, eqb, ℤ, pos}
+-- The starred examples of 01, its refusals and the figures of 02, in one table. proofs/Examples.antt proves of each row: what the
+-- definitions answer is what the document says, or what follows from it.
+use Rattle.std.specs.Prelude.{ℕ, zero, suc, ◌+◌, ◌*◌, ◌-◌, ◌≡◌, Bool, true, false, not, ◌&&◌, List, [], ◌∷◌, map, length, replicate, ltb, eqb, ℤ, pos, if◌then◌else◌}
 use Prim.Native.String.{String}
-use Rattle.definitions.specs.Tools.{if◌then◌else◌, All, flatten, neg, eq_z, range}
+use Rattle.definitions.specs.Tools.{flatten, neg, eq_z, range}
 use Rattle.definitions.specs.Board.{Board, Bounds, Term, bounds_of}
 use Rattle.definitions.specs.Result.{Result, done, refused}
 use Rattle.definitions.specs.Encoding.{Atom, order, selector, SatLiteral, plus, minus, SatClause, sharp, tuples_of, comparisons, rules, atoms, number, literal_number, N}
@@ -10,7 +10,6 @@ use Rattle.definitions.specs.Meaning.{is_solution, is_model, is_plain}
 use Rattle.definitions.specs.Operations.{Outcome, ◌leaves◌, Sizes, accepted, size_outcome, compile_outcome, decode_outcome, judge_outcome, image_outcome}
 use Rattle.definitions.specs.Dimacs.{ascii, printed}
 use Rattle.definitions.specs.Closing.{Earliest, found, none, unfinished, closing_outcome}
-use Rattle.definitions.specs.Open.{all_open}
 
 -- ---- bytes, written as the document writes them: two digits each, and spaces for the eye
 abbrev digit : ℕ → ℕ
@@ -476,7 +475,3 @@ table =
 
 abbrev pub Holds : Row → Type 0
 Holds r = ask r.question ≡ r.document
-
-pub the_examples_hold : All Holds table
-unfolding all_open
-the_examples_hold = (refl, (refl, (refl, (refl, (refl, (refl, (refl, (refl, (refl, (refl, (refl, (refl, (refl, (refl, (refl, (refl, (refl, (refl, (refl, (refl, (refl, (refl, (refl, (refl, (refl, (refl, (refl, (refl, (refl, (refl, (refl, (refl, (refl, (refl, (refl, (refl, (refl, (refl, (refl, (refl, (refl, (refl, (refl, (refl, (refl, (refl, (refl, (refl, (refl, (refl, (refl, (refl, (refl, (refl, (refl, (refl, (refl, (refl, (refl, (refl, (refl, (refl, (refl, (refl, (refl, (refl, (refl, (refl, (refl, (refl, (refl, (refl, (refl, (refl, (refl, (refl, (refl, (refl, (refl, (refl, (refl, (refl, (refl, (refl, (refl, (refl, (refl, (refl, (refl, (refl, (refl, (refl, (refl, (refl, (refl, (refl, (refl, (refl, (refl, (refl, (refl, (refl, (refl, (refl, (refl, (refl, (refl, (refl, (refl, (refl, (refl, (refl, (refl, (refl, (refl, (refl, (refl, (refl, (refl, (refl, (refl, (refl, (refl, (refl, (refl, (refl, (refl, (refl, (refl, (refl, (refl, (refl, (refl, (refl, (refl, (refl, (refl, (refl, (refl, (refl, (refl, (refl, (refl, (refl, (refl, (refl, (refl, (refl, (refl, (refl, (refl, (refl, (refl, (refl, (refl, (refl, (refl, (refl, (refl, (refl, (refl, (refl, tt))))))))))))))))))))))))))))))))))))))))))))))))))))))))))))))))))))))))))))))))))))))))))))))))))))))))))))))))))))))))))))))))))))))))))))))))))))))))))))))))))

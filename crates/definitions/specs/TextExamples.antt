@@ -1,14 +1,13 @@
--- Examples of P2 in one table, and one statement: what the definitions answer is what 02's sentences say of each.
+-- Examples of P2 in one table. proofs/TextExamples.antt proves of each row: what the definitions answer is what 02's sentences say.
 use Prim.Native.String.{String}
-use Rattle.std.specs.Prelude.{◌≡◌, refl}
-use Rattle.definitions.specs.Tools.{ℕ, Bool, true, false, List, [], ◌∷◌, ℤ, pos, neg, All}
+use Rattle.std.specs.Prelude.{◌≡◌, ◌∷◌}
+use Rattle.definitions.specs.Tools.{ℕ, Bool, true, false, List, [], ℤ, pos, neg}
 use Rattle.definitions.specs.Result.{Result, done, refused}
 use Rattle.definitions.specs.Operations.{Outcome, ◌leaves◌, Sizes}
 use Rattle.definitions.specs.Dimacs.{ascii}
-use Rattle.definitions.specs.Open.{all_open}
 use Rattle.definitions.specs.Examples.{hex}
-use Rattle.definitions.specs.TextReading.{Read, read_text, read_reply}
-use Rattle.definitions.specs.TextOperations.{text_of, write_text_outcome, read_text_outcome, read_reply_outcome}
+use Rattle.definitions.specs.TextReading.{Read, read_text}
+use Rattle.definitions.specs.TextOperations.{write_text_outcome, read_text_outcome, read_reply_outcome}
 
 pub data Question : Type 0 where
   write : String → List ℕ → Question
@@ -56,7 +55,7 @@ empty = "01 00000006 0000 0000 0000"
 abbrev one_value : String
 one_value = "01 0000000A 0001 0000 0000 0005 0005"
 
-abbrev table : List Row
+abbrev pub table : List Row
 table =
     -- the writer: the length; longer bytes keep their rest; shorter are refused with the length wanted
     (write empty (ascii "0123456789ab") ⇒ written (done 10 leaves ascii "p cnf 0 0\nab")) ∷
@@ -145,7 +144,3 @@ table =
 
 abbrev pub Holds : Row → Type 0
 Holds r = ask r.question ≡ r.document
-
-pub the_text_examples_hold : All Holds table
-unfolding all_open
-the_text_examples_hold = (refl, (refl, (refl, (refl, (refl, (refl, (refl, (refl, (refl, (refl, (refl, (refl, (refl, (refl, (refl, (refl, (refl, (refl, (refl, (refl, (refl, (refl, (refl, (refl, (refl, (refl, (refl, (refl, (refl, (refl, (refl, (refl, (refl, (refl, (refl, (refl, (refl, (refl, (refl, (refl, (refl, (refl, (refl, (refl, (refl, (refl, (refl, (refl, (refl, (refl, (refl, (refl, (refl, (refl, (refl, (refl, (refl, (refl, (refl, (refl, (refl, (refl, (refl, (refl, (refl, (refl, (refl, (refl, (refl, (refl, (refl, (refl, (refl, tt)))))))))))))))))))))))))))))))))))))))))))))))))))))))))))))))))))))))))

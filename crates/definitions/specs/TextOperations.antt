@@ -1,5 +1,6 @@
 -- The writer, the reader of text and the reader of a reply: what they answer and leave (02, P2).
-use Rattle.definitions.specs.Tools.{ℕ, suc, Bool, true, false, List, [], ◌∷◌, ◌++◌, map, length, drop, leb, eqb, ℤ, pos, nat_abs, any, count_up, eq_z, if◌then◌else◌}
+use Rattle.std.specs.Prelude.{◌∷◌, ◌++◌, if◌then◌else◌}
+use Rattle.definitions.specs.Tools.{ℕ, suc, Bool, true, false, List, [], map, length, drop, leb, eqb, ℤ, pos, nat_abs, any, count_up, eq_z}
 use Rattle.definitions.specs.Board.{Board}
 use Rattle.definitions.specs.Result.{Result, ◌>>=◌, ◌>>◌, need, each, done}
 use Rattle.definitions.specs.Encoding.{clause_list}

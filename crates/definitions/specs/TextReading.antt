@@ -1,5 +1,6 @@
 -- Text and replies read byte by byte (02, P2): 18 at a byte that no good text has there, or at the number that goes beyond N.
-use Rattle.definitions.specs.Tools.{ℕ, suc, ◌+◌, ◌*◌, ◌-◌, Bool, true, false, not, ◌&&◌, ◌||◌, List, [], ◌∷◌, ◌++◌, length, leb, ltb, eqb, ℤ, pos, if◌then◌else◌, neg}
+use Rattle.std.specs.Prelude.{◌+◌, ◌*◌, ◌-◌, ◌&&◌, ◌||◌, ◌∷◌, ◌++◌, if◌then◌else◌}
+use Rattle.definitions.specs.Tools.{ℕ, suc, Bool, true, false, not, List, [], length, leb, ltb, eqb, ℤ, pos, neg}
 use Rattle.definitions.specs.Result.{Result, ◌>>=◌, ◌>>◌, need, done, refused}
 use Rattle.definitions.specs.Dimacs.{ascii}
 use Rattle.definitions.specs.Texts.{blank, zeros, most}

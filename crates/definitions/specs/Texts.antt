@@ -1,5 +1,6 @@
 -- Good text and good replies, said by how they are written (02, P2); bytes by number.
-use Rattle.definitions.specs.Tools.{ℕ, suc, ◌≤◌, ◌≡◌, ◌⊎◌, Bool, true, false, ◌||◌, List, [], ◌∷◌, ◌++◌, T, eqb, ℤ, pos, negsuc, nat_abs, if◌then◌else◌, All, eq_z}
+use Rattle.std.specs.Prelude.{◌≤◌, ◌≡◌, ◌⊎◌, ◌||◌, ◌∷◌, ◌++◌, if◌then◌else◌}
+use Rattle.definitions.specs.Tools.{ℕ, suc, Bool, true, false, List, [], T, eqb, ℤ, pos, negsuc, nat_abs, All, eq_z}
 use Rattle.definitions.specs.Dimacs.{ascii, decimal}
 
 -- a number below 10^20 in size, as `decimal` has 20 digits: no plus, no leading zero, no signed 0

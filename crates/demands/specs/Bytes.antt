@@ -1,5 +1,5 @@
 -- A list of bytes is the truth of its variables, and a truth of the board's atoms is a list of N bytes. Assumes nothing.
-use Rattle.std.specs.Prelude.{◌≡◌, refl, Bool, true, false, eqb, ◌-ℤ◌}
+use Rattle.std.specs.Prelude.{◌≡◌, refl, Bool, true, false, eqb, ◌-ℤ◌, if◌then◌else◌}
 use Rattle.std.proofs.Math.Path.{sym, ap}
 use Rattle.std.proofs.Common.{◌∙◌}
 use mathlib.Core.List.{List, ◌++◌, map, flatten, append_assoc, map-append, map-map}
@@ -8,7 +8,7 @@ use native.Mathlib.Omega.{arith}
 use Rattle.std.proofs.Math.ListN.{length, get_or, take, length-map}
 use Rattle.std.proofs.Math.Seq.{take_at}
 use Rattle.std.proofs.Math.IntN.{pos}
-use Rattle.definitions.specs.Tools.{All, if◌then◌else◌, count_up, range}
+use Rattle.definitions.specs.Tools.{All, count_up, range}
 use Rattle.definitions.specs.Board.{Board, bounds_of, variables}
 use Rattle.definitions.specs.Encoding.{Atom, bool, order, selector, orders, selections, atoms, number, N}
 use Rattle.definitions.specs.Meaning.{on, in_model}

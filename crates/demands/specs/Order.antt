@@ -1,5 +1,5 @@
 -- A(x) holds exactly where p(x,c) says x ≤ c of one value of x, the least c whose p(x,c) is true (000, Proposition 2). Assumes nothing.
-use Rattle.std.specs.Prelude.{◌≡◌, ◌↔◌, ◌⊎◌, Bool, true, false, not, T, ◌+ℤ◌, ◌-ℤ◌, ◌≤ℤ◌, ◌<ℤ◌}
+use Rattle.std.specs.Prelude.{◌≡◌, ◌↔◌, ◌⊎◌, Bool, true, false, not, T, ◌+ℤ◌, ◌-ℤ◌, ◌≤ℤ◌, ◌<ℤ◌, if◌then◌else◌}
 use Rattle.std.proofs.Math.Path.{refl}
 use Rattle.std.proofs.Math.Logic.{inl}
 use Rattle.std.proofs.Common.{inr}
@@ -7,7 +7,7 @@ use mathlib.Core.List.{[], ◌∷◌}
 use Prim.Native.Nat.{ℕ, zero, suc}
 use Rattle.std.proofs.Math.Dec.{T_not, not_T}
 use Rattle.std.proofs.Math.IntN.{ℤ, pos, suc_ℤ}
-use Rattle.definitions.specs.Tools.{size, up_from, range, if◌then◌else◌}
+use Rattle.definitions.specs.Tools.{size, up_from, range}
 use Rattle.definitions.specs.Board.{Bounds}
 use Rattle.definitions.specs.Encoding.{Atom, SatClause, order, plus, minus, axioms_of}
 use Rattle.definitions.specs.Meaning.{satisfies, least_true}

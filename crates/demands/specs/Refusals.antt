@@ -1,5 +1,5 @@
 -- The first demand, "the refusal and detail that 01 fixes": when a record is refused, with which number and at which place. Assumes nothing.
-use Rattle.std.specs.Prelude.{◌≡◌, ◌≢◌, ◌⊎◌, ◌↔◌, Bool, true, false, List, ℕ, ◌+◌, ◌-◌, ◌≤◌, ◌<◌, length, leb, ltb, eqb}
+use Rattle.std.specs.Prelude.{◌≡◌, ◌≢◌, ◌⊎◌, ◌↔◌, Bool, true, false, List, ℕ, ◌+◌, ◌-◌, ◌≤◌, ◌<◌, length, leb, ltb, eqb, if◌then◌else◌}
 use Rattle.std.proofs.Math.Path.{refl}
 use Rattle.std.proofs.Common.{sym, ◌∙◌, arith}
 use Rattle.std.proofs.Math.Logic.{inl, inr}
@@ -14,7 +14,7 @@ use Rattle.definitions.specs.Operations.{read_board, accepted}
 use Rattle.laws.specs.Readings.{never, place}
 use Rattle.laws.specs.Grammar.{finds}
 use Rattle.laws.specs.Reread.{wrapped, accepted-parts}
-use Rattle.definitions.specs.Tools.{All, if◌then◌else◌}
+use Rattle.definitions.specs.Tools.{All}
 use Rattle.laws.specs.Refusals.{Ranged, integer_count, boolean_count, clause_count, lower, upper, literal_count, kind, boolean_number, term_count, coefficient, variable, constant, rule, Agree, agree_less, big_agree, Outside, Because, missing, bad, refusal_is}
 use Rattle.laws.specs.Explained.{explained_body}
 

@@ -1,9 +1,9 @@
 -- 19 is the least variable missing or present twice, and the model has exactly the reply's literals (02, P2). Assumes nothing.
-use Rattle.std.specs.Prelude.{◌≡◌, refl, ◌⊎◌, ◌↔◌, ◌≢◌, Bool, true, false, List, [], ◌∷◌, map, ℕ, zero, suc, ◌+◌, ◌-◌, ◌≤◌, ◌<◌, ltb, eqb, length, get_or, ℤ, pos, negsuc, nat_abs}
+use Rattle.std.specs.Prelude.{◌≡◌, refl, ◌⊎◌, ◌↔◌, ◌≢◌, Bool, true, false, List, [], ◌∷◌, map, ℕ, zero, suc, ◌+◌, ◌-◌, ◌≤◌, ◌<◌, ltb, eqb, length, get_or, ℤ, pos, negsuc, nat_abs, if◌then◌else◌}
 use Rattle.std.proofs.Common.{sym, ap, ◌∙◌, inl, inr, arith}
 use borrow.Author.Tests.{eq-eqb, ne_eqb, eqb-true, eqb-false, ltb-true, ltb-false}
 use Rattle.std.proofs.lemmas.List.{length-map}
-use Rattle.definitions.specs.Tools.{Any, if◌then◌else◌, count_up, any, eq_z}
+use Rattle.definitions.specs.Tools.{Any, count_up, any, eq_z}
 use Rattle.definitions.specs.Result.{each, done, refused}
 use Rattle.definitions.specs.Operations.{◌leaves◌}
 use Rattle.laws.specs.Lists.{counted-at, length-count_up}

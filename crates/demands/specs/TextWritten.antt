@@ -1,12 +1,12 @@
 -- What is written for an accepted record is good text, and reading it gives what Compile gives (02, P2). Assumes nothing.
-use Rattle.std.specs.Prelude.{◌≡◌, Bool, true, false, ℕ, zero, suc, ◌≤◌, T, length, drop, replicate, ℤ, pos, negsuc, nat_abs}
+use Rattle.std.specs.Prelude.{◌≡◌, Bool, true, false, ℕ, zero, suc, ◌≤◌, T, length, drop, replicate, ℤ, pos, negsuc, nat_abs, if◌then◌else◌}
 use Rattle.std.proofs.Math.Path.{refl, sym, ap}
 use Rattle.std.proofs.Common.{◌∙◌, subst, arith, take_all, take_at}
 use Rattle.std.proofs.Math.Logic.{inl, inr}
 use mathlib.Core.List.{List, [], ◌∷◌, ◌++◌, map, flatten, append_assoc, append-nil}
 use Rattle.std.proofs.lemmas.List.{length-replicate}
 use borrow.Author.Tests.{le-leb}
-use Rattle.definitions.specs.Tools.{All, if◌then◌else◌, eq_z}
+use Rattle.definitions.specs.Tools.{All, eq_z}
 use Rattle.definitions.specs.Board.{Board}
 use Rattle.definitions.specs.Result.{done}
 use Rattle.definitions.specs.Encoding.{SatClause, N, M, K, clauses, literal_number, clause_list}

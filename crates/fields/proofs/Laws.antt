@@ -13,7 +13,7 @@ use mir.Syntax.{w8, w32, w64}
 use mir.Val.{Fits, SFits, to_z}
 use mir.Facts.{to_z_pos}
 use borrow.Author.Tests.{leb-true, le-leb, lt-leb, ltb-true, ltb-false, lt-ltb, le-ltb}
-use Rattle.definitions.specs.Tools.{if◌then◌else◌}
+use Rattle.std.specs.Prelude.{if◌then◌else◌}
 use Rattle.definitions.specs.Result.{Result, done, refused}
 use Rattle.definitions.specs.Result as result
 use Rattle.definitions.specs.Reading.{Got, big, twos, unsigned, signed}

@@ -1,12 +1,12 @@
 -- The plain model in the parts that are written one after another. Assumes nothing.
-use Rattle.std.specs.Prelude.{◌≡◌, refl, Bool, true, not, ℕ, suc, ◌+◌, ◌-◌, ◌<◌, length, get_or, eqb, ℤ, ◌+ℤ◌, ◌-ℤ◌}
+use Rattle.std.specs.Prelude.{◌≡◌, refl, Bool, true, not, ℕ, suc, ◌+◌, ◌-◌, ◌<◌, length, get_or, eqb, ℤ, ◌+ℤ◌, ◌-ℤ◌, if◌then◌else◌}
 use Rattle.std.proofs.Math.Path.{sym, ap, ap₂}
 use Rattle.std.proofs.Common.{◌∙◌, arith}
 use mathlib.Core.List.{List, [], ◌∷◌, ◌++◌, map, flatten, map-append, map-map}
 use Rattle.std.proofs.lemmas.List.{length-map}
 use Rattle.std.specs.Int.Signed.{le_z}
 use Rattle.std.proofs.Math.IntN.{pos, suc_ℤ}
-use Rattle.definitions.specs.Tools.{count_up, size, range, if◌then◌else◌}
+use Rattle.definitions.specs.Tools.{count_up, size, range}
 use Rattle.definitions.specs.Board.{Board, Comparison, Clause, bounds_of, variables, is_true, is_false, at_most}
 use Rattle.definitions.specs.Encoding.{Atom, bool, order, selector, orders, comparisons, selected, selections, atoms, width}
 use Rattle.definitions.specs.Meaning.{Assignment, on, compares, selection, truth, plain_model}

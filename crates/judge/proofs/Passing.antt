@@ -8,7 +8,8 @@ use native.Mathlib.Numerals.{add-one}
 use native.Mathlib.Omega.{arith}
 use lib.ListN.{length}
 use lib.IntN.{ℤ}
-use Rattle.definitions.specs.Tools.{any, if◌then◌else◌}
+use Rattle.std.specs.Prelude.{if◌then◌else◌}
+use Rattle.definitions.specs.Tools.{any}
 use Rattle.definitions.specs.Result.{done, refused}
 use Rattle.definitions.specs.Reading.{times, read_literal}
 use Rattle.definitions.specs.Meaning.{Assignment, assigned, holds}

@@ -1,12 +1,12 @@
 -- Each reader of the record tells why it refuses: which field, and that its value is out of its range. Assumes nothing.
-use Rattle.std.specs.Prelude.{◌≡◌, refl, Bool, true, false, ◌&&◌, length, eqb, ℤ, pos}
+use Rattle.std.specs.Prelude.{◌≡◌, refl, Bool, true, false, ◌&&◌, length, eqb, ℤ, pos, if◌then◌else◌}
 use Rattle.std.proofs.Common.{sym, ap, ◌∙◌, arith, leb-true, leb-false}
 use Rattle.std.proofs.Math.Bool.{not}
 use mathlib.Core.List.{List, [], ◌∷◌}
 use Prim.Native.Nat.{ℕ, zero, suc, ◌+◌, ◌≤◌, ◌<◌}
 use Rattle.std.proofs.Math.Dec.{leb, ltb}
 use Rattle.std.specs.Int.Signed.{le_z}
-use Rattle.definitions.specs.Tools.{if◌then◌else◌, any, neg, eq_z, within}
+use Rattle.definitions.specs.Tools.{any, neg, eq_z, within}
 use Rattle.definitions.specs.Board.{is_true, is_false, at_most}
 use Rattle.definitions.specs.Result.{Result, done, refused}
 use Rattle.definitions.specs.Result as result

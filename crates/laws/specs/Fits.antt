@@ -1,5 +1,5 @@
 -- How great the numbers of an admitted board can be: generous bounds, so that what is counted fits its width.
-use Rattle.std.specs.Prelude.{◌≡◌, Bool, true, false, not, take, drop, pos, nat_abs, ◌+ℤ◌, ◌-ℤ◌, ◌≤ℤ◌}
+use Rattle.std.specs.Prelude.{◌≡◌, Bool, true, false, not, take, drop, pos, nat_abs, ◌+ℤ◌, ◌-ℤ◌, ◌≤ℤ◌, if◌then◌else◌}
 use Rattle.std.proofs.Math.Path.{refl}
 use Rattle.std.proofs.Common.{ap, mul-le-mul, length-append, take-append-drop, SFits}
 use mathlib.Core.List.{List, [], ◌∷◌, ◌++◌, map, flatten}
@@ -8,7 +8,7 @@ use native.Mathlib.Omega.{arith}
 use Rattle.std.proofs.Math.ListN.{length}
 use Rattle.std.specs.Int.Signed.{le_z}
 use Rattle.std.specs.Int.{w32}
-use Rattle.definitions.specs.Tools.{All, if◌then◌else◌, sum}
+use Rattle.definitions.specs.Tools.{All, sum}
 use Rattle.definitions.specs.Board.{Board, Bounds, Term, Comparison, Clause, is_true, is_false, at_most, bounds_of}
 use Rattle.definitions.specs.Encoding.{term_bounds, least, tuples_of, comparisons, selected, axioms, rules, SatClause, places, width, first, N, M, K}
 use Rattle.laws.specs.Limits.{sums_limit, tuples_limit, firsts_limit}

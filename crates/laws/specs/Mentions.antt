@@ -1,5 +1,5 @@
 -- The clauses of an admitted board speak of the board's own atoms, so that each literal's number is from 1 to N.
-use Rattle.std.specs.Prelude.{◌≡◌, Bool, not, ℕ, suc, ◌+◌, ◌≤◌, ◌<◌, length, nat_abs, ◌-ℤ◌, ◌*ℤ◌, ◌≤ℤ◌}
+use Rattle.std.specs.Prelude.{◌≡◌, Bool, not, ℕ, suc, ◌+◌, ◌≤◌, ◌<◌, length, nat_abs, ◌-ℤ◌, ◌*ℤ◌, ◌≤ℤ◌, if◌then◌else◌}
 use Rattle.std.proofs.Math.Path.{refl}
 use Rattle.std.proofs.Math.Bool.{true, false}
 use mathlib.Core.List.{List, [], ◌∷◌, ◌++◌, map, flatten, zip_with}
@@ -7,7 +7,7 @@ use native.Mathlib.Omega.{arith}
 use Rattle.std.proofs.Math.ListN.{length-append}
 use Rattle.std.proofs.Math.IntN.{ℤ, pos}
 use Rattle.std.specs.Int.Signed.{le_z, lt_z}
-use Rattle.definitions.specs.Tools.{All, if◌then◌else◌, floor, ceil, count_up, range}
+use Rattle.definitions.specs.Tools.{All, floor, ceil, count_up, range}
 use Rattle.definitions.specs.Board.{Board, Bounds, Term, Comparison, Clause, is_true, is_false, at_most, bounds_of, variables}
 use Rattle.definitions.specs.Encoding.{Atom, order, SatLiteral, SatClause, plus, minus, term_bounds, least, tuples_of, sharp, clauses_under, axioms_of, comparisons, selected, axioms, rules, clauses, selections, number, literal_number, N}
 use Rattle.laws.specs.Whole.{whole, sub_law, abs_neg, ne_in}

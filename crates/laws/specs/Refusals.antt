@@ -1,10 +1,10 @@
 -- What a reader's refusal means (01, "What is said no to", 4 to 8; 02, P1): the field at its place, that field's range, and what another record
 -- is told that begins with the same bytes. Assumes nothing.
-use Rattle.std.specs.Prelude.{◌≡◌, ◌≢◌, List, [], ◌∷◌, ltb, length, get_or, ℤ, pos, ◌≤ℤ◌}
+use Rattle.std.specs.Prelude.{◌≡◌, ◌≢◌, List, [], ◌∷◌, ltb, length, get_or, ℤ, pos, ◌≤ℤ◌, if◌then◌else◌}
 use Rattle.std.proofs.Math.Path.{refl}
 use Rattle.std.proofs.Common.{sym, arith}
 use Prim.Native.Nat.{ℕ, zero, suc, ◌+◌, ◌≤◌, ◌<◌}
-use Rattle.definitions.specs.Tools.{All, neg, if◌then◌else◌}
+use Rattle.definitions.specs.Tools.{All, neg}
 use Rattle.definitions.specs.Result.{Result, done, refused}
 use Rattle.definitions.specs.Result as result
 use Rattle.definitions.specs.Reading.{Got, Reader, give, ◌>>=◌, mapped, times, big, twos}

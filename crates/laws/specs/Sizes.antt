@@ -1,5 +1,5 @@
 -- N, M and K (01, "Five operations"): M and K are the lists' lengths, and sums over variables and clauses as they are added up.
-use Rattle.std.specs.Prelude.{◌≡◌, Bool, not, ℤ, ◌-ℤ◌, ◌≤ℤ◌}
+use Rattle.std.specs.Prelude.{◌≡◌, Bool, not, ℤ, ◌-ℤ◌, ◌≤ℤ◌, if◌then◌else◌}
 use Rattle.std.proofs.Math.Path.{refl, sym, ap, ap₂}
 use Rattle.std.proofs.Common.{◌∙◌, length-append}
 use Rattle.std.proofs.Math.Bool.{true, false}
@@ -9,7 +9,7 @@ use native.Mathlib.Omega.{arith}
 use Rattle.std.proofs.Math.ListN.{length, length-map}
 use Rattle.std.proofs.Math.IntN.{pos}
 use Rattle.std.specs.Int.Signed.{le_z}
-use Rattle.definitions.specs.Tools.{All, if◌then◌else◌, count_up, sum, range}
+use Rattle.definitions.specs.Tools.{All, count_up, sum, range}
 use Rattle.definitions.specs.Board.{Board, Bounds, Term, Comparison, Clause, bounds_of, variables}
 use Rattle.definitions.specs.Encoding.{SatClause, order, plus, minus, least, tuples_of, sharp, clauses_under, axioms_of, comparisons, selected, axioms, rules, clauses, width, literal_number, clause_list, N, M, places, K}
 use Rattle.laws.specs.Lists.{all_impl, all_map, all_every, all-count_up, map_same, map_at, length-flatten, length-flat-map, sum-append, sum-flatten, sum_same}

@@ -1,8 +1,8 @@
 -- Terms within their variables' bounds: the ranges of b₁ .. bₙ (000, Proposition 1), and how great all that can be.
-use Rattle.std.specs.Prelude.{◌≡◌, refl, Bool, true, false, List, [], ◌∷◌, map, ℕ, suc, ◌≤◌, ◌<◌, length, ℤ, pos, nat_abs, ◌+ℤ◌, ◌-ℤ◌, ◌*ℤ◌, ◌≤ℤ◌, ◌<ℤ◌}
+use Rattle.std.specs.Prelude.{◌≡◌, refl, Bool, true, false, List, [], ◌∷◌, map, ℕ, suc, ◌≤◌, ◌<◌, length, ℤ, pos, nat_abs, ◌+ℤ◌, ◌-ℤ◌, ◌*ℤ◌, ◌≤ℤ◌, ◌<ℤ◌, if◌then◌else◌}
 use Rattle.std.proofs.Common.{arith}
 use Rattle.std.specs.Int.Signed.{lt_z}
-use Rattle.definitions.specs.Tools.{All, if◌then◌else◌, sum_z, eq_z}
+use Rattle.definitions.specs.Tools.{All, sum_z, eq_z}
 use Rattle.definitions.specs.Board.{Board, Bounds, Term, bounds_of}
 use Rattle.definitions.specs.Encoding.{term_bounds, least, tuples}
 use Rattle.laws.specs.Lists.{all-at, all_map, all_impl}

@@ -1,13 +1,13 @@
 -- Places whose offsets fall into classes of equal literals: which tuples are the first of their classes, and which clauses a sum gives. Assumes nothing.
 use Rattle.std.proofs.Math.Path.{◌≡◌, refl, sym, ap}
 use Rattle.std.proofs.Common.{◌∙◌, subst, inl, inr, eqb→eq}
-use Rattle.std.specs.Prelude.{◌⊎◌, ◌≢◌, Bool, ◌||◌, T, eqb}
+use Rattle.std.specs.Prelude.{◌⊎◌, ◌≢◌, Bool, ◌||◌, T, eqb, if◌then◌else◌}
 use Rattle.std.proofs.Math.Bool.{true, false}
 use mathlib.Core.List.{List, [], ◌∷◌, ◌++◌, map, flatten}
 use Prim.Native.Nat.{ℕ, zero, suc, min, ◌+◌, ◌-◌, ◌≤◌, ◌<◌}
 use Rattle.std.proofs.Math.Decide.{dec_le}
 use native.Mathlib.Omega.{arith}
-use Rattle.definitions.specs.Tools.{Any, if◌then◌else◌}
+use Rattle.definitions.specs.Tools.{Any}
 use Rattle.laws.specs.Runs.{over, over-more, over-same, map-over}
 use Rattle.laws.specs.Offsets.{offsets}
 use Rattle.laws.specs.Some.{any_left, any_right}

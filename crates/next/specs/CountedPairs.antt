@@ -1,5 +1,5 @@
 -- The counts of two places as they are computed: at once, whatever the widths. Assumes nothing.
-use Rattle.std.specs.Prelude.{◌≡◌, refl, not, ◌&&◌, ◌||◌, [], ◌∷◌, map, T, leb, ltb, length}
+use Rattle.std.specs.Prelude.{◌≡◌, refl, not, ◌&&◌, ◌||◌, [], ◌∷◌, map, T, leb, ltb, length, if◌then◌else◌}
 use Rattle.std.proofs.Math.Path.{sym, ap}
 use Rattle.std.proofs.Common.{ap₂, ◌∙◌, leb→le, ltb→lt, nltb→le}
 use Rattle.std.proofs.Math.Bool.{Bool, true, false}
@@ -7,7 +7,7 @@ use Prim.Native.Nat.{ℕ, zero, suc, min, ◌+◌, ◌-◌, ◌%◌, ◌≤◌, 
 use Rattle.std.proofs.Math.Nat.{zero-mod}
 use native.Mathlib.Omega.{arith}
 use Rattle.std.proofs.Math.Dec.{eqb, nleb→lt}
-use Rattle.definitions.specs.Tools.{if◌then◌else◌, count_up}
+use Rattle.definitions.specs.Tools.{count_up}
 use Rattle.next.specs.Once.{keep}
 use Rattle.next.specs.Bools.{eqb_yes}
 use Rattle.next.specs.RunSums.{total, hits, mark}

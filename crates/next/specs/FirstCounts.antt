@@ -1,5 +1,5 @@
 -- How many tuples are the first of their classes, place by place, and how many are of the greatest offsets alone. Over any number of places. Assumes nothing.
-use Rattle.std.specs.Prelude.{◌≡◌, Bool}
+use Rattle.std.specs.Prelude.{◌≡◌, Bool, if◌then◌else◌}
 use Rattle.std.proofs.Math.Path.{refl, ap}
 use Rattle.std.proofs.Common.{sym, ◌∙◌}
 use Rattle.std.proofs.Math.Bool.{true, false}
@@ -7,7 +7,7 @@ use mathlib.Core.List.{List, [], ◌∷◌, map}
 use Prim.Native.Nat.{ℕ, zero, suc, min, ◌+◌, ◌-◌, ◌≤◌}
 use native.Mathlib.Omega.{arith}
 use Rattle.std.proofs.Math.ListN.{length, length-map}
-use Rattle.definitions.specs.Tools.{if◌then◌else◌, count_up, sum}
+use Rattle.definitions.specs.Tools.{count_up, sum}
 use Rattle.laws.specs.Offsets.{offsets}
 use Rattle.next.specs.Once.{keep}
 use Rattle.next.specs.RunSums.{total, length_over, total-same, total-cut, total-plus, sum_kept}

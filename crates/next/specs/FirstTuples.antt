@@ -1,5 +1,5 @@
 -- The first of equal clauses are those of the first tuples, over any number of places. Assumes nothing.
-use Rattle.std.specs.Prelude.{◌≡◌, ◌⊎◌, ◌↔◌, Bool, ◌&&◌, ◌||◌, eqb}
+use Rattle.std.specs.Prelude.{◌≡◌, ◌⊎◌, ◌↔◌, Bool, ◌&&◌, ◌||◌, eqb, if◌then◌else◌}
 use Rattle.std.proofs.Math.Path.{refl, sym, ap₂}
 use Rattle.std.proofs.Common.{ap, ◌∙◌, subst, arith}
 use Rattle.std.proofs.Math.Logic.{inl, inr}
@@ -8,7 +8,7 @@ use mathlib.Core.List.{List, [], ◌∷◌, ◌++◌, map, flatten}
 use Prim.Native.Nat.{ℕ, zero, suc, min, ◌+◌, ◌-◌, ◌≤◌, ◌<◌}
 use Rattle.std.proofs.Math.Decide.{dec_le}
 use Rattle.std.proofs.Math.Dec.{T}
-use Rattle.definitions.specs.Tools.{All, Any, if◌then◌else◌}
+use Rattle.definitions.specs.Tools.{All, Any}
 use Rattle.laws.specs.Decide.{Decides, equals}
 use Rattle.laws.specs.Runs.{over, map-over}
 use Rattle.laws.specs.Offsets.{offsets}

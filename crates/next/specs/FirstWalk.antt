@@ -1,11 +1,11 @@
 -- A walk over the first tuples of three places: what is left, and how a step changes it. Assumes nothing.
-use Rattle.std.specs.Prelude.{◌≡◌, Bool, true, false}
+use Rattle.std.specs.Prelude.{◌≡◌, Bool, true, false, if◌then◌else◌}
 use Rattle.std.proofs.Common.{sym, ◌∙◌}
 use Rattle.std.proofs.Math.Path.{ap}
 use mathlib.Core.List.{List, [], ◌∷◌, ◌++◌, map, flatten}
 use Prim.Native.Nat.{ℕ, suc, min, ◌+◌, ◌-◌, ◌%◌, ◌≤◌, ◌<◌}
 use native.Mathlib.Omega.{arith}
-use Rattle.definitions.specs.Tools.{if◌then◌else◌, count_up}
+use Rattle.definitions.specs.Tools.{count_up}
 use Rattle.laws.specs.Runs.{over, over-more, over_none, over_window}
 use Rattle.next.specs.Once.{keep}
 use Rattle.next.specs.Classes.{Place, is_low, is_high, pick}

@@ -1,12 +1,11 @@
 -- Sums over the numbers of a run that pass a test, taken by going from one straight to the next. Assumes nothing.
-use Rattle.std.specs.Prelude.{◌≡◌, refl, Bool, not, ◌||◌, T, eqb, ltb}
+use Rattle.std.specs.Prelude.{◌≡◌, refl, Bool, not, ◌||◌, T, eqb, ltb, if◌then◌else◌}
 use Rattle.std.proofs.Math.Path.{sym, ap}
 use Rattle.std.proofs.Common.{◌∙◌, mod-lt, arith, ltb→lt, nltb→le}
 use Rattle.std.proofs.Math.Bool.{true, false, or-true}
 use Prim.Native.Nat.{ℕ, zero, suc, min, ◌+◌, ◌*◌, ◌-◌, ◌/◌, ◌%◌, ◌≤◌, ◌<◌}
 use Rattle.std.proofs.Math.Nat.{div-add-mod, mul-mod_right}
 use Rattle.std.proofs.Math.Decide.{dec_le}
-use Rattle.definitions.specs.Tools.{if◌then◌else◌}
 use Rattle.next.specs.Bools.{eqb_yes}
 use Rattle.next.specs.RunSums.{total, total_skip, turn_end, unless}
 use Rattle.next.specs.Classes.{is_low, is_high}

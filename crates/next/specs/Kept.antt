@@ -1,5 +1,5 @@
 -- A comparison's kept clauses are those of its first tuples in rising order, over any number of terms. Assumes nothing.
-use Rattle.std.specs.Prelude.{◌≡◌, refl, ◌≢◌, Bool, true, false, ℕ, T, ℤ, ◌+ℤ◌, ◌-ℤ◌, ◌≤ℤ◌, ◌<ℤ◌}
+use Rattle.std.specs.Prelude.{◌≡◌, refl, ◌≢◌, Bool, true, false, ℕ, T, ℤ, ◌+ℤ◌, ◌-ℤ◌, ◌≤ℤ◌, ◌<ℤ◌, if◌then◌else◌}
 use Rattle.std.proofs.Common.{sym, ◌∙◌}
 use Rattle.std.proofs.Math.Path.{ap}
 use mathlib.Core.List.{List, [], ◌∷◌, ◌++◌, map, zip_with, map-map, map-id}
@@ -7,7 +7,7 @@ use Rattle.std.proofs.Math.ListN.{length}
 use Rattle.std.proofs.lemmas.List.{length-map}
 use Rattle.std.proofs.Math.IntN.{pos}
 use Rattle.std.specs.Int.Signed.{le_z}
-use Rattle.definitions.specs.Tools.{All, size, sum_z, if◌then◌else◌}
+use Rattle.definitions.specs.Tools.{All, size, sum_z}
 use Rattle.definitions.specs.Board.{Board, Bounds, Term, Comparison, bounds_of}
 use Rattle.definitions.specs.Encoding.{SatLiteral, SatClause, term_bounds, least, tuples_of, sharp, clauses_under}
 use Rattle.laws.specs.Lists.{map_same, all_every, all_impl}

@@ -1,10 +1,9 @@
 -- Hops taken twice as many at a time: a sum of many thousand hops is computed without going as deep. Assumes nothing.
-use Rattle.std.specs.Prelude.{◌≡◌, Bool, T, ltb}
+use Rattle.std.specs.Prelude.{◌≡◌, Bool, T, ltb, if◌then◌else◌}
 use Rattle.std.proofs.Math.Path.{sym}
 use Rattle.std.proofs.Common.{◌∙◌, arith, ltb→lt}
 use Rattle.std.proofs.Math.Bool.{true, false}
 use Prim.Native.Nat.{ℕ, zero, suc, ◌+◌, ◌-◌, ◌≤◌, ◌<◌}
-use Rattle.definitions.specs.Tools.{if◌then◌else◌}
 use Rattle.next.specs.RunSums.{total, turn_end}
 use Rattle.next.specs.Hops.{hops, Hops, hop, hops-total}
 

@@ -1,6 +1,6 @@
 -- No clause twice (02, P4): of a comparison's clauses the first of equal ones stays, in the order of the first. Assumes nothing.
-use Rattle.std.specs.Prelude.{Bool, true, false, not, ◌&&◌, List, [], ◌∷◌, ℕ, eqb}
-use Rattle.definitions.specs.Tools.{eq_z, if◌then◌else◌}
+use Rattle.std.specs.Prelude.{Bool, true, false, not, ◌&&◌, List, [], ◌∷◌, ℕ, eqb, if◌then◌else◌}
+use Rattle.definitions.specs.Tools.{eq_z}
 use Rattle.definitions.specs.Board.{Bounds, Comparison}
 use Rattle.definitions.specs.Encoding.{Atom, SatLiteral, SatClause, plus, minus, bool, order, selector, clauses_under}
 

@@ -1,12 +1,12 @@
 -- What is kept of a list whose equal entries are kept once: the same entries, pairwise different, each where it first stands. Assumes nothing.
-use Rattle.std.specs.Prelude.{◌≡◌, ◌⊎◌, ◌↔◌, ◌≢◌, Bool, true, false, ◌||◌, ℕ, suc, ◌≤◌, length, get_or, take}
+use Rattle.std.specs.Prelude.{◌≡◌, ◌⊎◌, ◌↔◌, ◌≢◌, Bool, true, false, ◌||◌, ℕ, suc, ◌≤◌, length, get_or, take, if◌then◌else◌}
 use Rattle.std.proofs.Math.Path.{refl, ap}
 use Rattle.std.proofs.Common.{sym, ap₂, ◌∙◌, subst, arith, length-append}
 use Rattle.std.proofs.Math.Logic.{inl, inr}
 use Rattle.std.proofs.Math.Bool.{not, or-false}
 use mathlib.Core.List.{List, [], ◌∷◌, ◌++◌, map, append_assoc}
 use Rattle.std.proofs.Math.Dec.{T, T_not}
-use Rattle.definitions.specs.Tools.{All, Any, any, if◌then◌else◌, count_up}
+use Rattle.definitions.specs.Tools.{All, Any, any, count_up}
 use Rattle.laws.specs.Decide.{Decides}
 use Rattle.laws.specs.Lists.{all_impl}
 use Rattle.laws.specs.Some.{any_append}

@@ -1,11 +1,11 @@
 -- The steps of a walk over the first tuples of two places: from one straight to the next. Assumes nothing.
-use Rattle.std.specs.Prelude.{◌≡◌, refl, ◌≢◌, Bool, true, false, not, ◌&&◌, ◌||◌, [], ◌∷◌, ℕ, suc, min, ◌+◌, ◌*◌, ◌-◌, ◌/◌, ◌%◌, ◌≤◌, ◌<◌, T, eqb, leb}
+use Rattle.std.specs.Prelude.{◌≡◌, refl, ◌≢◌, Bool, true, false, not, ◌&&◌, ◌||◌, [], ◌∷◌, ℕ, suc, min, ◌+◌, ◌*◌, ◌-◌, ◌/◌, ◌%◌, ◌≤◌, ◌<◌, T, eqb, leb, if◌then◌else◌}
 use Rattle.std.proofs.Common.{ap, ◌∙◌, mod-lt, arith, leb→le}
 use Rattle.std.proofs.Math.Bool.{or-true, or-false, and-true}
 use Rattle.std.proofs.Math.Nat.{div-add-mod}
 use Rattle.std.proofs.Math.Decide.{dec_le}
 use Rattle.std.proofs.Math.Dec.{nleb→lt}
-use Rattle.definitions.specs.Tools.{if◌then◌else◌, count_up}
+use Rattle.definitions.specs.Tools.{count_up}
 use Rattle.next.specs.Once.{keep}
 use Rattle.next.specs.Bools.{eqb_no, eqb_yes}
 use Rattle.next.specs.Classes.{Place, is_low, is_high}

@@ -1,5 +1,5 @@
 -- The first tuples of two and three places as lists of numbers that pass a test, and what may be stepped over. Assumes nothing.
-use Rattle.std.specs.Prelude.{◌≡◌, Bool, ◌&&◌, ◌||◌}
+use Rattle.std.specs.Prelude.{◌≡◌, Bool, ◌&&◌, ◌||◌, if◌then◌else◌}
 use Rattle.std.proofs.Math.Path.{refl, ap}
 use Rattle.std.proofs.Common.{sym, ap₂, ◌∙◌}
 use Rattle.std.proofs.Math.Bool.{true, false}
@@ -7,7 +7,7 @@ use mathlib.Core.List.{List, [], ◌∷◌, ◌++◌, map, flatten, append-nil}
 use Prim.Native.Nat.{ℕ, zero, suc, min, ◌+◌, ◌-◌, ◌≤◌, ◌<◌}
 use Rattle.std.proofs.Math.Decide.{dec_le}
 use native.Mathlib.Omega.{arith}
-use Rattle.definitions.specs.Tools.{if◌then◌else◌, count_up}
+use Rattle.definitions.specs.Tools.{count_up}
 use Rattle.laws.specs.Runs.{over, over-same, over_none, over_window}
 use Rattle.laws.specs.Offsets.{offsets}
 use Rattle.next.specs.Once.{keep}

@@ -1,10 +1,9 @@
 -- Counts of first tuples in closed windows: one place in front of others, and two places. Assumes nothing.
-use Rattle.std.specs.Prelude.{◌≡◌, refl, Bool, true, false, ◌&&◌, ◌||◌, List, [], ◌∷◌, length}
+use Rattle.std.specs.Prelude.{◌≡◌, refl, Bool, true, false, ◌&&◌, ◌||◌, List, [], ◌∷◌, length, if◌then◌else◌}
 use Rattle.std.proofs.Math.Path.{ap}
 use Rattle.std.proofs.Common.{◌∙◌}
 use Prim.Native.Nat.{ℕ, zero, suc, min, ◌+◌, ◌-◌, ◌≤◌, ◌<◌}
 use native.Mathlib.Omega.{arith}
-use Rattle.definitions.specs.Tools.{if◌then◌else◌}
 use Rattle.laws.specs.Offsets.{offsets}
 use Rattle.next.specs.RunSums.{total, total-same, total_none, total-plus, total-last, total_window, hits}
 use Rattle.next.specs.Classes.{Place, is_low, is_high, pick}

@@ -1,9 +1,8 @@
 -- Every two steps have a period and starts of its pairs, each found by a search; so the count is defined for all comparisons. Assumes nothing.
-use Rattle.std.specs.Prelude.{◌≡◌, refl, Bool, true, false, ◌&&◌, ℕ, zero, suc, ◌+◌, ◌*◌, ◌%◌, ◌≤◌, ◌<◌, T, eqb}
+use Rattle.std.specs.Prelude.{◌≡◌, refl, Bool, true, false, ◌&&◌, ℕ, zero, suc, ◌+◌, ◌*◌, ◌%◌, ◌≤◌, ◌<◌, T, eqb, if◌then◌else◌}
 use Rattle.std.proofs.Common.{sym, ap, ◌∙◌, subst, mul-le-mul, arith}
 use Rattle.std.proofs.Math.Nat.{mul-mod_right, mul-mod_left}
 use Rattle.std.proofs.Math.Decide.{dec_le}
-use Rattle.definitions.specs.Tools.{if◌then◌else◌}
 use Rattle.laws.specs.Decide.{Decides, both, equals}
 use Rattle.next.specs.Remainders.{Least}
 use Rattle.next.specs.Windows.{Starts}

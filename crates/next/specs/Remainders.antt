@@ -1,9 +1,8 @@
 -- Numbers by their remainders: how many in a window have one, and two remainders at once as one. Assumes nothing.
-use Rattle.std.specs.Prelude.{◌≡◌, ◌↔◌, ◌≢◌, Bool, true, false, ◌&&◌, ℕ, zero, suc, ◌+◌, ◌*◌, ◌-◌, ◌/◌, ◌%◌, ◌≤◌, ◌<◌, T, eqb}
+use Rattle.std.specs.Prelude.{◌≡◌, ◌↔◌, ◌≢◌, Bool, true, false, ◌&&◌, ℕ, zero, suc, ◌+◌, ◌*◌, ◌-◌, ◌/◌, ◌%◌, ◌≤◌, ◌<◌, T, eqb, if◌then◌else◌}
 use Rattle.std.proofs.Common.{sym, ap, ◌∙◌, mod-lt, mod-eq_of_lt, mul_assoc, arith, eqb→eq}
 use Rattle.std.proofs.Math.Nat.{div-add-mod, div-eq_of_lt-le, mul-add-mod_self_left, zero-mod, mul-mod_right, div-eq_of_lt}
 use Rattle.std.proofs.Math.Decide.{dec_le}
-use Rattle.definitions.specs.Tools.{if◌then◌else◌}
 use Rattle.laws.specs.Decide.{Decides, both, equals}
 use Rattle.next.specs.RunSums.{total, total-append, total_none, unless, hits, hits-same}
 use Rattle.next.specs.Bools.{alike, fails}

@@ -1,8 +1,8 @@
 -- Sums over a run of numbers, and how many of them pass a test. Assumes nothing.
-use Rattle.std.specs.Prelude.{◌≡◌, refl, Bool, true, false, ◌&&◌, ◌||◌, List, ◌∷◌, map, ℕ, zero, suc, ◌+◌, ◌-◌, ◌≤◌, ◌<◌, length}
+use Rattle.std.specs.Prelude.{◌≡◌, refl, Bool, true, false, ◌&&◌, ◌||◌, List, ◌∷◌, map, ℕ, zero, suc, ◌+◌, ◌-◌, ◌≤◌, ◌<◌, length, if◌then◌else◌}
 use Rattle.std.proofs.Common.{ap, ◌∙◌, arith}
 use Rattle.std.proofs.Math.Decide.{dec_le}
-use Rattle.definitions.specs.Tools.{if◌then◌else◌, count_up, sum}
+use Rattle.definitions.specs.Tools.{count_up, sum}
 use Rattle.laws.specs.Lists.{sum-append, count_up-append, length-flat-map}
 use Rattle.laws.specs.Runs.{over}
 use Rattle.next.specs.Once.{keep}

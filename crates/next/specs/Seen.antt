@@ -1,10 +1,10 @@
 -- The first of equal entries by what has been seen: entry by entry, and list after list. Assumes nothing.
-use Rattle.std.specs.Prelude.{◌≡◌, ◌⊎◌, ◌↔◌, Bool, true, false, ◌||◌, T}
+use Rattle.std.specs.Prelude.{◌≡◌, ◌⊎◌, ◌↔◌, Bool, true, false, ◌||◌, T, if◌then◌else◌}
 use Rattle.std.proofs.Math.Path.{refl, sym}
 use Rattle.std.proofs.Common.{ap, ap₂, ◌∙◌, inl, inr}
 use Rattle.std.proofs.Math.Bool.{not}
 use mathlib.Core.List.{List, [], ◌∷◌, ◌++◌}
-use Rattle.definitions.specs.Tools.{All, Any, if◌then◌else◌}
+use Rattle.definitions.specs.Tools.{All, Any}
 use Rattle.laws.specs.Decide.{Decides}
 use Rattle.next.specs.Once.{keep, once}
 

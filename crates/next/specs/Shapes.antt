@@ -1,5 +1,5 @@
 -- The first tuples depend on steps and widths alone: a comparison's kept clauses are counted by numbers, and where all |a| are 1 all are kept. Assumes nothing.
-use Rattle.std.specs.Prelude.{◌≡◌, Bool, ◌||◌, ℕ, zero, suc, min, ◌-◌, ◌%◌, length, pos, nat_abs, ◌-ℤ◌}
+use Rattle.std.specs.Prelude.{◌≡◌, Bool, ◌||◌, ℕ, zero, suc, min, ◌-◌, ◌%◌, length, pos, nat_abs, ◌-ℤ◌, if◌then◌else◌}
 use Rattle.std.proofs.Math.Path.{refl, ap}
 use Rattle.std.proofs.Common.{◌∙◌}
 use Rattle.std.proofs.Math.Bool.{true, false}
@@ -7,7 +7,7 @@ use mathlib.Core.List.{List, [], ◌∷◌, map}
 use Rattle.std.proofs.Math.Nat.{mod-one}
 use Rattle.std.proofs.Math.Dec.{eqb}
 use Rattle.std.proofs.lemmas.List.{length-map}
-use Rattle.definitions.specs.Tools.{All, if◌then◌else◌, size}
+use Rattle.definitions.specs.Tools.{All, size}
 use Rattle.definitions.specs.Board.{Bounds, Term, Comparison}
 use Rattle.definitions.specs.Encoding.{SatClause, term_bounds}
 use Rattle.laws.specs.Runs.{over-same}

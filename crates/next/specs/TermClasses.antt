@@ -1,9 +1,9 @@
 -- A term's literals by the offset of their bound: what they say, and where they change. Assumes nothing.
-use Rattle.std.specs.Prelude.{◌≡◌, refl, ◌↔◌, ◌≢◌, Bool, true, false, ℕ, suc, ◌*◌, ◌/◌, ◌%◌, ◌≤◌, ◌<◌, T, eqb, ℤ, pos, negsuc, neg_ℤ, nat_abs, ◌+ℤ◌, ◌-ℤ◌, ◌*ℤ◌, ◌≤ℤ◌, ◌<ℤ◌}
+use Rattle.std.specs.Prelude.{◌≡◌, refl, ◌↔◌, ◌≢◌, Bool, true, false, ℕ, suc, ◌*◌, ◌/◌, ◌%◌, ◌≤◌, ◌<◌, T, eqb, ℤ, pos, negsuc, neg_ℤ, nat_abs, ◌+ℤ◌, ◌-ℤ◌, ◌*ℤ◌, ◌≤ℤ◌, ◌<ℤ◌, if◌then◌else◌}
 use Rattle.std.proofs.Common.{sym, ap, ◌∙◌, subst, inl, inr, eqb→eq}
 use Rattle.std.proofs.Math.Nat.{div-add-mod, mul-mod_right}
 use Rattle.std.specs.Int.Signed.{lt_z}
-use Rattle.definitions.specs.Tools.{floor, ceil, size, if◌then◌else◌}
+use Rattle.definitions.specs.Tools.{floor, ceil, size}
 use Rattle.definitions.specs.Board.{Bounds, Term}
 use Rattle.definitions.specs.Encoding.{SatLiteral, plus, minus, bool, order, selector, term_bounds, sharp}
 use Rattle.laws.specs.Decide.{equals}

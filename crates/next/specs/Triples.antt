@@ -1,10 +1,9 @@
 -- The first tuples of three places counted in two loops: over the least ones of the first and over the greatest ones of the second. Assumes nothing.
-use Rattle.std.specs.Prelude.{◌≡◌, refl, Bool, true, false, not, ◌||◌, [], ◌∷◌, map, ℕ, suc, min, ◌+◌, ◌-◌, ◌%◌, ◌≤◌, ◌<◌, T, eqb, leb, length}
+use Rattle.std.specs.Prelude.{◌≡◌, refl, Bool, true, false, not, ◌||◌, [], ◌∷◌, map, ℕ, suc, min, ◌+◌, ◌-◌, ◌%◌, ◌≤◌, ◌<◌, T, eqb, leb, length, if◌then◌else◌}
 use Rattle.std.proofs.Common.{sym, ap, ◌∙◌, leb→le}
 use Rattle.std.proofs.Math.Nat.{zero-mod}
 use native.Mathlib.Omega.{arith}
 use Rattle.std.proofs.Math.Dec.{nleb→lt}
-use Rattle.definitions.specs.Tools.{if◌then◌else◌}
 use Rattle.definitions.specs.Board.{Bounds, Comparison}
 use Rattle.definitions.specs.Encoding.{SatClause, least}
 use Rattle.laws.specs.Counting.{above}

@@ -1,8 +1,7 @@
 -- How many numbers of a window leave a remainder, end a class, or are multiples in pairs: closed forms as they are computed. Assumes nothing.
-use Rattle.std.specs.Prelude.{◌≡◌, Bool, true, false, not, ℕ, zero, suc, ◌+◌, ◌-◌, ◌/◌, ◌%◌, ◌≤◌, ◌<◌, T, eqb, leb, ltb}
+use Rattle.std.specs.Prelude.{◌≡◌, Bool, true, false, not, ℕ, zero, suc, ◌+◌, ◌-◌, ◌/◌, ◌%◌, ◌≤◌, ◌<◌, T, eqb, leb, ltb, if◌then◌else◌}
 use Rattle.std.proofs.Common.{sym, ap, ◌∙◌, mod-lt, arith, leb→le, ltb→lt, nltb→le}
 use Rattle.std.proofs.Math.Dec.{nleb→lt}
-use Rattle.definitions.specs.Tools.{if◌then◌else◌}
 use Rattle.next.specs.RunSums.{hits}
 use Rattle.next.specs.Classes.{is_low, is_high}
 use Rattle.next.specs.Shapes.{step}

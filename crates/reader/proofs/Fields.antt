@@ -6,7 +6,8 @@ use Prim.Native.Nat.{ℕ, zero, suc, ◌+◌, ◌≤◌}
 use lib.ListN.{length}
 use lib.Dec.{leb, leb-suc-zero}
 use lib.IntN.{ℤ, pos, negsuc}
-use Rattle.definitions.specs.Tools.{if◌then◌else◌, neg, eq_z, within}
+use Rattle.std.specs.Prelude.{if◌then◌else◌}
+use Rattle.definitions.specs.Tools.{neg, eq_z, within}
 use Rattle.definitions.specs.Result.{Result, done, refused}
 use Rattle.definitions.specs.Result as result
 use Rattle.definitions.specs.Reading.{Got, big, unsigned, signed}

@@ -1,5 +1,6 @@
 -- The definitions' readers in the parts that the code has: fields with a range, and a term. Laws.antt puts them together again.
-use Rattle.definitions.specs.Tools.{ℕ, ℤ, pos, not, ◌&&◌, List, leb, ltb, eqb, any, neg, eq_z, within}
+use Rattle.std.specs.Prelude.{◌&&◌}
+use Rattle.definitions.specs.Tools.{ℕ, ℤ, pos, not, List, leb, ltb, eqb, any, neg, eq_z, within}
 use Rattle.definitions.specs.Board.{Term}
 use Rattle.definitions.specs.Result.{Result, done, refused}
 use Rattle.definitions.specs.Reading.{Got, Reader, Context, asked, ◌>>=◌, give, unsigned, signed}

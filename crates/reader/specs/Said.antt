@@ -1,5 +1,6 @@
 -- The reader's answers as the definitions have them.
-use Rattle.definitions.specs.Tools.{◌≡◌, ℕ, ℤ, List}
+use Rattle.std.specs.Prelude.{◌≡◌}
+use Rattle.definitions.specs.Tools.{ℕ, ℤ, List}
 use Rattle.definitions.specs.Board.{Literal, is_true, is_false, at_most}
 use Rattle.definitions.specs.Result.{Result, done, refused}
 use Rattle.definitions.specs.Reading.{Got, Context}

@@ -1,5 +1,6 @@
 -- The variables of a comparison's first n terms, which begin at a place: the last of them in front, as `read_terms` has them.
-use Rattle.definitions.specs.Tools.{ℕ, zero, suc, ◌+◌, ◌*◌, List, [], ◌∷◌}
+use Rattle.std.specs.Prelude.{◌+◌, ◌*◌, ◌∷◌}
+use Rattle.definitions.specs.Tools.{ℕ, zero, suc, List, []}
 use Rattle.laws.specs.Reread.{term_at}
 
 unfoldable pub seen_at : List ℕ → ℕ → ℕ → List ℕ

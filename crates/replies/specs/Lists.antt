@@ -1,10 +1,9 @@
 -- Laws of the numbers of text on their way into a list. Assumes nothing.
-use Rattle.std.specs.Prelude.{◌≡◌, refl, Bool, true, false, ◌&&◌, List, [], ◌∷◌, ◌++◌, ℕ, suc, ◌+◌, ◌*◌, ◌-◌, ◌≤◌, ◌<◌, ltb, leb, eqb, length, drop, ℤ}
+use Rattle.std.specs.Prelude.{◌≡◌, refl, Bool, true, false, ◌&&◌, List, [], ◌∷◌, ◌++◌, ℕ, suc, ◌+◌, ◌*◌, ◌-◌, ◌≤◌, ◌<◌, ltb, leb, eqb, length, drop, ℤ, if◌then◌else◌}
 use Rattle.std.proofs.Common.{sym, ◌∙◌, subst, arith, length-append}
 use Rattle.std.proofs.Math.Path.{ap}
 use Rattle.std.proofs.Math.ListN.{set}
 use borrow.Author.Tests.{le-leb, lt-leb, leb-true}
-use Rattle.definitions.specs.Tools.{if◌then◌else◌}
 use Rattle.definitions.specs.Result.{Result, ◌>>=◌, ◌>>◌, need, done, refused}
 use Rattle.definitions.specs.Operations.{Sizes, ◌leaves◌}
 use Rattle.definitions.specs.Dimacs.{ascii}

@@ -1,10 +1,10 @@
 -- Marks of variables, window by window: how often each stands in a reply, up to twice; and the least that does not stand there once. Assumes nothing.
-use Rattle.std.specs.Prelude.{◌≡◌, refl, Bool, true, false, List, [], ◌∷◌, ◌++◌, map, ℕ, zero, suc, ◌+◌, ◌-◌, ◌≤◌, ◌<◌, min, ltb, leb, eqb, length, get_or, take, drop, set, replicate, ℤ, nat_abs}
+use Rattle.std.specs.Prelude.{◌≡◌, refl, Bool, true, false, List, [], ◌∷◌, ◌++◌, map, ℕ, zero, suc, ◌+◌, ◌-◌, ◌≤◌, ◌<◌, min, ltb, leb, eqb, length, get_or, take, drop, set, replicate, ℤ, nat_abs, if◌then◌else◌}
 use Rattle.std.proofs.Common.{sym, ap, ◌∙◌, inl, inr, add-one, arith, length-set, drop-cons, take_at, get_or-set_same, get_or-set_other, ext_get_or, eq-eqb, ne_eqb, eqb-true, le-leb, leb-true, leb-false, lt-ltb, le-ltb, ltb-true, ltb-false}
 use Rattle.std.proofs.lemmas.List.{map-append, length-map, set-get_or}
 use Rattle.std.proofs.Math.Seq.{set_out}
 use Rattle.std.proofs.lemmas.Bool.{eqb-false, lt-leb}
-use Rattle.definitions.specs.Tools.{if◌then◌else◌, count_up}
+use Rattle.definitions.specs.Tools.{count_up}
 use Rattle.definitions.specs.Result.{Result, ◌>>◌, done, refused, each}
 use Rattle.laws.specs.Lists.{counted-at, length-count_up, count_up-append, all-count_up, map_same}
 use Rattle.laws.specs.Search.{seek-append}

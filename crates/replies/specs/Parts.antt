@@ -1,6 +1,6 @@
 -- Text and replies read part by part. Each part answers its value, the place after it and the bytes from there on.
-use Rattle.std.specs.Prelude.{nat_abs}
-use Rattle.definitions.specs.Tools.{ℕ, suc, ◌+◌, ◌*◌, ◌-◌, ◌≤◌, ◌≡◌, Bool, true, ℤ, List, [], ◌∷◌, length, drop, if◌then◌else◌, ltb, leb, eqb, ◌&&◌}
+use Rattle.std.specs.Prelude.{nat_abs, ◌+◌, ◌*◌, ◌-◌, ◌≤◌, ◌≡◌, ◌∷◌, if◌then◌else◌, ◌&&◌}
+use Rattle.definitions.specs.Tools.{ℕ, suc, Bool, true, ℤ, List, [], length, drop, ltb, leb, eqb}
 use Rattle.definitions.specs.Result.{Result, ◌>>=◌, ◌>>◌, need, done, refused}
 use Rattle.definitions.specs.Operations.{Sizes}
 use Rattle.definitions.specs.Dimacs.{ascii}

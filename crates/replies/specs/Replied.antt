@@ -1,5 +1,5 @@
 -- Laws of a reply part by part: its numbers one by one, and what they make of the whole. Assumes nothing.
-use Rattle.std.specs.Prelude.{◌≡◌, refl, Bool, true, false, ◌&&◌, ℕ, suc, ◌+◌, ◌≤◌, ◌<◌, ltb, drop, get_or, ℤ, nat_abs}
+use Rattle.std.specs.Prelude.{◌≡◌, refl, Bool, true, false, ◌&&◌, ℕ, suc, ◌+◌, ◌≤◌, ◌<◌, ltb, drop, get_or, ℤ, nat_abs, if◌then◌else◌}
 use Rattle.std.proofs.Math.Path.{sym, ap}
 use Rattle.std.proofs.Common.{◌∙◌, inl, inr, add-zero, add-one, drop-cons, eq-eqb, ne_eqb, eqb-true, ltb-true, ltb-false}
 use mathlib.Core.List.{List, [], ◌∷◌, ◌++◌}
@@ -7,7 +7,6 @@ use native.Mathlib.Omega.{arith}
 use Rattle.std.proofs.Math.Dec.{eqb}
 use Rattle.std.proofs.Math.ListN.{length, length-append}
 use Rattle.std.proofs.lemmas.Bool.{eqb-false}
-use Rattle.definitions.specs.Tools.{if◌then◌else◌}
 use Rattle.definitions.specs.Result.{Result, ◌>>=◌, ◌>>◌, need, done, refused}
 use Rattle.definitions.specs.Dimacs.{ascii}
 use Rattle.laws.specs.Readings.{never}

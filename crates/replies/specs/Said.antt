@@ -1,6 +1,6 @@
 -- What the parts of the reader answer, as Parts.antt has it, and where: not before `from`, nor past the text's end.
-use Rattle.definitions.specs.Tools.{ℕ, ◌≤◌, ◌≡◌, Bool, List, drop, length}
-use Rattle.std.specs.Prelude.{◌<◌}
+use Rattle.definitions.specs.Tools.{ℕ, Bool, List, drop, length}
+use Rattle.std.specs.Prelude.{◌<◌, ◌≤◌, ◌≡◌}
 use Rattle.definitions.specs.Result.{Result, done, refused}
 use Rattle.definitions.specs.TextReading.{Number, number_read, Reply}
 use Rattle.laws.specs.Stepping.{num}

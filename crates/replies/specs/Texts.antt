@@ -1,8 +1,8 @@
 -- Laws of text part by part: the first line, the numbers one by one, and what they make of the whole. Assumes nothing.
-use Rattle.std.specs.Prelude.{◌≡◌, refl, Bool, true, false, ◌&&◌, List, [], ◌∷◌, ◌++◌, ℕ, zero, suc, ◌+◌, ◌*◌, ◌-◌, ◌≤◌, ◌<◌, ltb, leb, eqb, length, drop, ℤ, pos}
+use Rattle.std.specs.Prelude.{◌≡◌, refl, Bool, true, false, ◌&&◌, List, [], ◌∷◌, ◌++◌, ℕ, zero, suc, ◌+◌, ◌*◌, ◌-◌, ◌≤◌, ◌<◌, ltb, leb, eqb, length, drop, ℤ, pos, if◌then◌else◌}
 use Rattle.std.proofs.Common.{sym, ap, ◌∙◌, inl, inr, append-nil, add-zero, arith, length-append, eq-eqb, ne_eqb}
 use Rattle.std.proofs.Math.Dec.{leb-suc-zero}
-use Rattle.definitions.specs.Tools.{if◌then◌else◌, neg}
+use Rattle.definitions.specs.Tools.{neg}
 use Rattle.definitions.specs.Result.{Result, ◌>>=◌, ◌>>◌, need, done, refused}
 use Rattle.definitions.specs.Dimacs.{ascii}
 use Rattle.definitions.specs.Texts.{blank, zeros, most}

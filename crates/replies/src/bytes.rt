@@ -1,6 +1,6 @@
 // Tests of a byte, and of a number that is being read.
-ghost use Rattle.std.specs.Prelude.{◌≡◌, ◌-◌, ◌≤◌};
-ghost use Rattle.definitions.specs.Tools.{ltb, ◌&&◌};
+ghost use Rattle.std.specs.Prelude.{◌≡◌, ◌-◌, ◌≤◌, ◌&&◌};
+ghost use Rattle.definitions.specs.Tools.{ltb};
 ghost use Rattle.definitions.specs.Texts.{blank};
 ghost use Rattle.definitions.specs.TextReading.{digit, whole, further};
 ghost use Rattle.laws.specs.Stepping.{num};

@@ -1,6 +1,6 @@
 // The numbers of a clause list.
-ghost use Rattle.std.specs.Prelude.{◌≡◌, suc, ◌≤◌, ◌<◌, length, drop};
-ghost use Rattle.definitions.specs.Tools.{if◌then◌else◌, eqb};
+ghost use Rattle.std.specs.Prelude.{◌≡◌, suc, ◌≤◌, ◌<◌, length, drop, if◌then◌else◌};
+ghost use Rattle.definitions.specs.Tools.{eqb};
 ghost use Rattle.replies.specs.Parts.{found_from, started, list_from, sized};
 ghost use Rattle.replies.specs.Said.{said_next, NextIn, said_counted};
 

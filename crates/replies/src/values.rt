@@ -1,6 +1,6 @@
 // The numbers of a reply.
-ghost use Rattle.std.specs.Prelude.{◌≡◌, ◌+◌, ◌≤◌, ◌<◌, length, drop};
-ghost use Rattle.definitions.specs.Tools.{◌&&◌, eqb};
+ghost use Rattle.std.specs.Prelude.{◌≡◌, ◌+◌, ◌≤◌, ◌<◌, length, drop, ◌&&◌};
+ghost use Rattle.definitions.specs.Tools.{eqb};
 ghost use Rattle.laws.specs.Stepping.{num};
 ghost use Rattle.replies.specs.Parts.{after_number, number_on, value_at, reply_from, lines, summed};
 ghost use Rattle.replies.specs.Said.{said_value, ValueIn, said_listed};

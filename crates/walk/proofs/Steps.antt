@@ -6,7 +6,8 @@ use native.Mathlib.Omega.{arith}
 use native.Mathlib.Decide.{dec_le}
 use lib.IntN.{ℤ, pos, negsuc, neg_ℤ, nat_abs, ◌+ℤ◌, ◌-ℤ◌, ◌*ℤ◌}
 use lib.Signed.{lt_z, ◌≤ℤ◌, ◌<ℤ◌}
-use Rattle.definitions.specs.Tools.{if◌then◌else◌, floor, ceil}
+use Rattle.std.specs.Prelude.{if◌then◌else◌}
+use Rattle.definitions.specs.Tools.{floor, ceil}
 use Rattle.laws.specs.Whole.{whole, add_law, sub_law, neg_law, mul_law, mul_add, mul_neg, abs_law, part_law, le_or_lt, lt_test, ge_test}
 use Rattle.laws.specs.Division.{below_floor, not-below-ceil}
 use Rattle.walk.specs.declared.Slot.{Slot}

@@ -1,7 +1,7 @@
 -- A slot is a term with its variable's bounds and first number: where its bounds lie, and the number of its literal. Assumes nothing.
-use Rattle.std.specs.Prelude.{◌≡◌, refl, Bool, true, false, ℕ, ◌+◌, ◌≤◌, ◌<◌, ℤ, pos, nat_abs, ◌+ℤ◌, ◌-ℤ◌, ◌*ℤ◌, ◌≤ℤ◌}
+use Rattle.std.specs.Prelude.{◌≡◌, refl, Bool, true, false, ℕ, ◌+◌, ◌≤◌, ◌<◌, ℤ, pos, nat_abs, ◌+ℤ◌, ◌-ℤ◌, ◌*ℤ◌, ◌≤ℤ◌, if◌then◌else◌}
 use Rattle.std.specs.Int.Signed.{lt_z}
-use Rattle.definitions.specs.Tools.{if◌then◌else◌, size, floor, ceil, neg}
+use Rattle.definitions.specs.Tools.{size, floor, ceil, neg}
 use Rattle.definitions.specs.Board.{Bounds, Term, Board, bounds_of}
 use Rattle.definitions.specs.Encoding.{plus, minus, term_bounds, sharp, first, number, literal_number}
 use Rattle.definitions.specs.Encoding as Encoding

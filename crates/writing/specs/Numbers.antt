@@ -1,9 +1,8 @@
 -- The numbers of clauses, as the writers have them and as the definitions do. Assumes nothing.
-use Rattle.std.specs.Prelude.{◌≡◌, refl, Bool, true, false, ◌+◌, length, ℤ, pos, ◌≤ℤ◌, ◌<ℤ◌}
+use Rattle.std.specs.Prelude.{◌≡◌, refl, Bool, true, false, ◌+◌, length, ℤ, pos, ◌≤ℤ◌, ◌<ℤ◌, if◌then◌else◌}
 use Rattle.std.proofs.Common.{sym, ap, ap₂, ◌∙◌, length-append}
 use mathlib.Core.List.{List, [], ◌∷◌, ◌++◌, map, flatten, zip_with, map-map, map-append, append-nil}
 use Rattle.std.specs.Int.Signed.{le_z}
-use Rattle.definitions.specs.Tools.{if◌then◌else◌}
 use Rattle.definitions.specs.Board.{Board, bounds_of}
 use Rattle.definitions.specs.Board as board
 use Rattle.definitions.specs.Encoding.{SatClause, least, tuples_of, sharp, clauses_under, literal_number}
