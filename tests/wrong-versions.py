@@ -213,7 +213,7 @@ def together(edits, apart):
 
 
 def tried(crate, edits):
-    """Tries a crate's edits; answers what to say of each."""
+    """Tries edits of a crate; what to say of each."""
     answers, left, apart = {}, [], set()
     for edit in edits:
         try:
@@ -233,7 +233,14 @@ def tried(crate, edits):
             continue
         answers.update((edit, answer) for edit, answer in found.items() if answer)
         left = [edit for edit in left if edit not in answers]
-    return [(edit, answers[edit]) for edit in edits]
+    return answers
+
+
+def shares(edits):
+    """A crate's edits in shares, each tried in a copy of its own: those of its code, and the others, which are made alone, by twenties."""
+    code = [edit for edit in edits if all(file.startswith("src/") for file, _, _ in edit.changes)]
+    others = [edit for edit in edits if edit not in code]
+    return [share for share in [code, *(others[i:i + 20] for i in range(0, len(others), 20))] if share]
 
 
 def edits_of(names):
@@ -250,24 +257,27 @@ def main():
     edits, runs, refused = edits_of(sys.argv[1:]), 0, {"wrong": 0, "must-fail": 0}
     jobs = int(os.environ.get("JOBS", min(os.cpu_count(), 2)))
 
-    def work(source, name):
+    def work(source, name, share):
         with tempfile.TemporaryDirectory() as copy:
             try:
                 crate = Crate(source, pathlib.Path(copy), name)
-                return tried(crate, edits[name]), crate.runs
+                return tried(crate, share), crate.runs
             except Bad as wrong:
-                return [(edit, f"NOT TRIED: {wrong}") for edit in edits[name]], 1
+                return {edit: f"NOT TRIED: {wrong}" for edit in share}, 1
 
     with tempfile.TemporaryDirectory() as whole, concurrent.futures.ThreadPoolExecutor(jobs) as pool:
         source = proved(list(edits), pathlib.Path(whole), jobs)
-        # Those with the most edits begin.
-        begun = {name: pool.submit(work, source, name) for name in sorted(edits, key=lambda name: -len(edits[name]))}
+        # The largest shares begin.
+        shared = sorted(((name, share) for name in edits for share in shares(edits[name])), key=lambda each: -len(each[1]))
+        begun = [(name, pool.submit(work, source, name, share)) for name, share in shared]
         for name in edits:
-            answers, times = begun[name].result()
-            runs += times
-            for edit, answer in answers:
-                refused[edit.folder] += answer.startswith("refused at ")
-                print(f"wrong {edit.name}: {answer}", flush=True)
+            answers = {}
+            for ended in [ended for other, ended in begun if other == name]:
+                answers.update(ended.result()[0])
+                runs += ended.result()[1]
+            for edit in edits[name]:
+                refused[edit.folder] += answers[edit].startswith("refused at ")
+                print(f"wrong {edit.name}: {answers[edit]}", flush=True)
     total = sum(map(len, edits.values()))
     print(f"wrong versions: {sum(refused.values())} of {total} refused by {runs} runs of the prover, "
           f"{refused['wrong']} of wrong/ and {refused['must-fail']} of must-fail/")
