@@ -2,11 +2,11 @@
 """Wrong versions that the proofs must refuse, many at a time: the edits in crates/NAME/wrong/, and beside them those in
 crates/NAME/must-fail/, each of which `rt ci` tries by itself.
 
-    tests/wrong-versions.py [NAME..]        after `rt check`; without names, every crate that has a folder wrong/
+    tests/wrong-versions.py [NAME..]        without names, every crate that has a folder wrong/
 
-A crate is copied with those below it, and with what rt left in their folders out/, to a temporary folder, and proved there once:
-in seconds over what `rt check` left, else from nothing. Then edits of the bodies of different functions are made together, and
-what they change is checked again.
+A crate is copied with those below it, and with what `rt check` left in their folders out/, to a temporary folder, and proved
+there once. Where it left nothing, all are proved first, in another copy. Then edits of the bodies of different functions are
+made together, and what they change is checked again.
 
 An edit of bodies is refused if none of its functions is still proved and one of them has a goal of its own that fails: in its
 own proof files, or left open by the prover's `search`. A function that only waits for another that is not proved is tried again
@@ -90,10 +90,10 @@ class Edit:
 class Crate:
     """A crate in a copy of it and those below it: proved once, and put back to that state before each run."""
 
-    def __init__(self, copy, name):
+    def __init__(self, source, copy, name):
         self.copy, self.name, self.folder, self.runs = copy, name, copy / "crates" / name, 0
         self.out, self.kept = self.folder / "out", copy / "kept"
-        self.fill()
+        copied(source, copy, [name])
         self.sources = {str(file.relative_to(self.folder)): file.read_text()
                         for part in ("src", "specs") for file in (self.folder / part).rglob("*") if file.is_file()}
         status, told = self.check()
@@ -104,16 +104,6 @@ class Crate:
         if there != {function for function, verdict in VERDICT.findall(told) if verdict == "proved" and not METHOD.search(function)}:
             raise Bad("the functions found in src/ are not those that the prover names")
         shutil.copytree(self.out, self.kept)
-
-    def fill(self):
-        """The crate with all that rt keeps of it, those below it with their libraries alone, and the lines of crates.txt for these."""
-        lines, below = lines_of(ROOT / "crates.txt"), [self.name]
-        for crate in below:
-            below += [other for other in lines[crate].split(":")[1].split() if other in lines and other not in below]
-        for crate in below:
-            left_out = shutil.ignore_patterns("must-fail", "wrong", *(["incremental"] if crate != self.name else []))
-            shutil.copytree(ROOT / "crates" / crate, self.copy / "crates" / crate, ignore=left_out)
-        (self.copy / "crates.txt").write_text("".join(f"{lines[crate]}\n" for crate in below))
 
     def check(self):
         self.runs += 1
@@ -147,10 +137,33 @@ def linked(one, other):
     return os.link(one, other) if str(one).endswith(".oantt") else shutil.copy2(one, other)
 
 
-def lines_of(file):
-    """The lines of crates.txt, by the crate that each names."""
-    lines = [line.split("#")[0].strip() for line in file.read_text().split("\n")]
-    return {line.split(":")[0].split()[0]: line for line in lines if line}
+def with_those_below(names):
+    """The lines of crates.txt for these crates and all below them."""
+    lines = [line.split("#")[0].strip() for line in (ROOT / "crates.txt").read_text().split("\n")]
+    lines, wanted = {line.split(":")[0].split()[0]: line for line in lines if line}, list(names)
+    for crate in wanted:
+        wanted += [other for other in lines[crate].split(":")[1].split() if other in lines and other not in wanted]
+    return {crate: lines[crate] for crate in wanted}
+
+
+def copied(source, copy, names):
+    """Copies crates with all that rt keeps of them, and those below them with their libraries alone."""
+    lines = with_those_below(names)
+    for crate in lines:
+        left_out = shutil.ignore_patterns("must-fail", "wrong", *([] if crate in names else ["incremental"]))
+        shutil.copytree(source / "crates" / crate, copy / "crates" / crate, ignore=left_out)
+    (copy / "crates.txt").write_text("".join(f"{line}\n" for line in lines.values()))
+
+
+def proved(names, copy, jobs):
+    """Where the crates are as rt check leaves them: here, or else in a copy in which they are proved now, lowest first."""
+    lines = with_those_below(names)
+    if all((ROOT / "crates" / crate / "out/incremental").is_dir() for crate in lines):
+        return ROOT
+    copied(ROOT, copy, list(lines))
+    subprocess.run(["rt", "all", "check", "--jobs", str(jobs)], cwd=copy, stdin=subprocess.DEVNULL, stdout=subprocess.DEVNULL,
+                   stderr=subprocess.DEVNULL)
+    return copy
 
 
 def failures(crate, told):
@@ -200,7 +213,7 @@ def together(edits, apart):
 
 
 def tried(crate, edits):
-    """Tries a crate's edits; answers what to say of each."""
+    """Tries edits of a crate; what to say of each."""
     answers, left, apart = {}, [], set()
     for edit in edits:
         try:
@@ -220,7 +233,14 @@ def tried(crate, edits):
             continue
         answers.update((edit, answer) for edit, answer in found.items() if answer)
         left = [edit for edit in left if edit not in answers]
-    return [(edit, answers[edit]) for edit in edits]
+    return answers
+
+
+def shares(edits):
+    """A crate's edits in shares, each tried in a copy of its own: those of its code, and the others, which are made alone, by twenties."""
+    code = [edit for edit in edits if all(file.startswith("src/") for file, _, _ in edit.changes)]
+    others = [edit for edit in edits if edit not in code]
+    return [share for share in [code, *(others[i:i + 20] for i in range(0, len(others), 20))] if share]
 
 
 def edits_of(names):
@@ -237,23 +257,27 @@ def main():
     edits, runs, refused = edits_of(sys.argv[1:]), 0, {"wrong": 0, "must-fail": 0}
     jobs = int(os.environ.get("JOBS", min(os.cpu_count(), 2)))
 
-    def work(name):
+    def work(source, name, share):
         with tempfile.TemporaryDirectory() as copy:
             try:
-                crate = Crate(pathlib.Path(copy), name)
-                return tried(crate, edits[name]), crate.runs
+                crate = Crate(source, pathlib.Path(copy), name)
+                return tried(crate, share), crate.runs
             except Bad as wrong:
-                return [(edit, f"NOT TRIED: {wrong}") for edit in edits[name]], 1
+                return {edit: f"NOT TRIED: {wrong}" for edit in share}, 1
 
-    with concurrent.futures.ThreadPoolExecutor(jobs) as pool:
-        # Those with the most edits begin.
-        begun = {name: pool.submit(work, name) for name in sorted(edits, key=lambda name: -len(edits[name]))}
+    with tempfile.TemporaryDirectory() as whole, concurrent.futures.ThreadPoolExecutor(jobs) as pool:
+        source = proved(list(edits), pathlib.Path(whole), jobs)
+        # The largest shares begin.
+        shared = sorted(((name, share) for name in edits for share in shares(edits[name])), key=lambda each: -len(each[1]))
+        begun = [(name, pool.submit(work, source, name, share)) for name, share in shared]
         for name in edits:
-            answers, times = begun[name].result()
-            runs += times
-            for edit, answer in answers:
-                refused[edit.folder] += answer.startswith("refused at ")
-                print(f"wrong {edit.name}: {answer}", flush=True)
+            answers = {}
+            for ended in [ended for other, ended in begun if other == name]:
+                answers.update(ended.result()[0])
+                runs += ended.result()[1]
+            for edit in edits[name]:
+                refused[edit.folder] += answers[edit].startswith("refused at ")
+                print(f"wrong {edit.name}: {answers[edit]}", flush=True)
     total = sum(map(len, edits.values()))
     print(f"wrong versions: {sum(refused.values())} of {total} refused by {runs} runs of the prover, "
           f"{refused['wrong']} of wrong/ and {refused['must-fail']} of must-fail/")
