@@ -22,8 +22,11 @@ leave() {
     mv "$2.new" "$2"
 }
 
+# For every x86-64 processor, and not only for those of the kit's default.
 build_library() {
-    (cd crates/basmuthar_c && "$rt" lib ${LIBRARY_TARGET:+--target "$LIBRARY_TARGET"} </dev/null)
+    local words=(--cpu x86-64)
+    [ -z "${LIBRARY_TARGET-}" ] || words=(--target "$LIBRARY_TARGET")
+    (cd crates/basmuthar_c && "$rt" lib "${words[@]}" </dev/null)
     leave crates/basmuthar_c/out/libbasmuthar_c.a target/staticlib/libbasmuthar.a
 }
 
