@@ -1,16 +1,14 @@
 -- Two answers of the code's own types that say the same (01's number and values) are one answer.
-use Rattle.std.specs.Prelude.{◌≡◌, refl, Bool, true, false, [], ◌∷◌, ◌++◌, ℕ, ◌-◌, get_or, replicate}
+use Rattle.std.specs.Prelude as code
+use Rattle.std.specs.Prelude.{◌≡◌, refl, Ok, Err, Bool, true, false, [], ◌∷◌, ◌++◌, ℕ, ◌-◌, get_or, replicate}
 use Rattle.std.proofs.Common.{sym, ap, ◌∙◌}
 use Rattle.definitions.specs.declared.Refusal.{Refusal}
-use Rattle.definitions.specs.declared.Sizing.{Sizing}
-use Rattle.definitions.specs.declared.Verdict.{Verdict}
+use Rattle.definitions.specs.declared.Sizes as sizes
 use Rattle.definitions.specs.declared.Hour.{Hour}
-use Rattle.definitions.specs.declared.Texted.{Texted}
-use Rattle.definitions.specs.declared.Replied.{Replied}
+use Rattle.definitions.specs.declared.Reply.{Reply}
 use Rattle.definitions.specs.Result.{Result, done, refused}
-use Rattle.definitions.specs.Operations.{Sizes}
 use Rattle.definitions.specs.Closing.{Earliest, found, none, unfinished}
-use Rattle.definitions.specs.Answers.{said, said_verdict, said_sizing, said_hour, said_texted, said_replied}
+use Rattle.definitions.specs.Answers.{said, answered, sizes_said, hour_said, reply_said, said_verdict, said_sizing, said_hour, said_texted, said_replied}
 
 -- a refusal's number and detail tell which it is; 20 and 21 are not given yet
 pub unsaid : ℕ × ℕ → Refusal
@@ -53,63 +51,47 @@ unsaid_said (Refusal.RepliesLeft d) = refl
 pub told : {A S : Type 0} (say : A → S) (back : S → A) → ((a : A) → back (say a) ≡ a) → (a b : A) → say a ≡ say b → a ≡ b
 told say back e a b h = sym (e a) ∙ ap back h ∙ e b
 
-pub one_verdict : (v v' : Verdict) → said_verdict v ≡ said_verdict v' → v ≡ v'
-one_verdict = told said_verdict back is
+-- answers whose meaning tells them, refusals among them
+pub one_answer : {A B : Type 0} (meaning : A → B) (back : B → A) → ((a : A) → back (meaning a) ≡ a) → (a b : code.Result A Refusal) → answered meaning a ≡ answered meaning b → a ≡ b
+one_answer {A = A} {B = B} meaning back is = told (answered meaning) back' is'
   where
-    back : Result (Unit {0}) → Verdict
-    back (done a) = Verdict.Accepted
-    back (refused n d) = Verdict.Refused (unsaid (n, d))
+    back' : Result B → code.Result A Refusal
+    back' (done a) = Ok (back a)
+    back' (refused n d) = Err (unsaid (n, d))
 
-    is : (v : Verdict) → back (said_verdict v) ≡ v
-    is Verdict.Accepted = refl
-    is (Verdict.Refused r) = ap Verdict.Refused (unsaid_said r)
+    is' : (a : code.Result A Refusal) → back' (answered meaning a) ≡ a
+    is' (Ok a) = ap Ok (is a)
+    is' (Err r) = ap Err (unsaid_said r)
 
-pub one_sizing : (z z' : Sizing) → said_sizing z ≡ said_sizing z' → z ≡ z'
-one_sizing = told said_sizing back is
+pub one_verdict : (v v' : code.Result (Unit {0}) Refusal) → said_verdict v ≡ said_verdict v' → v ≡ v'
+one_verdict = one_answer (λ u. u) (λ u. u) (λ u. refl)
+
+pub one_sizing : (z z' : code.Result sizes.Sizes Refusal) → said_sizing z ≡ said_sizing z' → z ≡ z'
+one_sizing = one_answer sizes_said (λ s. record { n = s.n; m = s.m; k = s.k }) (λ s. refl)
+
+pub one_hour : (h h' : code.Result Hour Refusal) → said_hour h ≡ said_hour h' → h ≡ h'
+one_hour = one_answer hour_said back is
   where
-    back : Result Sizes → Sizing
-    back (done z) = Sizing.Sizes z.n z.m z.k
-    back (refused n d) = Sizing.Unsized (unsaid (n, d))
+    back : Earliest → Hour
+    back (found v) = Hour.Found v
+    back none = Hour.None
+    back (unfinished r question) = Hour.Unfinished r.lo r.hi question
 
-    is : (z : Sizing) → back (said_sizing z) ≡ z
-    is (Sizing.Sizes n m k) = refl
-    is (Sizing.Unsized r) = ap Sizing.Unsized (unsaid_said r)
-
-pub one_hour : (h h' : Hour) → said_hour h ≡ said_hour h' → h ≡ h'
-one_hour = told said_hour back is
-  where
-    back : Result Earliest → Hour
-    back (done (found v)) = Hour.Found v
-    back (done none) = Hour.None
-    back (done (unfinished r question)) = Hour.Unfinished r.lo r.hi question
-    back (refused n d) = Hour.Refused (unsaid (n, d))
-
-    is : (h : Hour) → back (said_hour h) ≡ h
+    is : (h : Hour) → back (hour_said h) ≡ h
     is (Hour.Found v) = refl
     is Hour.None = refl
     is (Hour.Unfinished low high question) = refl
-    is (Hour.Refused r) = ap Hour.Refused (unsaid_said r)
 
-pub one-text : (r r' : Texted) → said_texted r ≡ said_texted r' → r ≡ r'
-one-text = told said_texted back is
+pub one-text : (r r' : code.Result ℕ Refusal) → said_texted r ≡ said_texted r' → r ≡ r'
+one-text = one_answer (λ n. n) (λ n. n) (λ n. refl)
+
+pub one-reply : (r r' : code.Result Reply Refusal) → said_replied r ≡ said_replied r' → r ≡ r'
+one-reply = one_answer reply_said back is
   where
-    back : Result ℕ → Texted
-    back (done n) = Texted.Length n
-    back (refused n d) = Texted.Refused (unsaid (n, d))
+    back : Bool → Reply
+    back true = Reply.Model
+    back false = Reply.None
 
-    is : (r : Texted) → back (said_texted r) ≡ r
-    is (Texted.Length n) = refl
-    is (Texted.Refused r) = ap Texted.Refused (unsaid_said r)
-
-pub one-reply : (r r' : Replied) → said_replied r ≡ said_replied r' → r ≡ r'
-one-reply = told said_replied back is
-  where
-    back : Result Bool → Replied
-    back (done true) = Replied.Model
-    back (done false) = Replied.None
-    back (refused n d) = Replied.Refused (unsaid (n, d))
-
-    is : (r : Replied) → back (said_replied r) ≡ r
-    is Replied.Model = refl
-    is Replied.None = refl
-    is (Replied.Refused r) = ap Replied.Refused (unsaid_said r)
+    is : (r : Reply) → back (reply_said r) ≡ r
+    is Reply.Model = refl
+    is Reply.None = refl

@@ -6,25 +6,11 @@ ghost use Rattle.definitions.specs.Meaning.{on};
 ghost use Rattle.definitions.specs.Operations.{bits};
 ghost use Rattle.lent.specs.Said.{said_found};
 
-// The first index that fails a test.
-#[derive(Clone, Copy)]
-pub enum Found {
-    At(usize),
-    Nothing,
-}
-
-// The first byte that is neither 0 nor 1 (refusal 12).
-pub fn first_bad_byte(bytes: &[u8]) -> Found
+// The index of the first byte that is neither 0 nor 1 (refusal 12).
+pub fn first_bad_byte(bytes: &[u8]) -> Option<usize>
     ensures { said_found 12 result ≡ bits bytes.now }
 {
-    let mut i: usize = 0;
-    while i < bytes.len() {
-        if 1 < bytes[i] {
-            return Found::At(i);
-        }
-        i += 1;
-    }
-    Found::Nothing
+    bytes.iter().position(|byte| *byte > 1)
 }
 
 // Numbers count from 1: that of v stands at v - 1.
