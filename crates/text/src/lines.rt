@@ -9,12 +9,8 @@ pub fn put_word(word: &[u8], out: &mut [u8]) -> usize
     requires { length word.now ≤ length out.old }
     ensures { Put word.now out.old result out.new }
 {
-    let mut i: usize = 0;
-    while i < word.len() {
-        out[i] = word[i];
-        i += 1;
-    }
-    i
+    out[..word.len()].copy_from_slice(word);
+    word.len()
 }
 
 // A line of a word and two numbers.

@@ -37,10 +37,7 @@ pub fn put_ended(n: u64, end: u8, out: &mut [u8]) -> usize
 pub fn magnitude(number: i32) -> u64
     ensures { result ≡ nat_abs number }
 {
-    if number < 0 {
-        return -(number as i64) as u64;
-    }
-    number as u64
+    number.unsigned_abs() as u64
 }
 
 // A number of the clause list: 0 ends a line, any other number is a literal and parted from the next.
@@ -62,11 +59,9 @@ pub fn put_entries(list: &[i32], out: &mut [u8]) -> usize
     requires { length (entries list.now) ≤ length out.old }
     ensures { Put (entries list.now) out.old result out.new }
 {
-    let mut i: usize = 0;
     let mut at: usize = 0;
-    while i < list.len() {
-        at += put_entry(list[i], &mut out[at..]);
-        i += 1;
+    for number in list {
+        at += put_entry(*number, &mut out[at..]);
     }
     at
 }
