@@ -2,11 +2,12 @@
 use mathlib.Core.Path.{◌≡◌, refl, sym, ap, ap₂, ◌∙◌}
 use mathlib.Core.Bool.{Bool, true, false}
 use mathlib.Core.List.{List}
-use Prim.Native.Nat.{ℕ, ◌+◌, ◌*◌, ◌≤◌, ◌<◌, ◌^◌}
-use native.Mathlib.Nat.{pow-suc, pow-le-pow_right}
+use Prim.Native.Nat.{ℕ, ◌+◌, ◌*◌, ◌-◌, ◌≤◌, ◌<◌, ◌^◌}
+use native.Mathlib.Nat.{pow-le-pow_right}
 use native.Mathlib.Numerals.{add-one}
 use native.Mathlib.Omega.{arith}
-use lib.ListN.{length, get_or}
+use lib.ListN.{length, get_or, take, drop}
+use Rattle.std.proofs.lemmas.List.{length-take, length-drop, get_or-take, get_or-drop}
 use lib.Dec.{leb, ltb, lit<}
 use lib.IntN.{ℤ, pos, ◌-ℤ◌}
 use mir.Syntax.{w8, w32, w64}
@@ -24,9 +25,6 @@ use Rattle.laws.specs.Readings.{never, big-below}
 pub told : {A B : Type 0} (f : A → B) {x y : A} {z : B} → f x ≡ z → x ≡ y → z ≡ f y
 told f p q = sym p ∙ ap f q
 
-pub power_more : (n : ℕ) → 256 ^ n * 256 ≡ 256 ^ (n + 1)
-power_more n = rw (add-one, pow-suc)
-
 pub power_most : {n : ℕ} → n ≤ 4 → 256 ^ n ≤ 256 ^ 4
 power_most h = pow-le-pow_right (lit< tt) h
 
@@ -38,6 +36,16 @@ module _ (s : List ℕ) (at : ℕ) where
   pub big-more : (n : ℕ) → 256 * big s at n + get_or s (at + n) 0 ≡ big s at (n + 1)
   unfolding big
   big-more n = rw add-one
+
+  -- the bytes of the field, one by one
+  module _ (n : ℕ) (room : at + n ≤ length s) where
+    pub part-length : length (take (at + n - at) (drop at s)) ≡ n
+    part-length = simp (length-take, length-drop) (omega arith)
+
+    pub part_read : {i : ℕ} → i < length (take (at + n - at) (drop at s)) → get_or (take (at + n - at) (drop at s)) i 0 ≡ get_or s (at + i) 0
+    part_read {i} h =
+        let k : i < at + n - at = omega (arith, part-length) in
+        get_or-take (at + n - at) (drop at s) i 0 k ∙ get_or-drop at s i 0
 
   -- what is computed on the way fits
   pub big_room : ((i : ℕ) → Fits w8 (get_or s i 0)) → (n : ℕ) → n < 4 → (get_or s (at + n) 0 < 256) × (256 * big s at n + get_or s (at + n) 0 < 256 ^ 4)

@@ -1,14 +1,13 @@
 -- A field's answer as the definitions have it: refusal 8 at the field's own place where its bytes are missing.
-use Rattle.definitions.specs.Tools.{ℕ, ℤ}
+use Rattle.std.specs.Prelude.{Option, Some, None}
+use Rattle.definitions.specs.Tools.{ℕ}
 use Rattle.definitions.specs.Result.{Result, done, refused}
 use Rattle.definitions.specs.Reading.{Got}
-use Rattle.fields.specs.declared.Unsigned.{Unsigned}
-use Rattle.fields.specs.declared.Signed.{Signed}
+use Rattle.definitions.specs.declared.Got as code
 
-abbrev pub said_unsigned : ℕ → Unsigned → Result (Got ℕ)
-said_unsigned at (Unsigned.Value value next) = done (record { value = value; next = next })
-said_unsigned at Unsigned.Missing = refused 8 at
+abbrev pub got : {A : Type 0} → code.Got A → Got A
+got g = record { value = g.value; next = g.next }
 
-abbrev pub said_signed : ℕ → Signed → Result (Got ℤ)
-said_signed at (Signed.Value value next) = done (record { value = value; next = next })
-said_signed at Signed.Missing = refused 8 at
+abbrev pub said_field : {A : Type 0} → ℕ → Option (code.Got A) → Result (Got A)
+said_field at (Some g) = done (got g)
+said_field at None = refused 8 at

@@ -3,20 +3,9 @@
 
 ghost use Rattle.std.specs.Prelude.{◌≡◌, ◌+◌, ◌≤◌, ◌<◌, ◌^◌, length};
 ghost use Rattle.definitions.specs.Reading.{big, twos, unsigned, signed};
-ghost use Rattle.fields.specs.Said.{said_unsigned, said_signed};
+ghost use Rattle.fields.specs.Said.{said_field};
 
-// A field's value and the place after it, or that its bytes are not all there.
-#[derive(Clone, Copy)]
-pub enum Unsigned {
-    Value { value: u32, next: usize },
-    Missing,
-}
-
-#[derive(Clone, Copy)]
-pub enum Signed {
-    Value { value: i32, next: usize },
-    Missing,
-}
+use definitions::Got;
 
 // The number in `width` bytes that are there.
 pub fn unchecked(bytes: &[u8], at: usize, width: usize) -> u32
@@ -24,29 +13,25 @@ pub fn unchecked(bytes: &[u8], at: usize, width: usize) -> u32
     ensures { result ≡ big bytes.now at width }
 {
     let mut value: u32 = 0;
-    let mut i: usize = 0;
-    while i < width {
-        let byte = bytes[at + i] as u32;
-        value = 256 * value + byte;
-        i += 1;
+    for byte in &bytes[at..at + width] {
+        value = 256 * value + *byte as u32;
     }
     value
 }
 
-pub fn unsigned_at(bytes: &[u8], at: usize, width: usize) -> Unsigned
+// The same, with the place after it, or that its bytes are not all there.
+#[tactic(auto, using(crate::proofs::Laws::unsigned_there, crate::proofs::Laws::unsigned_missing))]
+pub fn unsigned_at(bytes: &[u8], at: usize, width: usize) -> Option<Got<u32>>
     requires { width ≤ 4 }
-    ensures { said_unsigned at result ≡ unsigned width bytes.now at }
+    ensures { said_field at result ≡ unsigned width bytes.now at }
 {
-    if bytes.len() < at {
-        return Unsigned::Missing;
+    if bytes.len() < at || bytes.len() - at < width {
+        return None;
     }
-    if bytes.len() - at < width {
-        return Unsigned::Missing;
-    }
-    Unsigned::Value {
+    Some(Got {
         value: unchecked(bytes, at, width),
         next: at + width,
-    }
+    })
 }
 
 // How many numbers `width` bytes can give.
@@ -54,13 +39,7 @@ fn power(width: usize) -> u64
     requires { width ≤ 4 }
     ensures { result ≡ 256 ^ width }
 {
-    let mut numbers: u64 = 1;
-    let mut i: usize = 0;
-    while i < width {
-        numbers *= 256;
-        i += 1;
-    }
-    numbers
+    256u64.pow(width as u32)
 }
 
 fn twos_complement(value: u32, width: usize) -> i32
@@ -82,15 +61,13 @@ pub fn unchecked_signed(bytes: &[u8], at: usize, width: usize) -> i32
     twos_complement(unchecked(bytes, at, width), width)
 }
 
-pub fn signed_at(bytes: &[u8], at: usize, width: usize) -> Signed
+pub fn signed_at(bytes: &[u8], at: usize, width: usize) -> Option<Got<i32>>
     requires { width ≤ 4 }
-    ensures { said_signed at result ≡ signed width bytes.now at }
+    ensures { said_field at result ≡ signed width bytes.now at }
 {
-    let Unsigned::Value { value, next } = unsigned_at(bytes, at, width) else {
-        return Signed::Missing;
-    };
-    Signed::Value {
+    let Got { value, next } = unsigned_at(bytes, at, width)?;
+    Some(Got {
         value: twos_complement(value, width),
         next,
-    }
+    })
 }
