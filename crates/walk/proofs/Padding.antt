@@ -1,4 +1,5 @@
 -- Where a comparison's terms stand among three places. Assumes nothing.
+use Rattle.std.specs.Prelude.{Some}
 use mathlib.Core.Path.{◌≡◌, refl, sym, ap, ap₂, ◌∙◌}
 use mathlib.Core.List.{List, [], ◌∷◌, ◌++◌, zip_with, map-map}
 use Prim.Native.Nat.{ℕ, zero, suc, ◌+◌, ◌-◌, ◌≤◌, ◌<◌}
@@ -15,7 +16,6 @@ use Rattle.walk.specs.declared.Slot.{Slot}
 use Rattle.walk.specs.declared.Comparison.{Comparison}
 use Rattle.walk.specs.declared.Place.{Place}
 use Rattle.walk.specs.declared.Walk.{Walk}
-use Rattle.walk.specs.declared.At.TheVariants.{Tuple}
 use Rattle.walk.specs.Slots.{FairSlot, slot_bounds, slot_literal}
 use Rattle.walk.specs.Walks.{places_of, blank, seen, Fine, Over}
 use Rattle.walk.specs.Comparisons.{slots_of, ranges_of, FairComparison, padded_ranges, placed, Walking, literals_at, present}
@@ -69,7 +69,7 @@ padded_length c f =
     omega (arith, length-append none (ranges_of c), length-replicate (3 - c.n) no_term, length-map (slots_of c) slot_bounds, f.counted, f.few)
 
 -- ---- the present tuple
-module _ (c : Comparison) (f : FairComparison c) (w : Walk) (o : Walking c (Tuple w)) (i : ℕ) (h : i < c.n) where
+module _ (c : Comparison) (f : FairComparison c) (w : Walk) (o : Walking c (Some w)) (i : ℕ) (h : i < c.n) where
   abbrev pub s : Slot
   s = get_or c.slots i no_slot
 

@@ -1,4 +1,5 @@
 -- The tuples of a row, and their literals. Assumes nothing.
+use Rattle.std.specs.Prelude.{Option, Some, None}
 use mathlib.Core.Path.{◌≡◌, refl, sym, ap, ap₂, ◌∙◌, subst}
 use mathlib.Core.Logic.{⊎_elim}
 use mathlib.Core.List.{List, [], ◌∷◌, ◌++◌, map, map-map, map-append}
@@ -18,8 +19,6 @@ use Rattle.walk.specs.declared.Place.{Place}
 use Rattle.walk.specs.declared.Spot.{Spot}
 use Rattle.walk.specs.declared.Comparison.{Comparison}
 use Rattle.walk.specs.declared.Walk.{Walk}
-use Rattle.walk.specs.declared.At.{At}
-use Rattle.walk.specs.declared.At.TheVariants.{Tuple, End}
 use Rattle.walk.specs.Slots.{FairSlot, slot_bounds, order_number, slot_literal}
 use Rattle.walk.specs.Walks.{places_of, moved, blank, seen, tuples_left, Fine, Over}
 use Rattle.walk.specs.Comparisons.{FairComparison, Walking, padded_ranges, placed, literals_at, present, to_come, present-length}
@@ -50,42 +49,42 @@ module _ (w : Walk) (f : All Fine (places_of w)) where
     ),
   )
 
-  along-more : (i : ℕ) → i < min (w.b.w - w.b.k) w.c.k → tuples_left (Tuple (along w i)) ≡ seen (along w i) ∷ tuples_left (Tuple (along w (suc i)))
+  along-more : (i : ℕ) → i < min (w.b.w - w.b.k) w.c.k → tuples_left (Some (along w i)) ≡ seen (along w i) ∷ tuples_left (Some (along w (suc i)))
   along-more i h =
       let e : w.b.k + i + 1 ≡ w.b.k + suc i = omega arith in
       let g : w.c.k - i - 1 ≡ w.c.k - suc i = omega arith in
       (move_second (along w i) (along_fine i (omega arith)) (more_room w.b.w w.b.k w.c.k i h)).1
-      ∙ ap₂ (λ j k. seen (along w i) ∷ tuples_left (Tuple (record { a = w.a; b = moved w.b j; c = moved w.c k }))) e g
+      ∙ ap₂ (λ j k. seen (along w i) ∷ tuples_left (Some (record { a = w.a; b = moved w.b j; c = moved w.c k }))) e g
 
   -- r comes after the last
-  run-left : (i n : ℕ) (r : At) → i + n ≡ min (w.b.w - w.b.k) w.c.k → tuples_left (Tuple (along w (i + n))) ≡ seen (along w (i + n)) ∷ tuples_left r
-      → tuples_left (Tuple (along w i)) ≡ map seen (run w i (suc n)) ++ tuples_left r
+  run-left : (i n : ℕ) (r : Option Walk) → i + n ≡ min (w.b.w - w.b.k) w.c.k → tuples_left (Some (along w (i + n))) ≡ seen (along w (i + n)) ∷ tuples_left r
+      → tuples_left (Some (along w i)) ≡ map seen (run w i (suc n)) ++ tuples_left r
   unfolding run
   run-left i zero r e l = let z : i + 0 ≡ i = omega arith in rw z at l
   run-left i (suc n) r e l =
       let z : i + suc n ≡ suc i + n = omega arith in
       along-more i (omega arith) ∙ ap (λ t. seen (along w i) ∷ t) (run-left (suc i) n r (omega arith) (rw z at l))
 
-  pub row-left : (r : At) → tuples_left (Tuple (along w (min (w.b.w - w.b.k) w.c.k))) ≡ seen (along w (min (w.b.w - w.b.k) w.c.k)) ∷ tuples_left r → tuples_left (Tuple w) ≡ map seen (row_of w) ++ tuples_left r
+  pub row-left : (r : Option Walk) → tuples_left (Some (along w (min (w.b.w - w.b.k) w.c.k))) ≡ seen (along w (min (w.b.w - w.b.k) w.c.k)) ∷ tuples_left r → tuples_left (Some w) ≡ map seen (row_of w) ++ tuples_left r
   row-left r l =
       let m = min (w.b.w - w.b.k) w.c.k in
       let z : 0 + m ≡ m = omega arith in
-      ap (λ v. tuples_left (Tuple v)) (sym (along_none w)) ∙ run-left 0 m r z (rw (← z) at l)
+      ap (λ v. tuples_left (Some v)) (sym (along_none w)) ∙ run-left 0 m r z (rw (← z) at l)
 
 -- what comes after the row's last tuple comes after the row
-pub behind : (c : Comparison) (w : Walk) (o : Walking c (Tuple w)) (i : ℕ) → i ≡ min (w.b.w - w.b.k) w.c.k → (r : At)
-    → Over (places_of (along w i)) r × (tuples_left (Tuple (along w i)) ≡ seen (along w i) ∷ tuples_left r) → After c w r
+pub behind : (c : Comparison) (w : Walk) (o : Walking c (Some w)) (i : ℕ) → i ≡ min (w.b.w - w.b.k) w.c.k → (r : Option Walk)
+    → Over (places_of (along w i)) r × (tuples_left (Some (along w i)) ≡ seen (along w i) ∷ tuples_left r) → After c w r
 unfolding Walking Over to_come present row_clauses
 behind c w o i e r n = (
   onward r n.0,
-  ap (map (literals_at c)) (row-left w o.0 r (subst (λ j. tuples_left (Tuple (along w j)) ≡ seen (along w j) ∷ tuples_left r) e n.1))
+  ap (map (literals_at c)) (row-left w o.0 r (subst (λ j. tuples_left (Some (along w j)) ≡ seen (along w j) ∷ tuples_left r) e n.1))
       ∙ map-append (literals_at c) (map seen (row_of w)) (tuples_left r)
       ∙ ap (λ l. l ++ map (literals_at c) (tuples_left r)) (map-map (literals_at c) seen (row_of w)),
 )
   where
-    onward : (r : At) → Over (places_of (along w i)) r → Walking c r
-    onward (Tuple v) k = (k.0, k.1 ∙ o.1)
-    onward End k = tt
+    onward : (r : Option Walk) → Over (places_of (along w i)) r → Walking c r
+    onward (Some v) k = (k.0, k.1 ∙ o.1)
+    onward None k = tt
 
 -- ---- literals
 one_left : (b c i : ℕ) → suc i ≤ min b c → 1 ≤ c - i
@@ -107,7 +106,7 @@ abbrev pub slot_at : Comparison → ℕ → Slot
 slot_at c i = get_or c.slots i no_slot
 
 -- term i stands at place j
-module _ (c : Comparison) (f : FairComparison c) (w : Walk) (o : Walking c (Tuple w)) (i j : ℕ) (h : i < c.n) (e : i + 3 - c.n ≡ j) where
+module _ (c : Comparison) (f : FairComparison c) (w : Walk) (o : Walking c (Some w)) (i j : ℕ) (h : i < c.n) (e : i + 3 - c.n ≡ j) where
   abbrev place : Place
   place = get_or (places_of w) j no_place
 
@@ -129,7 +128,7 @@ module _ (c : Comparison) (f : FairComparison c) (w : Walk) (o : Walking c (Tupl
       ∙ ap (λ z. slot_literal (slot_at c i) (z +ℤ pos place.k)) placed_at.low
 
 module _ (c : Comparison) (f : FairComparison c) (two : 2 ≤ c.n) where
-  module _ (w : Walk) (o : Walking c (Tuple w)) where
+  module _ (w : Walk) (o : Walking c (Some w)) where
     pub placed_b : Placed (slot_at c (c.n - 2)) w.b
     placed_b = placed_at c f w o (c.n - 2) 1 (omega (arith, two)) (omega (arith, two))
 
@@ -146,27 +145,27 @@ module _ (c : Comparison) (f : FairComparison c) (two : 2 ≤ c.n) where
         let ez = literal_of_lem c f w o (c.n - 1) 2 (omega (arith, two)) (omega (arith, two)) ∙ sym hz.literal in
         parts (present c w) c.n (present-length c w f) two f.few ∙ ap₂ (λ p q. fixed ++ (p ∷ q ∷ [])) ey ez
 
-    pub walking_along : (i : ℕ) → i ≤ min (w.b.w - w.b.k) w.c.k → Walking c (Tuple (along w i))
+    pub walking_along : (i : ℕ) → i ≤ min (w.b.w - w.b.k) w.c.k → Walking c (Some (along w i))
     unfolding Walking Over
     walking_along i h = (along_fine w o.0 i h, o.1)
 
   -- the first of three terms stays
-  fixed-along : (w : Walk) (o : Walking c (Tuple w)) (i : ℕ) (h : i ≤ min (w.b.w - w.b.k) w.c.k) → fixed (along w i) (walking_along w o i h) ≡ fixed w o
+  fixed-along : (w : Walk) (o : Walking c (Some w)) (i : ℕ) (h : i ≤ min (w.b.w - w.b.k) w.c.k) → fixed (along w i) (walking_along w o i h) ≡ fixed w o
   fixed-along w o i h = elim (dec_le 3 c.n) [
     | yes k ↦
-        let one : (v : Walk) → Walking c (Tuple v) → take (c.n - 2) (present c v) ≡ slot_literal (slot_at c 0) (bound (slot_at c 0) v.a.k) ∷ [] =
+        let one : (v : Walk) → Walking c (Some v) → take (c.n - 2) (present c v) ≡ slot_literal (slot_at c 0) (bound (slot_at c 0) v.a.k) ∷ [] =
         λ v p. first_taken (present c v) (c.n - 2) (omega (arith, f.few)) (omega (arith, present-length c v f)) ∙ ap (λ z. z ∷ []) (literal_of_lem c f v p 0 0 (omega (arith, two)) (omega (arith, f.few))) in
         one (along w i) (walking_along w o i h) ∙ sym (one w o)
     | no k ↦ let q : c.n - 2 ≡ 0 = omega arith in rw q refl
   ]
 
-  first_is : (w : Walk) (o : Walking c (Tuple w)) (i : ℕ) (y z : Spot) → i ≤ min (w.b.w - w.b.k) w.c.k
+  first_is : (w : Walk) (o : Walking c (Some w)) (i : ℕ) (y z : Spot) → i ≤ min (w.b.w - w.b.k) w.c.k
       → Holds (slot_at c (c.n - 2)) (w.b.k + i) y → Holds (slot_at c (c.n - 1)) (w.c.k - i) z
       → present c (along w i) ≡ fixed w o ++ (y.literal ∷ z.literal ∷ [])
   first_is w o i y z h hy hz =
       present_is (along w i) (walking_along w o i h) y z hy hz ∙ ap (λ l. l ++ (y.literal ∷ z.literal ∷ [])) (fixed-along w o i h)
 
-  run-literals : (w : Walk) (o : Walking c (Tuple w)) (i n : ℕ) (y z : Spot) → i + n ≤ min (w.b.w - w.b.k) w.c.k
+  run-literals : (w : Walk) (o : Walking c (Some w)) (i n : ℕ) (y z : Spot) → i + n ≤ min (w.b.w - w.b.k) w.c.k
       → Holds (slot_at c (c.n - 2)) (w.b.k + i) y → Holds (slot_at c (c.n - 1)) (w.c.k - i) z
       → map (present c) (run w i (suc n)) ≡ row_from (fixed w o) y z (suc n)
   unfolding run row_from
@@ -184,7 +183,7 @@ module _ (c : Comparison) (f : FairComparison c) (two : 2 ≤ c.n) where
       ap₂ ◌∷◌ (first_is w o i y z here hy hz) (run-literals w o (suc i) n (raised y) (lowered z) (omega (arith, h)) hy' hz')
 
   -- the row of the present tuple, from what is said of its last two terms
-  pub row-literals : (w : Walk) → Walking c (Tuple w) → (y z : Spot) → Holds (slot_at c (c.n - 2)) w.b.k y → Holds (slot_at c (c.n - 1)) w.c.k z
+  pub row-literals : (w : Walk) → Walking c (Some w) → (y z : Spot) → Holds (slot_at c (c.n - 2)) w.b.k y → Holds (slot_at c (c.n - 1)) w.c.k z
       → row_clauses c w ≡ row_from (take (c.n - 2) (present c w)) y z (row_length w)
   unfolding row_clauses
   row-literals w o y z hy hz =
@@ -196,7 +195,7 @@ module _ (c : Comparison) (f : FairComparison c) (two : 2 ≤ c.n) where
       (subst (λ k. Holds (slot_at c (c.n - 1)) k z) (sym ec) hz)
 
 -- with fewer than two terms a row has one tuple
-pub row-single : (c : Comparison) → FairComparison c → (w : Walk) → Walking c (Tuple w) → c.n < 2 → row_clauses c w ≡ present c w ∷ []
+pub row-single : (c : Comparison) → FairComparison c → (w : Walk) → Walking c (Some w) → c.n < 2 → row_clauses c w ≡ present c w ∷ []
 unfolding run Walking Over row_clauses
 row-single c f w o h =
     let none : w.b.w ≡ 0 =

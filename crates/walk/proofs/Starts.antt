@@ -1,4 +1,5 @@
 -- Where the walk over a comparison starts. Assumes nothing.
+use Rattle.std.specs.Prelude.{Option, None}
 use mathlib.Core.Path.{◌≡◌, refl, sym, ap, ap₂, ◌∙◌}
 use mathlib.Core.List.{List, [], ◌∷◌, ◌++◌, map, zip_with, map-map}
 use Prim.Native.Nat.{ℕ, zero, suc, ◌-◌}
@@ -17,8 +18,7 @@ use Rattle.laws.specs.Tuples.{Ordered, lows, shift, no_term, tuples_none, tuples
 use Rattle.walk.specs.declared.Slot.{Slot}
 use Rattle.walk.specs.declared.Comparison.{Comparison}
 use Rattle.walk.specs.declared.Place.{Place}
-use Rattle.walk.specs.declared.At.{At}
-use Rattle.walk.specs.declared.At.TheVariants.{End}
+use Rattle.walk.specs.declared.Walk.{Walk}
 use Rattle.walk.specs.Slots.{FairSlot, value_bounds, slot_bounds, slot_literal}
 use Rattle.walk.specs.Walks.{bounds_at, above, tuples_left, Fine, Over}
 use Rattle.walk.specs.Comparisons.{slots_of, ranges_of, least_of, over_least, literals_of, FairComparison, padded_ranges, placed, Walking, literals_at, to_come}
@@ -54,7 +54,7 @@ module _ (c : Comparison) (f : FairComparison c) where
       omega (whole, terms_lows, add_law m (pos n), add_law m t, sub_law k (least_of c), add_law (k -ℤ least_of c) (pos 1), sub_law k (pos n), add_law (k -ℤ pos n) (pos 1))
 
   -- ---- below the least there is nothing
-  pub start-end : over_least c <ℤ pos 0 → Walking c End × (to_come c End ≡ literals_of c)
+  pub start-end : over_least c <ℤ pos 0 → Walking c None × (to_come c None ≡ literals_of c)
   unfolding Walking Over to_come tuples_left literals_of
   start-end h =
       let e = over_law (over_least c) refl in
@@ -112,7 +112,7 @@ module _ (c : Comparison) (f : FairComparison c) where
   unfolding literals_at
   unpadded bs = let m = 3 - c.n in ap (zip_with slot_literal (slots_of c)) (drop_at (replicate m (pos 0)) bs m (length-replicate m (pos 0)))
 
-  pub start-at : (t : ℕ) (r : At) → pos t ≡ over_least c → tuples_left r ≡ above (map placed R) t → to_come c r ≡ literals_of c
+  pub start-at : (t : ℕ) (r : Option Walk) → pos t ≡ over_least c → tuples_left r ≡ above (map placed R) t → to_come c r ≡ literals_of c
   unfolding to_come literals_of
   start-at t r e l =
       let pad : List ℤ → List ℤ = λ bs. replicate (3 - c.n) (pos 0) ++ bs in

@@ -1,5 +1,5 @@
 -- What a walk by rows is spared: the last bound follows from the others, and every step is a tuple. Assumes nothing.
-use Rattle.std.specs.Prelude.{◌≡◌, ℕ, suc, min, ◌+◌, ◌-◌, ◌≤◌, ℤ, pos, ◌+ℤ◌, ◌-ℤ◌, ◌≤ℤ◌}
+use Rattle.std.specs.Prelude.{◌≡◌, ℕ, suc, min, ◌+◌, ◌-◌, ◌≤◌, ℤ, pos, ◌+ℤ◌, ◌-ℤ◌, ◌≤ℤ◌, Option, Some, None}
 use Rattle.std.proofs.Math.Path.{sym, ap}
 use Rattle.std.proofs.Common.{◌∙◌, arith}
 use mathlib.Core.List.{List, [], ◌∷◌, ◌++◌, map, flatten, zip_with}
@@ -13,8 +13,6 @@ use Rattle.laws.specs.Offsets.{offsets, beginning, later, lowest, start}
 use Rattle.laws.specs.Tuples.{lows, shift, tuples-offsets}
 use Rattle.walk.specs.declared.Comparison.{Comparison}
 use Rattle.walk.specs.declared.Walk.{Walk}
-use Rattle.walk.specs.declared.At.{At}
-use Rattle.walk.specs.declared.At.TheVariants.{Tuple, End}
 use Rattle.walk.specs.Comparisons.{Walking, to_come, literals_of, none_left}
 use Rattle.walk.specs.Rows.{row_length, row_clauses, After, row-size}
 
@@ -40,23 +38,23 @@ last-bound r s l u =
 -- ---- every step is a tuple
 module _ (c : Comparison) where
   -- from `cur` on the rows of these tuples come one after another, and then the end
-  unfoldable pub ByRows : List Walk → At → Type 0
-  ByRows [] cur = cur ≡ End
-  ByRows (w ∷ ws) cur = (cur ≡ Tuple w) × ((r : At) × (After c w r × ByRows ws r))
+  unfoldable pub ByRows : List Walk → Option Walk → Type 0
+  ByRows [] cur = cur ≡ None
+  ByRows (w ∷ ws) cur = (cur ≡ Some w) × ((r : Option Walk) × (After c w r × ByRows ws r))
 
   -- the rows are all clauses to come, each once and in their order
-  pub rows_are_all : (ws : List Walk) (cur : At) → ByRows ws cur → to_come c cur ≡ flatten (map (row_clauses c) ws)
+  pub rows_are_all : (ws : List Walk) (cur : Option Walk) → ByRows ws cur → to_come c cur ≡ flatten (map (row_clauses c) ws)
   unfolding ByRows flatten
   rows_are_all [] cur e = ap (to_come c) e ∙ none_left c
   rows_are_all (w ∷ ws) cur (e, (r, (a, h))) = ap (to_come c) e ∙ a.1 ∙ ap (λ l. row_clauses c w ++ l) (rows_are_all ws r h)
 
   -- a row's loop has a step for each of its tuples: the steps of all rows are as many as the clauses
-  pub steps_are_tuples : (ws : List Walk) (cur : At) → ByRows ws cur → sum (map row_length ws) ≡ length (to_come c cur)
+  pub steps_are_tuples : (ws : List Walk) (cur : Option Walk) → ByRows ws cur → sum (map row_length ws) ≡ length (to_come c cur)
   unfolding ByRows
   steps_are_tuples [] cur e = sym (ap length (ap (to_come c) e ∙ none_left c))
   steps_are_tuples (w ∷ ws) cur (e, (r, (a, h))) =
       omega (arith, ap (λ z. length (to_come c z)) e, ap length a.1, length-append (row_clauses c w) (to_come c r), row-size c w, steps_are_tuples ws r h)
 
   -- of a whole walk: as many steps as 01 has clauses for the comparison
-  pub walk_steps : (ws : List Walk) (cur : At) → Walking c cur × (to_come c cur ≡ literals_of c) → ByRows ws cur → sum (map row_length ws) ≡ length (literals_of c)
+  pub walk_steps : (ws : List Walk) (cur : Option Walk) → Walking c cur × (to_come c cur ≡ literals_of c) → ByRows ws cur → sum (map row_length ws) ≡ length (literals_of c)
   walk_steps ws cur s h = steps_are_tuples ws cur h ∙ ap length s.1

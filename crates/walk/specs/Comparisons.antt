@@ -1,5 +1,5 @@
 -- A comparison as the code has it: the literals of its tuples, and what they are of a board's comparison. Assumes nothing.
-use Rattle.std.specs.Prelude.{◌≡◌, take, drop, replicate, ℤ, nat_abs, ◌-ℤ◌, ◌≤ℤ◌, ◌<ℤ◌}
+use Rattle.std.specs.Prelude.{◌≡◌, take, drop, replicate, ℤ, nat_abs, ◌-ℤ◌, ◌≤ℤ◌, ◌<ℤ◌, Option, Some, None}
 use Rattle.std.proofs.Math.Path.{refl, ap, ap₂}
 use Rattle.std.proofs.Common.{◌∙◌, arith}
 use mathlib.Core.List.{List, [], ◌∷◌, ◌++◌, map, zip_with}
@@ -19,8 +19,6 @@ use Rattle.walk.specs.declared.Slot.{Slot}
 use Rattle.walk.specs.declared.Comparison.{Comparison}
 use Rattle.walk.specs.declared.Place.{Place}
 use Rattle.walk.specs.declared.Walk.{Walk}
-use Rattle.walk.specs.declared.At.{At}
-use Rattle.walk.specs.declared.At.TheVariants.{Tuple, End}
 use Rattle.walk.specs.Slots.{FairSlot, value_bounds, slot_bounds, slot_literal, slot_of, value_bounds_lem, slot_literal_lem}
 use Rattle.walk.specs.Walks.{places_of, seen, tuples_left, Fine, Over}
 
@@ -69,7 +67,7 @@ padded_ranges c = replicate (3 - c.n) no_term ++ ranges_of c
 abbrev pub placed : Bounds → Place
 placed r = record { lo = r.lo; k = 0; w = size (r.hi -ℤ r.lo) }
 
-unfoldable pub Walking : Comparison → At → Type 0
+unfoldable pub Walking : Comparison → Option Walk → Type 0
 Walking c cur = Over (map placed (padded_ranges c)) cur
 
 -- the literals of a padded tuple, of the present one, and of each to come
@@ -79,16 +77,16 @@ literals_at c bs = zip_with slot_literal (slots_of c) (drop (3 - c.n) bs)
 unfoldable pub present : Comparison → Walk → List ℤ
 present c w = literals_at c (seen w)
 
-unfoldable pub to_come : Comparison → At → List (List ℤ)
+unfoldable pub to_come : Comparison → Option Walk → List (List ℤ)
 to_come c cur = map (literals_at c) (tuples_left cur)
 
 -- ---- what a step shows
-pub none_left : (c : Comparison) → to_come c End ≡ []
+pub none_left : (c : Comparison) → to_come c None ≡ []
 unfolding to_come tuples_left
 none_left c = refl
 
 module _ (c : Comparison) (w : Walk) where
-  pub walking_fine : Walking c (Tuple w) → All Fine (places_of w)
+  pub walking_fine : Walking c (Some w) → All Fine (places_of w)
   unfolding Walking Over
   walking_fine o = o.0
 

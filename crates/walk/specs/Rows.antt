@@ -1,5 +1,5 @@
 -- Rows: tuples one after another that differ in the last two places alone, and the literals along them. Assumes nothing.
-use Rattle.std.specs.Prelude.{◌≡◌, List, [], ◌∷◌, ◌++◌, map, length, drop, ℤ, pos, nat_abs, ◌+ℤ◌, ◌-ℤ◌, ◌≤ℤ◌}
+use Rattle.std.specs.Prelude.{◌≡◌, List, [], ◌∷◌, ◌++◌, map, length, drop, ℤ, pos, nat_abs, ◌+ℤ◌, ◌-ℤ◌, ◌≤ℤ◌, Option, Some, None}
 use Rattle.std.proofs.Math.Path.{refl, ap}
 use Rattle.std.proofs.Common.{sym, ◌∙◌}
 use Prim.Native.Nat.{ℕ, zero, suc, min, ◌+◌, ◌-◌, ◌*◌, ◌≤◌, ◌<◌}
@@ -8,15 +8,11 @@ use Rattle.std.proofs.Math.ListN.{length-map}
 use Rattle.walk.specs.declared.Slot.{Slot}
 use Rattle.walk.specs.declared.Place.{Place}
 use Rattle.walk.specs.declared.Spot.{Spot}
-use Rattle.walk.specs.declared.Front.{Front}
-use Rattle.walk.specs.declared.Front.TheVariants.{Nothing, Literal}
 use Rattle.walk.specs.declared.Run.{Run}
 use Rattle.walk.specs.declared.Row.{Row}
 use Rattle.walk.specs.declared.Row.TheVariants.{One, Many}
 use Rattle.walk.specs.declared.Comparison.{Comparison}
 use Rattle.walk.specs.declared.Walk.{Walk}
-use Rattle.walk.specs.declared.At.{At}
-use Rattle.walk.specs.declared.At.TheVariants.{Tuple}
 use Rattle.walk.specs.Slots.{FairSlot, slot_bounds, slot_literal}
 use Rattle.walk.specs.Walks.{moved, Fine}
 use Rattle.walk.specs.Comparisons.{Walking, present, to_come}
@@ -43,8 +39,8 @@ unfoldable pub row_clauses : Comparison → Walk → List (List ℤ)
 row_clauses c w = map (present c) (row_of w)
 
 -- r stands behind the row of w
-abbrev pub After : Comparison → Walk → At → Type 0
-After c w r = Walking c r × (to_come c (Tuple w) ≡ row_clauses c w ++ to_come c r)
+abbrev pub After : Comparison → Walk → Option Walk → Type 0
+After c w r = Walking c r × (to_come c (Some w) ≡ row_clauses c w ++ to_come c r)
 
 -- ---- a literal along a row
 -- r more than k is a multiple of d, and none lies between
@@ -93,9 +89,9 @@ row_from fixed y z zero = []
 row_from fixed y z (suc n) = (fixed ++ (y.literal ∷ z.literal ∷ [])) ∷ row_from fixed (raised y) (lowered z) n
 
 -- a literal in front of others, or none
-abbrev pub front_of : Front → List ℤ
-front_of Nothing = []
-front_of (Literal l) = l ∷ []
+abbrev pub front_of : Option ℤ → List ℤ
+front_of None = []
+front_of (Some l) = l ∷ []
 
 -- the clauses of a run, and the first of them
 abbrev pub first_in : Run → List ℤ

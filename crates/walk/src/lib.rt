@@ -50,17 +50,11 @@ pub struct Spot {
     pub literal: i32,
 }
 
-// A literal in front of others, or none.
-#[derive(Clone, Copy)]
-pub enum Front {
-    Nothing,
-    Literal(i32),
-}
-
-// Clauses that differ in the literals of the last two terms alone: so many, from these two literals on.
+// Clauses that differ in the literals of the last two terms alone: so many, from these two literals on. In front of them stands a
+// literal or none.
 #[derive(Clone, Copy)]
 pub struct Run {
-    pub front: Front,
+    pub front: Option<i32>,
     pub y: Spot,
     pub z: Spot,
     pub count: u32,
@@ -69,15 +63,8 @@ pub struct Run {
 // The clauses of a row: one clause of one literal or none where there are fewer than two terms, else a run.
 #[derive(Clone, Copy)]
 pub enum Row {
-    One(Front),
+    One(Option<i32>),
     Many(Run),
-}
-
-// Where a walk stands: at a tuple, or behind the last.
-#[derive(Clone, Copy)]
-pub enum At {
-    Tuple(Walk),
-    End,
 }
 
 pub mod division; // division.rt: signed division, rounded down and up

@@ -1,6 +1,6 @@
 // Rows: tuples one after another that differ in the last two places alone. Along a row no bound is divided: the literal of the last
 // place but one rises, that of the last falls, each by 1 after as many tuples as its coefficient says.
-ghost use Rattle.std.specs.Prelude.{◌≡◌, ◌++◌, ◌+◌, ◌-◌, ◌≤◌, ◌<◌, nat_abs, take, drop};
+ghost use Rattle.std.specs.Prelude.{◌≡◌, ◌++◌, ◌+◌, ◌-◌, ◌≤◌, ◌<◌, Some, take, drop};
 ghost use Rattle.definitions.specs.Tools.{All};
 ghost use Rattle.walk.specs.Comparisons.{FairComparison, Walking, present, to_come};
 ghost use Rattle.walk.specs.Walks.{places_of, Fine};
@@ -8,7 +8,7 @@ ghost use Rattle.walk.specs.Rows.{row_length, row_clauses, Rest, Placed, Holds, 
 
 use crate::terms::literal;
 use crate::tuples::{bound, next, room, tuple_literal};
-use crate::{At, Comparison, Front, Place, Row, Run, Slot, Spot, Walk};
+use crate::{Comparison, Place, Row, Run, Slot, Spot, Walk};
 
 // How many tuples the row has from the present one on.
 fn row_length(w: Walk) -> u32
@@ -21,9 +21,9 @@ fn row_length(w: Walk) -> u32
 }
 
 // Behind the present tuple's row: what was to come is the row's clauses, and what is to come then.
-pub fn after_row(c: Comparison, w: Walk) -> At
-    requires { Walking c (At.Tuple w) }
-    ensures { Walking c result × (to_come c (At.Tuple w) ≡ row_clauses c w ++ to_come c result) }
+pub fn after_row(c: Comparison, w: Walk) -> Option<Walk>
+    requires { Walking c (Some w) }
+    ensures { Walking c result × (to_come c (Some w) ≡ row_clauses c w ++ to_come c result) }
 {
     let a = w.a;
     let mut b = w.b;
@@ -46,19 +46,12 @@ fn until(d: u32, k: u32) -> u32
     if m == 0 { 0 } else { d - m }
 }
 
-fn magnitude(a: i32) -> u32
-    requires { nat_abs a ≤ 64 }
-    ensures { result ≡ nat_abs a }
-{
-    if a < 0 { (-a) as u32 } else { a as u32 }
-}
-
 // The literal of a term at its place, ready to go along the row.
 fn spot_at(s: Slot, p: Place) -> Spot
     requires { Placed s p }
     ensures { Holds s p.k result }
 {
-    let d = magnitude(s.coefficient);
+    let d = s.coefficient.unsigned_abs();
     Spot {
         d: d,
         r: until(d, p.k),
@@ -109,19 +102,19 @@ fn down(p: Spot) -> Spot
 }
 
 // The first so many literals of the present tuple: one or none.
-fn front_at(c: Comparison, w: Walk, some: usize) -> Front
-    requires { FairComparison c × Walking c (At.Tuple w) × (some ≤ c.n) × (some ≤ 1) }
+fn front_at(c: Comparison, w: Walk, some: usize) -> Option<i32>
+    requires { FairComparison c × Walking c (Some w) × (some ≤ c.n) × (some ≤ 1) }
     ensures { front_of result ≡ take some (present c w) }
 {
     if some == 0 {
-        return Front::Nothing;
+        return None;
     }
-    Front::Literal(tuple_literal(c, w, 0))
+    Some(tuple_literal(c, w, 0))
 }
 
 // The clauses of the present tuple's row.
 pub fn row_at(c: Comparison, w: Walk) -> Row
-    requires { FairComparison c × Walking c (At.Tuple w) }
+    requires { FairComparison c × Walking c (Some w) }
     ensures { Ready result × (in_row result ≡ row_clauses c w) }
 {
     let n = c.n;
