@@ -34,10 +34,8 @@ pub fn terms_at(rules: &[u8], place: usize) -> Terms
         coefficient: 0,
         variable: 0,
     }; 3];
-    let mut i: usize = 0;
-    while i < n {
+    for i in 0..n {
         terms[i] = term_at(rules, place + 1 + 3 * i);
-        i += 1;
     }
     Terms { n: n, terms: terms }
 }

@@ -36,10 +36,8 @@ pub fn first_number(bytes: &[u8], bools: usize, x: usize) -> u32
     ensures { result ≡ first (board_of bytes.now) x }
 {
     let mut number = bools as u32 + 1;
-    let mut y: usize = 0;
-    while y < x {
+    for y in 0..x {
         number += width_of(bounds_of(bytes, y));
-        y += 1;
     }
     number
 }
@@ -50,11 +48,9 @@ pub fn put_firsts(bytes: &[u8], bools: usize, ints: usize, firsts: &mut [u32])
     ensures { FirstsOf (board_of bytes.now) firsts.new }
 {
     let mut next = bools as u32 + 1;
-    let mut x: usize = 0;
-    while x < ints {
+    for x in 0..ints {
         firsts[x] = next;
         next += width_of(bounds_of(bytes, x));
-        x += 1;
     }
     firsts[ints] = next;
 }
