@@ -1,13 +1,17 @@
 -- Results one after another: what was read where the last of them is done. Assumes nothing.
-use mathlib.Core.Path.{◌≡◌, refl, sym, ◌∙◌}
+use mathlib.Core.Path.{◌≡◌, refl, sym, ap, ◌∙◌}
 use mathlib.Core.Bool.{Bool, true, false}
 use Prim.Native.Nat.{ℕ}
 use lib.Dec.{T}
+use Rattle.std.specs.Prelude as code
 use Rattle.std.specs.Prelude.{if◌then◌else◌}
+use Rattle.std.specs.Result.{IsErrAnd}
+use Rattle.std.proofs.lemmas.Result.{err_from_is_err_and}
 use Rattle.definitions.specs.Result.{Result, done, refused}
 use Rattle.definitions.specs.Result as result
 use Rattle.definitions.specs.Reading.{Got}
 use Rattle.laws.specs.Readings.{same, never}
+use Rattle.reader.specs.declared.Fault.{Fault}
 use Rattle.reader.specs.Parts.{past}
 
 -- the first of two was done, and the second
@@ -20,6 +24,10 @@ module _ {A B : Type 0} where
   pub passed : (m : Result A) (f : A → Result B) {b : B} → result.◌>>=◌ m f ≡ done b → Passed m f b
   passed (done a) f e = record { got = a; read = refl; rest = e }
   passed (refused n d) f e = never e
+
+-- a fault that `?` passes on
+pub passed_on : {A : Type 0} (r : code.Result A Fault) {f : Fault} → IsErrAnd r (λ e. e ≡ f) → r ≡ code.Err f
+passed_on r h = let p = err_from_is_err_and r h in p.1 ∙ ap code.Err p.2
 
 -- two results and then a third: as one part made of the two, and then the third
 module _ {A B C D : Type 0} (r : A → Result B) (made : A → B → C) (k : C → Result D) where

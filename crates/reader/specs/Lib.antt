@@ -1,4 +1,5 @@
 pub mod Said
 pub mod Parts
+pub mod Ranges
 pub mod Seen
 pub mod Literals

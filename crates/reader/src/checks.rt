@@ -1,47 +1,61 @@
 // Fields whose value has a range. `why` is what a value outside it is refused for.
 ghost use Rattle.std.specs.Prelude.{◌≡◌, ◌≤◌};
-ghost use Rattle.reader.specs.Said.{said_number, said_whole};
+ghost use Rattle.reader.specs.Said.{said_got};
 ghost use Rattle.reader.specs.Parts.{number_from, whole_from};
+ghost use Rattle.reader.specs.Ranges.{ranged};
 
-use super::{Fault, Number, Whole, Why};
-use fields::{Signed, Unsigned};
+use super::{Fault, Why};
+use definitions::Got;
+use fields::{signed_at, unsigned_at};
 
-// An unsigned field: its missing bytes (8) before its value.
-pub fn number_at(bytes: &[u8], at: usize, width: usize, least: u32, most: u32, why: Why) -> Number
-    requires { width ≤ 4 }
-    ensures { said_number result ≡ number_from why least most width bytes.now at }
+// A field that was read: its missing bytes (8) before its value.
+fn within<T: PartialOrd + Copy>(
+    read: Option<Got<T>>,
+    at: usize,
+    least: T,
+    most: T,
+    why: Why,
+) -> Result<Got<T>, Fault>
+    ensures { result ≡ ranged T.partial_cmp least most why at read }
 {
-    let Unsigned::Value { value, next } = fields::unsigned_at(bytes, at, width) else {
-        return Number::Refused(Fault {
+    let Some(got) = read else {
+        return Err(Fault {
             why: Why::End,
             place: at,
         });
     };
-    if value < least {
-        return Number::Refused(Fault { why, place: at });
+    if got.value < least || most < got.value {
+        return Err(Fault { why, place: at });
     }
-    if most < value {
-        return Number::Refused(Fault { why, place: at });
-    }
-    Number::Value { value, next }
+    Ok(got)
 }
 
-// A signed field, likewise.
-pub fn whole_at(bytes: &[u8], at: usize, width: usize, least: i32, most: i32, why: Why) -> Whole
+// An unsigned field.
+pub fn number_at(
+    bytes: &[u8],
+    at: usize,
+    width: usize,
+    least: u32,
+    most: u32,
+    why: Why,
+) -> Result<Got<u32>, Fault>
     requires { width ≤ 4 }
-    ensures { said_whole result ≡ whole_from why least most width bytes.now at }
+    ensures { said_got result ≡ number_from why least most width bytes.now at }
 {
-    let Signed::Value { value, next } = fields::signed_at(bytes, at, width) else {
-        return Whole::Refused(Fault {
-            why: Why::End,
-            place: at,
-        });
-    };
-    if value < least {
-        return Whole::Refused(Fault { why, place: at });
-    }
-    if most < value {
-        return Whole::Refused(Fault { why, place: at });
-    }
-    Whole::Value { value, next }
+    within(unsigned_at(bytes, at, width), at, least, most, why)
+}
+
+// A signed field.
+pub fn whole_at(
+    bytes: &[u8],
+    at: usize,
+    width: usize,
+    least: i32,
+    most: i32,
+    why: Why,
+) -> Result<Got<i32>, Fault>
+    requires { width ≤ 4 }
+    ensures { said_got result ≡ whole_from why least most width bytes.now at }
+{
+    within(signed_at(bytes, at, width), at, least, most, why)
 }

@@ -1,7 +1,7 @@
 // From the bytes of the rules to literals and clauses, with refusals 4, 6, 7, 8 and 15 to 17. specs/Said.antt gives the definitions' result for each answer.
 #![tactic(auto)]
 
-pub mod faults; // faults.rt: why a reading was refused
+pub mod faults; // faults.rt: 01's refusal for each fault
 pub mod checks; // checks.rt: fields whose value has a range
 pub mod comparisons; // comparisons.rt: terms and constant
 pub mod clauses; // clauses.rt: literals and clauses
@@ -35,44 +35,10 @@ pub struct Fault {
     pub place: usize,
 }
 
-// A field's value and the place after it.
-#[derive(Clone, Copy)]
-pub enum Number {
-    Value { value: u32, next: usize },
-    Refused(Fault),
-}
-
-#[derive(Clone, Copy)]
-pub enum Whole {
-    Value { value: i32, next: usize },
-    Refused(Fault),
-}
-
 // A comparison is known by the place of its term count, and its constant.
 #[derive(Clone, Copy)]
 pub enum Literal {
     Boolean(u32),
     Negated(u32),
     Comparison { place: usize, constant: i32 },
-}
-
-// A literal and the place after it.
-#[derive(Clone, Copy)]
-pub enum LiteralRead {
-    Got(Literal, usize),
-    Refused(Fault),
-}
-
-// The same of a literal that was read before.
-#[derive(Clone, Copy)]
-pub struct Reread {
-    pub literal: Literal,
-    pub next: usize,
-}
-
-// Of a part that is only tested: the place after it.
-#[derive(Clone, Copy)]
-pub enum Step {
-    Next(usize),
-    Refused(Fault),
 }
