@@ -28,7 +28,8 @@ import tempfile
 ROOT = pathlib.Path(__file__).resolve().parent.parent
 FUNCTION = re.compile(r'^(?P<head>(?:pub )?(?:extern "C" )?fn (?P<name>\w+)\b.*?(?:^| )\{)(?P<body>\n.*?^\}\n)', re.M | re.S)
 VERDICT = re.compile(r"^fn (\S+): (.*)$", re.M)
-METHOD = re.compile(r"::[A-Z]\w*::\w+$")  # named after its type; an edit of one is made alone
+METHOD = re.compile(r"::[A-Z]\w*::\w+$")  # named after its type, one by derive too; an edit of one is made alone
+CLOSURE = re.compile(r"(\w+(?:::\w+)*?)::fn::((?:[A-Z]\w*::)?\w+)::\S+")  # named after the function that has it, and what it is for
 ERROR = re.compile(r"^(?:\./)?((?:src|specs|proofs)/\S+?):(\d+:\d+): error: (?:`([^`]+)`: )?(.*)$", re.M)
 NOTE = re.compile(r"^note: (?:\./)?(src/\S+:\d+:\d+): it is not proved that .*?\(`([^`]+)`\)", re.M)
 FOLLOWS = re.compile(r"\d+ declarations? that depends? on ")
@@ -48,6 +49,11 @@ def path_of(crate, file, name):
     """How the prover names a function of a file of src/."""
     modules = pathlib.PurePath(file).with_suffix("").parts[1:]
     return "::".join([crate, *(module for module in modules if module not in ("lib", "main")), name])
+
+
+def owner(function):
+    """The function whose body holds this one: a closure's is the function that has it, any other's is its own."""
+    return CLOSURE.sub(r"\1::\2", function)
 
 
 class Edit:
@@ -101,7 +107,10 @@ class Crate:
             raise Bad(f"unchanged, the crate is not proved:\n{told[-2000:]}")
         there = {path_of(name, file, function) for file, text in self.sources.items() if file.startswith("src/")
                  for function in parts(text)[1]}
-        if there != {function for function, verdict in VERDICT.findall(told) if verdict == "proved" and not METHOD.search(function)}:
+        named = VERDICT.findall(told)
+        owners = {owner(function) for function, _ in named if CLOSURE.fullmatch(function)}
+        proved_here = {function for function, verdict in named if verdict == "proved" and not CLOSURE.fullmatch(function)}
+        if there != {function for function in proved_here if not METHOD.search(function)} or not owners <= proved_here:
             raise Bad("the functions found in src/ are not those that the prover names")
         shutil.copytree(self.out, self.kept)
 
@@ -173,13 +182,13 @@ def failures(crate, told):
         file, place, name, message, function, verdict = found.groups()
         if file and not FOLLOWS.match(message):
             own = re.fullmatch(r"proofs/(.+)/\w+\.antt", file)
-            whose = "::".join([crate, *own[1].replace("+", "").split("/")]) if own else None
+            whose = owner("::".join([crate, *own[1].replace("+", "").split("/")])) if own else None
             lost = MISSED.search(message) or (own and name and name.endswith("_spec"))
             yield whose, file, f"{file}:{place}", None if lost else name
         elif function and "`search` did not prove " in verdict:
             goal = re.search("did not prove `([^`]+)`", verdict)[1]
             places = [note[1] for note in NOTE.finditer(told, 0, found.start()) if note[2] == goal]
-            yield function, None, places[-1] if places else function, goal
+            yield owner(function), None, places[-1] if places else function, goal
 
 
 def judged(edit, status, told):
