@@ -4,61 +4,50 @@ ghost use Rattle.reader.specs.Said.{said_step};
 ghost use Rattle.opening.specs.Said.{said_header};
 ghost use Rattle.opening.specs.Parts.{rules_from, header_from};
 
-use super::faults::of_counts;
 use super::head::counts_at;
 use super::table::past_table;
-use super::{CountsRead, Header, HeaderRead, context_of};
+use super::{Header, context_of};
 use reader::clauses::past_clauses;
-use reader::faults::of_step;
-use reader::{Fault, Step, Why};
+use reader::{Fault, Why};
 
 // The clauses are read in the record's tail, where places are counted from its start; nothing follows them.
-fn past_rules(bytes: &[u8], header: Header) -> Step
+fn past_rules(bytes: &[u8], header: Header) -> Result<usize, Fault>
     requires { (header.rules ≤ length bytes.now) × ((header.ints ≤ 1024) × (header.bools ≤ 4096)) }
     ensures { said_step result ≡ rules_from header bytes.now }
 {
     let base = header.rules;
-    let passed = past_clauses(&bytes[base..], context_of(header), header.clauses, 0);
-    let Step::Next(read) = passed else {
-        let fault = of_step(passed);
-        let why = fault.why;
-        return Step::Refused(Fault {
-            why,
-            place: base + fault.place,
-        });
+    let place = match past_clauses(&bytes[base..], context_of(header), header.clauses, 0) {
+        Ok(read) => base + read,
+        Err(fault) => {
+            return Err(Fault {
+                why: fault.why,
+                place: base + fault.place,
+            });
+        }
     };
-    let place = base + read;
     if place != bytes.len() {
-        return Step::Refused(Fault {
+        return Err(Fault {
             why: Why::End,
             place,
         });
     }
-    Step::Next(place)
+    Ok(place)
 }
 
-pub fn header_at(bytes: &[u8], version: u32, at: usize) -> HeaderRead
+pub fn header_at(bytes: &[u8], version: u32, at: usize) -> Result<Header, Fault>
     ensures { said_header result ≡ header_from version bytes.now at }
 {
-    let counted = counts_at(bytes, at);
-    let CountsRead::Got(counts, table) = counted else {
-        return HeaderRead::Refused(of_counts(counted));
-    };
-    let passed = past_table(bytes, counts.ints, table);
-    let Step::Next(rules) = passed else {
-        return HeaderRead::Refused(of_step(passed));
-    };
+    let counts = counts_at(bytes, at)?;
+    let table = counts.next;
+    let rules = past_table(bytes, counts.value.ints, table)?;
     let header = Header {
         version,
-        ints: counts.ints as usize,
-        bools: counts.bools as usize,
-        clauses: counts.clauses as usize,
+        ints: counts.value.ints as usize,
+        bools: counts.value.bools as usize,
+        clauses: counts.value.clauses as usize,
         table,
         rules,
     };
-    let ended = past_rules(bytes, header);
-    let Step::Next(_) = ended else {
-        return HeaderRead::Refused(of_step(ended));
-    };
-    HeaderRead::Got(header)
+    past_rules(bytes, header)?;
+    Ok(header)
 }

@@ -6,12 +6,10 @@ ghost use Rattle.reader.specs.Said.{context_of};
 ghost use Rattle.opening.specs.Said.{context_in};
 ghost use Rattle.opening.specs.Outcome.{Allowed};
 
-use crate::faults::{of_header, refusal_of};
 use definitions::Refusal;
-use fields::{Unsigned, unsigned_at};
-use reader::{Context, Fault};
+use fields::unsigned_at;
+use reader::Context;
 
-pub mod faults; // faults.rt: why a record is refused
 pub mod head; // head.rt: the counts
 pub mod table; // table.rt: the variables' bounds
 pub mod body; // body.rt: counts, table and clauses
@@ -22,13 +20,6 @@ pub struct Counts {
     pub ints: u32,
     pub bools: u32,
     pub clauses: u32,
-}
-
-// The counts and the place after them.
-#[derive(Clone, Copy)]
-pub enum CountsRead {
-    Got(Counts, usize),
-    Refused(Fault),
 }
 
 // What later passes over an accepted record need: version, counts, and where the variable table and the clauses begin.
@@ -42,46 +33,27 @@ pub struct Header {
     pub rules: usize,
 }
 
-// The header, or why and where there is none.
-#[derive(Clone, Copy)]
-pub enum HeaderRead {
-    Got(Header),
-    Refused(Fault),
-}
-
-// The same in 01's words.
-#[derive(Clone, Copy)]
-pub enum Opening {
-    Opened(Header),
-    Refused(Refusal),
-}
-
 // The record's refusals but 9, in 01's order: fewer than 5 bytes before the version, the stated length after it.
-pub fn open(bytes: &[u8]) -> Opening
+pub fn open(bytes: &[u8]) -> Result<Header, Refusal>
     ensures { Allowed bytes.now result }
 {
     if 65536 < bytes.len() {
-        return Opening::Refused(Refusal::RecordTooLong);
+        return Err(Refusal::RecordTooLong);
     }
-    let Unsigned::Value { value, next } = unsigned_at(bytes, 0, 1) else {
-        return Opening::Refused(Refusal::LengthWrong);
+    let Some(version) = unsigned_at(bytes, 0, 1) else {
+        return Err(Refusal::LengthWrong);
     };
-    let version = value;
-    let Unsigned::Value { value, next } = unsigned_at(bytes, next, 4) else {
-        return Opening::Refused(Refusal::LengthWrong);
+    let Some(stated) = unsigned_at(bytes, version.next, 4) else {
+        return Err(Refusal::LengthWrong);
     };
-    let stated = value as usize;
-    if version != 1 {
-        return Opening::Refused(Refusal::VersionUnknown);
+    if version.value != 1 {
+        return Err(Refusal::VersionUnknown);
     }
-    if stated != bytes.len() - next {
-        return Opening::Refused(Refusal::LengthWrong);
+    if stated.value as usize != bytes.len() - stated.next {
+        return Err(Refusal::LengthWrong);
     }
-    let read = body::header_at(bytes, version, next);
-    let HeaderRead::Got(header) = read else {
-        return Opening::Refused(refusal_of(of_header(read)));
-    };
-    Opening::Opened(header)
+    let header = body::header_at(bytes, version.value, stated.next)?;
+    Ok(header)
 }
 
 // What the readers of clauses have to know of the record.

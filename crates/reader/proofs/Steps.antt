@@ -11,7 +11,10 @@ use Rattle.definitions.specs.Result.{Result, done, refused}
 use Rattle.definitions.specs.Result as result
 use Rattle.definitions.specs.Reading.{Got}
 use Rattle.laws.specs.Readings.{same, never}
+use Rattle.definitions.specs.declared.Refusal.{Refusal}
+use Rattle.definitions.specs.Answers.{said, answered}
 use Rattle.reader.specs.declared.Fault.{Fault}
+use Rattle.reader.specs.Said.{number, fault}
 use Rattle.reader.specs.Parts.{past}
 
 -- the first of two was done, and the second
@@ -28,6 +31,10 @@ module _ {A B : Type 0} where
 -- a fault that `?` passes on
 pub passed_on : {A : Type 0} (r : code.Result A Fault) {f : Fault} → IsErrAnd r (λ e. e ≡ f) → r ≡ code.Err f
 passed_on r h = let p = err_from_is_err_and r h in p.1 ∙ ap code.Err p.2
+
+-- and where it becomes a refusal
+pub turned : {A B : Type 0} (meaning : A → B) (r : code.Result A Refusal) (f : Fault) → IsErrAnd r (λ e. said e ≡ (number f.why, f.place)) → answered meaning r ≡ fault f
+turned meaning r f h = let p = err_from_is_err_and r h in rw (p.1, p.2)
 
 -- two results and then a third: as one part made of the two, and then the third
 module _ {A B C D : Type 0} (r : A → Result B) (made : A → B → C) (k : C → Result D) where
