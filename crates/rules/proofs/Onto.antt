@@ -1,10 +1,6 @@
 -- Steps from cursor to cursor up to the next piece. Assumes nothing.
-use mathlib.Core.Path.{◌≡◌, refl, ◌∙◌}
-use mathlib.Core.List.{List}
-use Prim.Native.Nat.{ℕ, ◌≤◌, ◌<◌}
-use native.Mathlib.Omega.{arith}
+use Rattle.std.proofs.Common.{◌≡◌, refl, ◌∙◌, List, ℕ, ◌≤◌, ◌<◌, arith, Some, None}
 use Rattle.definitions.specs.Reading.{Context}
-use Rattle.rules.specs.declared.Ahead.{Ahead}
 use Rattle.rules.specs.declared.Cursor.{Cursor}
 use Rattle.rules.specs.declared.Piece.{Piece}
 use Rattle.rules.specs.declared.Stepped.{Stepped}
@@ -21,7 +17,7 @@ onto_start s = record { sound = s; same = refl; most = omega arith }
 
 -- what a step from c' tells
 module _ {ctx : Context} {t : List ℕ} {c c' : Cursor} (h : Onto ctx t c c') {r : Stepped} (w : Went ctx t c' r) where
-  pub onto_met : {p : Piece} {d : Cursor} → r ≡ Stepped.Met p d → Came ctx t c (Ahead.Met p d)
+  pub onto_met : {p : Piece} {d : Cursor} → r ≡ Stepped.Met p d → Came ctx t c (Some (p, d))
   unfolding Went Came
   onto_met {p} {d} e =
       let k : Meets ctx t c' p d = rw e at w in
@@ -33,6 +29,6 @@ module _ {ctx : Context} {t : List ℕ} {c c' : Cursor} (h : Onto ctx t c c') {r
       let k : Passes ctx t c' d = rw e at w in
       (record { sound = k.onward.sound; same = h.same ∙ k.same; most = omega (arith, k.onward.less, h.most) }, k.onward.less)
 
-  pub onto_end : r ≡ Stepped.End → Came ctx t c Ahead.Nothing
+  pub onto_end : r ≡ Stepped.End → Came ctx t c None
   unfolding Went Came
   onto_end e = h.same ∙ (rw e at w)

@@ -1,12 +1,5 @@
 -- Where a literal or a count that was read before leads a cursor. Assumes nothing.
-use mathlib.Core.Path.{◌≡◌, ◌∙◌, subst}
-use mathlib.Core.Bool.{Bool, true, false, not}
-use mathlib.Core.List.{List, ◌∷◌, ◌++◌}
-use Prim.Native.Nat.{ℕ, suc, ◌+◌, ◌-◌, ◌≤◌, ◌<◌}
-use native.Mathlib.Numerals.{add-one}
-use native.Mathlib.Omega.{arith}
-use lib.ListN.{length}
-use lib.IntN.{ℤ}
+use Rattle.std.proofs.Common.{◌≡◌, ◌∙◌, subst, Bool, true, false, not, List, ◌∷◌, ◌++◌, ℕ, suc, ◌+◌, ◌-◌, ◌≤◌, ◌<◌, add-one, arith, length, ℤ}
 use Rattle.definitions.specs.Board.{Clause}
 use Rattle.definitions.specs.Reading.{Context, big}
 use Rattle.laws.specs.Reread.{comparison_at}
@@ -14,7 +7,7 @@ use Rattle.laws.specs.Pieces.{lone, opening, remaining, remaining_bool, remainin
 use Rattle.laws.specs.Again.{There, literal_read, first_literal, literals_at, clauses_at}
 use Rattle.laws.specs.Ahead.{Readable, coming, Past, past_literal, Into, into_clause, coming_none}
 use Rattle.reader.specs.declared.Literal.{Literal}
-use Rattle.reader.specs.declared.Reread.{Reread}
+use Rattle.definitions.specs.declared.Got.{Got}
 use Rattle.reader.specs.Said.{literal_of}
 use Rattle.reader.specs.Literals.{Rereads, KnownLiteral, known_literal}
 use Rattle.rules.specs.declared.Cursor.{Cursor}
@@ -31,26 +24,26 @@ module _ (ctx : Context) (t : List ℕ) (c : Cursor) (s : Sound ctx t c) where
     pub literal_there : There t c.place
     literal_there = (literal_read t c.place ctx _ past.read).there
 
-    module _ (r : Reread) (a : Rereads t c.place r) where
+    module _ (r : Got Literal) (a : Rereads t c.place r) where
       onward : (j : ℕ) → j ≤ suc c.selector → Onward ctx t c (behind c r.next j)
       onward j k = record { sound = record { readable = rw a.next past.on; few = omega (arith, s.few); short = omega (arith, s.short) }; less = omega arith }
 
-      these : {l : Literal} → r.literal ≡ l → coming t c.led c.selector c.literals c.clauses c.place
+      these : {l : Literal} → r.value ≡ l → coming t c.led c.selector c.literals c.clauses c.place
           ≡ remaining c.led c.selector (literal_of t l ∷ (literals_at t (c.literals - 1) r.next).value) (clauses_at t c.clauses (literals_at t (c.literals - 1) r.next).next).value
       these e = rw (← e, a.literal, a.next) (past.these c.led c.selector)
 
-      pub known : {l : Literal} → r.literal ≡ l → KnownLiteral t ctx.ints ctx.bools l
+      pub known : {l : Literal} → r.value ≡ l → KnownLiteral t ctx.ints ctx.bools l
       known e = subst (KnownLiteral t ctx.ints ctx.bools) e (known_literal ctx t c.place past.read a)
 
-      pub goes_bool : {b : ℕ} → r.literal ≡ Literal.Boolean b → Went ctx t c (Stepped.Passed (behind c r.next c.selector))
+      pub goes_bool : {b : ℕ} → r.value ≡ Literal.Boolean b → Went ctx t c (Stepped.Passed (behind c r.next c.selector))
       unfolding Went coming_at coming
       goes_bool {b} e = record { same = these e ∙ remaining_bool c.led c.selector b _ _; onward = onward c.selector (omega arith) }
 
-      pub goes_negated : {b : ℕ} → r.literal ≡ Literal.Negated b → Went ctx t c (Stepped.Passed (behind c r.next c.selector))
+      pub goes_negated : {b : ℕ} → r.value ≡ Literal.Negated b → Went ctx t c (Stepped.Passed (behind c r.next c.selector))
       unfolding Went coming_at coming
       goes_negated {b} e = record { same = these e ∙ remaining_negated c.led c.selector b _ _; onward = onward c.selector (omega arith) }
 
-      module _ {place : ℕ} {k : ℤ} (e : r.literal ≡ Literal.Comparison place k) where
+      module _ {place : ℕ} {k : ℤ} (e : r.value ≡ Literal.Comparison place k) where
         pub goes_led : c.led ≡ true → Went ctx t c (Stepped.Met (code.Piece.Led c.selector place k) (behind c r.next (c.selector + 1)))
         unfolding Went coming_at coming
         goes_led d = record {

@@ -1,5 +1,5 @@
 -- What is coming at a cursor, and what a step says of it. Assumes nothing.
-use Rattle.std.specs.Prelude.{◌≡◌, Bool, true, List, [], ◌∷◌, ℕ, ◌+◌, ◌*◌, ◌-◌, ◌≤◌, ◌<◌}
+use Rattle.std.specs.Prelude.{◌≡◌, Option, Some, None, Bool, true, List, [], ◌∷◌, ℕ, ◌+◌, ◌*◌, ◌-◌, ◌≤◌, ◌<◌}
 use Rattle.definitions.specs.Result.{done}
 use Rattle.definitions.specs.Reading.{Context, times, read_literal}
 use Rattle.definitions.specs.Encoding.{selector, minus}
@@ -10,7 +10,6 @@ use Rattle.laws.specs.Again.{literals_at}
 use Rattle.laws.specs.Ahead.{Readable, coming}
 use Rattle.rules.specs.declared.Cursor.{Cursor}
 use Rattle.rules.specs.declared.Piece as code
-use Rattle.rules.specs.declared.Ahead.{Ahead}
 use Rattle.rules.specs.declared.Stepped.{Stepped}
 
 abbrev pub at_start : ℕ → Cursor
@@ -77,16 +76,16 @@ module _ (ctx : Context) (t : List ℕ) where
   Went c Stepped.End = coming_at t c ≡ []
 
   -- the next piece
-  unfoldable pub Came : Cursor → Ahead → Type 0
-  Came c (Ahead.Met p c') = Meets c p c'
-  Came c Ahead.Nothing = coming_at t c ≡ []
+  unfoldable pub Came : Cursor → Option (code.Piece × Cursor) → Type 0
+  Came c (Some (p, c')) = Meets c p c'
+  Came c None = coming_at t c ≡ []
 
-  module _ (c : Cursor) {r : Ahead} (w : Came c r) where
-    pub meets : {p : code.Piece} {c' : Cursor} → r ≡ Ahead.Met p c' → Meets c p c'
+  module _ (c : Cursor) {r : Option (code.Piece × Cursor)} (w : Came c r) where
+    pub meets : {p : code.Piece} {c' : Cursor} → r ≡ Some (p, c') → Meets c p c'
     unfolding Came
     meets e = rw e at w
 
-    pub ends : r ≡ Ahead.Nothing → coming_at t c ≡ []
+    pub ends : r ≡ None → coming_at t c ≡ []
     unfolding Came
     ends e = rw e at w
 
@@ -97,5 +96,5 @@ Steady t c = (ctx : Context) × Sound ctx t c
 abbrev pub Steps : List ℕ → Cursor → Stepped → Type 0
 Steps t c r = (ctx : Context) → Sound ctx t c → Went ctx t c r
 
-abbrev pub Comes : List ℕ → Cursor → Ahead → Type 0
+abbrev pub Comes : List ℕ → Cursor → Option (code.Piece × Cursor) → Type 0
 Comes t c r = (ctx : Context) → Sound ctx t c → Came ctx t c r

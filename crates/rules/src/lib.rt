@@ -46,13 +46,6 @@ pub enum Piece {
     },
 }
 
-// The next piece of the rules and where the pass stands behind it.
-#[derive(Clone, Copy)]
-pub enum Ahead {
-    Met(Piece, Cursor),
-    Nothing,
-}
-
 // A step comes to a piece, or past something that has none, or to the end.
 #[derive(Clone, Copy)]
 pub enum Stepped {
@@ -68,7 +61,7 @@ pub fn start(clauses: usize) -> Cursor
         place: 0,
         literals: 0,
         led: true,
-        clauses: clauses,
+        clauses,
         selector: 0,
     }
 }
@@ -81,9 +74,8 @@ fn after(c: Cursor, next: usize, selector: usize) -> Cursor
     Cursor {
         place: next,
         literals: c.literals - 1,
-        led: c.led,
-        clauses: c.clauses,
-        selector: selector,
+        selector,
+        ..c
     }
 }
 
@@ -93,29 +85,21 @@ fn past_literal(rules: &[u8], c: Cursor) -> Stepped
     ensures { Steps rules.now c result }
 {
     let read = literal_again(rules, c.place);
-    let literal = read.literal;
     let next = read.next;
-    match literal {
-        Literal::Boolean(_) => Stepped::Passed(after(c, next, c.selector)),
-        Literal::Negated(_) => Stepped::Passed(after(c, next, c.selector)),
+    match read.value {
+        Literal::Boolean(_) | Literal::Negated(_) => Stepped::Passed(after(c, next, c.selector)),
         Literal::Comparison { place, constant } => {
             if c.led {
                 Stepped::Met(
                     Piece::Led {
                         selector: c.selector,
-                        place: place,
-                        constant: constant,
+                        place,
+                        constant,
                     },
                     after(c, next, c.selector + 1),
                 )
             } else {
-                Stepped::Met(
-                    Piece::Lone {
-                        place: place,
-                        constant: constant,
-                    },
-                    after(c, next, c.selector),
-                )
+                Stepped::Met(Piece::Lone { place, constant }, after(c, next, c.selector))
             }
         }
     }
@@ -139,10 +123,10 @@ fn inside(c: Cursor, next: usize, literals: usize, led: bool) -> Cursor
 {
     Cursor {
         place: next,
-        literals: literals,
-        led: led,
+        literals,
+        led,
         clauses: c.clauses - 1,
-        selector: c.selector,
+        ..c
     }
 }
 
@@ -180,23 +164,17 @@ fn step(rules: &[u8], c: Cursor) -> Stepped
     Stepped::End
 }
 
-// The next piece at or behind the cursor.
-pub fn next_piece(rules: &[u8], cursor: Cursor) -> Ahead
+// The next piece at or behind the cursor, and where the pass stands behind it.
+pub fn next_piece(rules: &[u8], cursor: Cursor) -> Option<(Piece, Cursor)>
     requires { Steady rules.now cursor }
     ensures { Comes rules.now cursor result }
 {
     let mut at = cursor;
     loop {
         match step(rules, at) {
-            Stepped::Met(piece, behind) => {
-                return Ahead::Met(piece, behind);
-            }
-            Stepped::Passed(behind) => {
-                at = behind;
-            }
-            Stepped::End => {
-                return Ahead::Nothing;
-            }
+            Stepped::Met(piece, behind) => return Some((piece, behind)),
+            Stepped::Passed(behind) => at = behind,
+            Stepped::End => return None,
         }
     }
 }
