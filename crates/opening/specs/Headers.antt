@@ -8,6 +8,10 @@ use Rattle.laws.specs.Written.{rest, rest-drop}
 use Rattle.opening.specs.declared.Header.{Header}
 use Rattle.opening.specs.Said.{header_of, context_in}
 
+-- the rules of an accepted record
+abbrev pub tail_of : List ℕ → List ℕ
+tail_of s = drop (table_end (board_of s)) s
+
 pub record Opened (s : List ℕ) (h : Header) : Type 0 where
   pub opens : Opens s
   pub header : h ≡ header_of (board_of s)

@@ -6,6 +6,7 @@ ghost use Rattle.reader.specs.Said.{context_of};
 ghost use Rattle.opening.specs.Said.{context_in};
 ghost use Rattle.opening.specs.Outcome.{Allowed};
 
+use crate::record::Record;
 use definitions::Refusal;
 use fields::unsigned_at;
 use reader::Context;
@@ -13,6 +14,7 @@ use reader::Context;
 pub mod head; // head.rt: the counts
 pub mod table; // table.rt: the variables' bounds
 pub mod body; // body.rt: counts, table and clauses
+pub mod record; // record.rt: a record that was opened
 
 // The three counts.
 #[derive(Clone, Copy)]
@@ -34,7 +36,7 @@ pub struct Header {
 }
 
 // The record's refusals but 9, in 01's order: fewer than 5 bytes before the version, the stated length after it.
-pub fn open(bytes: &[u8]) -> Result<Header, Refusal>
+pub fn open<'a>(bytes: &'a [u8]) -> Result<Record<'a>, Refusal>
     ensures { Allowed bytes.now result }
 {
     if 65536 < bytes.len() {
@@ -53,7 +55,7 @@ pub fn open(bytes: &[u8]) -> Result<Header, Refusal>
         return Err(Refusal::LengthWrong);
     }
     let header = body::header_at(bytes, version.value, stated.next)?;
-    Ok(header)
+    Ok(Record::new(bytes, header))
 }
 
 // What the readers of clauses have to know of the record.

@@ -4,6 +4,7 @@ ghost use Rattle.definitions.specs.Tools.{All};
 ghost use Rattle.laws.specs.Admitted.{GoodTerm};
 ghost use Rattle.laws.specs.Boards.{Opens, board_of};
 ghost use Rattle.laws.specs.Reread.{term_at, terms_at, comparison_at, TermsStand, Stands};
+ghost use Rattle.opening.specs.Headers.{tail_of};
 ghost use Rattle.walk.specs.Slots.{slot_of};
 ghost use Rattle.slots.specs.Variables.{numbered};
 ghost use Rattle.slots.specs.Ready.{Small, ReadyBy};
@@ -12,6 +13,7 @@ ghost use Rattle.slots.specs.Terms.{term_read, TermsOf};
 use crate::variables::{bounds_of, first_in};
 use crate::{Term, Terms};
 use fields::{unchecked, unchecked_signed};
+use opening::record::Record;
 use walk::{Comparison, Slot};
 
 fn term_at(rules: &[u8], at: usize) -> Term
@@ -41,12 +43,12 @@ pub fn terms_at(rules: &[u8], place: usize) -> Terms
 }
 
 // The term with its variable's bounds and first number.
-fn slot_of(bytes: &[u8], firsts: &[u32], term: Term) -> Slot
-    requires { Opens bytes.now × GoodTerm (length (board_of bytes.now).bounds) (term_read term) }
-    ensures { result ≡ slot_of (board_of bytes.now) (numbered firsts.now) (term_read term) }
+fn slot_of(opened: &Record, firsts: &[u32], term: Term) -> Slot
+    requires { GoodTerm (length (board_of opened.now).bounds) (term_read term) }
+    ensures { result ≡ slot_of (board_of opened.now) (numbered firsts.now) (term_read term) }
 {
     let x = term.variable;
-    let bounds = bounds_of(bytes, x);
+    let bounds = bounds_of(opened, x);
     Slot {
         coefficient: term.coefficient,
         lower: bounds.lower,
@@ -56,9 +58,9 @@ fn slot_of(bytes: &[u8], firsts: &[u32], term: Term) -> Slot
 }
 
 // The slot of term i, counted from 0, of the comparison whose term count, n, stands at a place; where there is none, of no use.
-fn slot_at(bytes: &[u8], firsts: &[u32], rules: &[u8], place: usize, n: usize, i: usize) -> Slot
-    requires { Opens bytes.now × TermsStand rules.now place × All (GoodTerm (length (board_of bytes.now).bounds)) (terms_at rules.now place) × (n ≡ length (terms_at rules.now place)) }
-    ensures { i < n → result ≡ slot_of (board_of bytes.now) (numbered firsts.now) (term_at rules.now (place + 1 + 3 * i)) }
+fn slot_at(opened: &Record, firsts: &[u32], rules: &[u8], place: usize, n: usize, i: usize) -> Slot
+    requires { TermsStand rules.now place × All (GoodTerm (length (board_of opened.now).bounds)) (terms_at rules.now place) × (n ≡ length (terms_at rules.now place)) }
+    ensures { i < n → result ≡ slot_of (board_of opened.now) (numbered firsts.now) (term_at rules.now (place + 1 + 3 * i)) }
 {
     if n <= i {
         return Slot {
@@ -68,22 +70,30 @@ fn slot_at(bytes: &[u8], firsts: &[u32], rules: &[u8], place: usize, n: usize, i
             first: 0,
         };
     }
-    slot_of(bytes, firsts, term_at(rules, place + 1 + 3 * i))
+    slot_of(opened, firsts, term_at(rules, place + 1 + 3 * i))
 }
 
-// The comparison whose term count stands at a place of the rules; a table gives the first numbers, and those that it lacks are 0.
-// Its slots are no array until all are there: one that is filled by index and then copied is slow.
-pub fn ready(bytes: &[u8], firsts: &[u32], rules: &[u8], place: usize, constant: i32) -> Comparison
-    requires { Opens bytes.now × Small (board_of bytes.now) firsts.now × Stands (length (board_of bytes.now).bounds) rules.now place constant }
-    ensures { ReadyBy (board_of bytes.now) (numbered firsts.now) (comparison_at rules.now place constant) result }
+// The comparison whose term count stands at a place. Its slots are no array until all are there: one that is filled by index and then
+// copied is slow.
+fn readied(opened: &Record, firsts: &[u32], rules: &[u8], place: usize, constant: i32) -> Comparison
+    requires { Opens opened.now × Small (board_of opened.now) firsts.now × Stands (length (board_of opened.now).bounds) rules.now place constant }
+    ensures { ReadyBy (board_of opened.now) (numbered firsts.now) (comparison_at rules.now place constant) result }
 {
     let n = unchecked(rules, place, 1) as usize;
-    let a = slot_at(bytes, firsts, rules, place, n, 0);
-    let b = slot_at(bytes, firsts, rules, place, n, 1);
-    let c = slot_at(bytes, firsts, rules, place, n, 2);
+    let a = slot_at(opened, firsts, rules, place, n, 0);
+    let b = slot_at(opened, firsts, rules, place, n, 1);
+    let c = slot_at(opened, firsts, rules, place, n, 2);
     Comparison {
         n: n,
         slots: [a, b, c],
         constant: constant,
     }
+}
+
+// The comparison whose term count stands at a place of the rules; a table gives the first numbers, and those that it lacks are 0.
+pub fn ready(opened: &Record, firsts: &[u32], place: usize, constant: i32) -> Comparison
+    requires { Small (board_of opened.now) firsts.now × Stands (length (board_of opened.now).bounds) (tail_of opened.now) place constant }
+    ensures { ReadyBy (board_of opened.now) (numbered firsts.now) (comparison_at (tail_of opened.now) place constant) result }
+{
+    readied(opened, firsts, opened.rules(), place, constant)
 }

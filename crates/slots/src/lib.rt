@@ -26,3 +26,4 @@ pub const FIRSTS: usize = 1025;
 
 pub mod comparisons; // comparisons.rt: a comparison's terms, and the comparison made ready to walk
 pub mod variables; // variables.rt: bounds, widths, first numbers
+pub mod numbered; // numbered.rt: a record with the first number of each of its variables

@@ -5,16 +5,18 @@ ghost use Rattle.laws.specs.Admitted.{GoodBounds};
 ghost use Rattle.laws.specs.Boards.{Opens, board_of};
 ghost use Rattle.slots.specs.Variables.{bounds_read, BoundsOf, numbered, FirstsOf};
 
-use crate::Bounds;
+use crate::{Bounds, FIRSTS};
 use fields::unchecked_signed;
+use opening::record::Record;
 
 // Where the variable table begins: what laws call table_start.
 const TABLE: usize = 11;
 
-pub fn bounds_of(bytes: &[u8], x: usize) -> Bounds
-    requires { Opens bytes.now × (x < length (board_of bytes.now).bounds) }
-    ensures { BoundsOf (board_of bytes.now) x result }
+pub fn bounds_of(opened: &Record, x: usize) -> Bounds
+    requires { x < length (board_of opened.now).bounds }
+    ensures { BoundsOf (board_of opened.now) x result }
 {
+    let bytes = opened.bytes();
     let at = TABLE + 4 * x;
     Bounds {
         lower: unchecked_signed(bytes, at, 2),
@@ -31,26 +33,27 @@ pub fn width_of(bounds: Bounds) -> u32
 }
 
 // The number of p(x, lower - 1); after the last variable, of the first selector.
-pub fn first_number(bytes: &[u8], bools: usize, x: usize) -> u32
-    requires { Opens bytes.now × (bools ≡ (board_of bytes.now).bools) × (x ≤ length (board_of bytes.now).bounds) }
-    ensures { result ≡ first (board_of bytes.now) x }
+pub fn first_number(opened: &Record, x: usize) -> u32
+    requires { x ≤ length (board_of opened.now).bounds }
+    ensures { result ≡ first (board_of opened.now) x }
 {
-    let mut number = bools as u32 + 1;
+    let mut number = opened.bools() as u32 + 1;
     for y in 0..x {
-        number += width_of(bounds_of(bytes, y));
+        number += width_of(bounds_of(opened, y));
     }
     number
 }
 
 // The first numbers of all variables, and behind them the first selector's, into a table: added up once, and looked up for each term.
-pub fn put_firsts(bytes: &[u8], bools: usize, ints: usize, firsts: &mut [u32])
-    requires { Opens bytes.now × (bools ≡ (board_of bytes.now).bools) × (ints ≡ length (board_of bytes.now).bounds) × (ints < length firsts.old) }
-    ensures { FirstsOf (board_of bytes.now) firsts.new }
+pub fn put_firsts(opened: &Record, firsts: &mut [u32; FIRSTS])
+    ensures firsts { FirstsOf (board_of opened.now) firsts.new }
+    ensures opens { Opens opened.now }
 {
-    let mut next = bools as u32 + 1;
+    let ints = opened.ints();
+    let mut next = opened.bools() as u32 + 1;
     for x in 0..ints {
         firsts[x] = next;
-        next += width_of(bounds_of(bytes, x));
+        next += width_of(bounds_of(opened, x));
     }
     firsts[ints] = next;
 }

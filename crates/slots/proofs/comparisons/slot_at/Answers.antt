@@ -17,7 +17,5 @@ term_at-requires c = omega (arith, terms_count c.args.rules.now c.args.place)
 
 pub slot_of-requires : goal.slot_of-requires
 slot_of-requires c =
-    let here = terms_at_lem c.args.rules.now c.args.place c.args.i (term_read c.term_at.result) (omega (arith, terms_count c.args.rules.now c.args.place)) in (
-      c.requires.0,
-      subst (GoodTerm _) (here ∙ sym c.term_at.ensures) (all-at (GoodTerm _) (term_read c.term_at.result) (terms_at c.args.rules.now c.args.place) c.requires.2 c.args.i (omega arith)),
-    )
+    let here = terms_at_lem c.args.rules.now c.args.place c.args.i (term_read c.term_at.result) (omega (arith, terms_count c.args.rules.now c.args.place)) in
+    subst (GoodTerm _) (here ∙ sym c.term_at.ensures) (all-at (GoodTerm _) (term_read c.term_at.result) (terms_at c.args.rules.now c.args.place) c.requires.1 c.args.i (omega arith))

@@ -9,4 +9,4 @@ pub returns : goal.returns
 unfolding slot_of
 returns c =
     let b = c.bounds_of-bounds.ensures in
-    rw (to_z-of_z (coefficient_fits _ c.args.term c.requires.1), to_z-of_z (lower_fits c.bounds_of-bounds.result b.good), to_z-of_z (upper_fits c.bounds_of-bounds.result b.good), b.lower, b.upper, c.first_in.ensures)
+    rw (to_z-of_z (coefficient_fits _ c.args.term c.requires), to_z-of_z (lower_fits c.bounds_of-bounds.result b.good), to_z-of_z (upper_fits c.bounds_of-bounds.result b.good), b.lower, b.upper, c.first_in.ensures)

@@ -6,16 +6,16 @@ use Rattle.slots.specs.Variables.{first_none, first_more}
 use Rattle.slots.proofs.variables.first_number.Goals as goal
 
 pub overflow_cast-number : goal.overflow_cast-number
-overflow_cast-number c = omega (arith, (opens_admitted _ c.requires.0).bools)
+overflow_cast-number c = omega (arith, (opens_admitted _ c.bools.ensures.opens).bools)
 
 pub overflow_add-number : goal.overflow_add-number
-overflow_add-number c = omega (arith, (opens_admitted _ c.requires.0).bools)
+overflow_add-number c = omega (arith, (opens_admitted _ c.bools.ensures.opens).bools)
 
 pub loop-y-init : goal.loop-y-init
-loop-y-init c = rw c.requires.1 (sym (first_none _))
+loop-y-init c = rw c.bools.ensures.bools (sym (first_none _))
 
 pub overflow_add-number-in-loop-y : goal.overflow_add-number-in-loop-y
-overflow_add-number-in-loop-y c = omega (arith, first-most _ (opens_admitted _ c.requires.0) c.loop-y.y, width-most _ c.bounds_of.ensures.good)
+overflow_add-number-in-loop-y c = omega (arith, first-most _ (opens_admitted _ c.bools.ensures.opens) c.loop-y.y, width-most _ c.bounds_of.ensures.good)
 
 pub loop-y-preserved : goal.loop-y-preserved
 loop-y-preserved c = omega (arith, first_more _ _ _ (omega arith) c.bounds_of.ensures)

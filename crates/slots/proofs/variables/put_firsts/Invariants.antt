@@ -6,4 +6,4 @@ use Rattle.slots.specs.Variables.{FirstsTo}
 use Rattle.slots.proofs.variables.put_firsts.Given as goal
 
 abbrev pub invariant-loop-x : goal.invariant-loop-x
-invariant-loop-x l = FirstsTo (board_of l.bytes) l.x l.firsts × (l.next ≡ first (board_of l.bytes) l.x)
+invariant-loop-x l = FirstsTo (board_of l.opened) l.x l.firsts × (l.next ≡ first (board_of l.opened) l.x)

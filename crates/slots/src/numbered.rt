@@ -1,0 +1,60 @@
+// A record with the first number of each of its variables and of its selectors. Contracts see the record's bytes alone.
+ghost use Rattle.std.specs.Prelude.{◌≡◌, ℕ, List, length};
+ghost use Rattle.definitions.specs.Encoding.{first};
+ghost use Rattle.laws.specs.Boards.{Opens, board_of};
+ghost use Rattle.laws.specs.Reread.{comparison_at, Stands};
+ghost use Rattle.opening.specs.Headers.{tail_of};
+ghost use Rattle.slots.specs.Variables.{FirstsOf};
+ghost use Rattle.slots.specs.Ready.{ReadyFor};
+
+use crate::FIRSTS;
+use crate::comparisons::ready;
+use crate::variables::put_firsts;
+use opening::record::Record;
+use std::marker::Model;
+use walk::Comparison;
+
+pub struct Numbered<'a> {
+    opened: &'a Record<'a>,
+    firsts: [u32; FIRSTS],
+}
+
+impl<'a> Model for Numbered<'a> {
+    ghost Value = { List ℕ };
+
+    ghost view = { λ n. n.opened.now };
+
+    // the table has the board's first numbers
+    ghost invariant = { λ n. Opens n.opened.now × FirstsOf (board_of n.opened.now) n.firsts };
+}
+
+impl<'a> Numbered<'a> {
+    pub fn new(opened: &'a Record<'a>) -> Numbered<'a>
+        ensures { result ≡ opened.now }
+    {
+        let mut firsts = [0u32; FIRSTS];
+        put_firsts(opened, &mut firsts);
+        Numbered { opened, firsts }
+    }
+
+    pub fn record(&self) -> &'a Record<'a>
+        ensures { result.now ≡ self.now }
+    {
+        self.opened
+    }
+
+    // The number of the first selector.
+    pub fn selectors(&self) -> u32
+        ensures { result ≡ first (board_of self.now) (length (board_of self.now).bounds) }
+    {
+        self.firsts[self.opened.ints()]
+    }
+
+    // The comparison whose term count stands at a place of the rules, with the board's own numbers.
+    pub fn ready(&self, place: usize, constant: i32) -> Comparison
+        requires { Stands (length (board_of self.now).bounds) (tail_of self.now) place constant }
+        ensures { ReadyFor (board_of self.now) (comparison_at (tail_of self.now) place constant) result }
+    {
+        ready(self.opened, &self.firsts, place, constant)
+    }
+}
