@@ -2,7 +2,7 @@
 use Rattle.std.proofs.Common.{◌+◌, ◌≤◌, ◌∷◌, [], ◌++◌, length, arith, rules, length-append, to_z-of_z}
 use Rattle.laws.specs.Written.{rest-length}
 use Rattle.laws.specs.Filling.{room_before, room, last}
-use Rattle.writing.specs.Numbers.{clause, stays, clause-length}
+use Rattle.writing.specs.Numbers.{stays, clause-length}
 use Rattle.writing.proofs.Parts.{staying}
 use Rattle.writing.proofs.rows.put_clause.Goals as goal
 

@@ -1,6 +1,6 @@
 -- The clause's end goes behind the literals that stay.
 use Rattle.std.proofs.Common.{refl, arith, pos, []}
-use Rattle.laws.specs.Filling.{room_before, room, one, ended}
+use Rattle.laws.specs.Filling.{room, one, ended}
 use Rattle.writing.specs.Numbers.{stays, clause-length}
 use Rattle.writing.proofs.Parts.{alone}
 use Rattle.writing.proofs.rows.put_short.Goals as goal
