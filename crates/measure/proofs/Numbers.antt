@@ -19,7 +19,7 @@ use Rattle.opening.specs.Headers.{Opened, tail_is}
 use Rattle.rules.specs.Known.{Known}
 use Rattle.measure.specs.declared.Share.{Share}
 use Rattle.measure.specs.declared.Kinds.{Kinds}
-use Rattle.measure.specs.declared.Totals.{Totals}
+use Rattle.definitions.specs.declared.Sizes.{Sizes}
 use Rattle.measure.specs.Said.{kinds_of, totals_of}
 use Rattle.measure.specs.Shares.{Adding}
 
@@ -90,5 +90,5 @@ module _ (B : Board) (g : Recorded B) (k : Kinds) (e : k ≡ kinds_of B) where
   pub k_fits : k.axioms.places + k.rules.places < 2 ^ 63
   k_fits = omega (arith, k_is, K_fits B g)
 
-  pub totals_are : ◌≡◌ {A = Totals} (record { n = k.booleans + k.orders + k.selectors; m = k.axioms.clauses + k.rules.clauses; k = k.axioms.places + k.rules.places }) (totals_of B)
+  pub totals_are : ◌≡◌ {A = Sizes} (record { n = k.booleans + k.orders + k.selectors; m = k.axioms.clauses + k.rules.clauses; k = k.axioms.places + k.rules.places }) (totals_of B)
   totals_are = rw (n_is, m_is, k_is)

@@ -1,14 +1,15 @@
 -- The answers as the definitions have them.
+use Rattle.std.specs.Prelude as code
 use Rattle.std.specs.Prelude.{map, length}
 use Rattle.definitions.specs.Tools.{sum}
 use Rattle.definitions.specs.Board.{Board}
 use Rattle.definitions.specs.Encoding.{width, selected, axioms, rules, places, N, M, K}
-use Rattle.definitions.specs.Result.{Result, done}
-use Rattle.definitions.specs.Answers.{refusal}
-use Rattle.opening.specs.declared.Header.{Header}
+use Rattle.definitions.specs.Result.{Result}
+use Rattle.definitions.specs.declared.Refusal.{Refusal}
+use Rattle.definitions.specs.declared.Sizes.{Sizes}
+use Rattle.definitions.specs.Answers.{answered}
 use Rattle.opening.specs.Said.{header_of}
 use Rattle.measure.specs.declared.Kinds.{Kinds}
-use Rattle.measure.specs.declared.Totals.{Totals}
 use Rattle.measure.specs.declared.Measured.{Measured}
 
 -- the summands of N, M and K
@@ -21,12 +22,11 @@ kinds_of B = record {
   rules = record { clauses = sum (map length (rules B)); places = sum (map places (rules B)) };
 }
 
-abbrev pub totals_of : Board → Totals
+abbrev pub totals_of : Board → Sizes
 totals_of B = record { n = N B; m = M B; k = K B }
 
-abbrev pub measured_of : Board → Header × Totals
-measured_of B = (header_of B, totals_of B)
+abbrev pub measured_of : Board → Measured
+measured_of B = record { header = header_of B; sizes = totals_of B }
 
-abbrev pub said_measured : Measured → Result (Header × Totals)
-said_measured (Measured.Accepted header totals) = done (header, totals)
-said_measured (Measured.Refused r) = refusal r
+abbrev pub said_measured : code.Result Measured Refusal → Result Measured
+said_measured r = answered (λ measured. measured) r

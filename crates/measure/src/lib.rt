@@ -4,8 +4,8 @@
 ghost use Rattle.measure.specs.Outcome.{Allowed};
 
 use crate::sums::totals_of;
-use definitions::Refusal;
-use opening::{Header, Opening, open};
+use definitions::{Refusal, Sizes};
+use opening::{Header, open};
 
 pub mod count; // count.rt: how many tuples a comparison has, by formula
 pub mod pieces; // pieces.rt: what a piece of the rules adds
@@ -36,36 +36,24 @@ pub struct Kinds {
     pub rules: Part,
 }
 
-// SAT variables, clauses, list length.
+// An accepted record's header and sizes.
 #[derive(Clone, Copy)]
-pub struct Totals {
-    pub n: usize,
-    pub m: usize,
-    pub k: usize,
-}
-
-#[derive(Clone, Copy)]
-pub enum Measured {
-    Accepted(Header, Totals),
-    Refused(Refusal),
+pub struct Measured {
+    pub header: Header,
+    pub sizes: Sizes,
 }
 
 // The longest list that is not refused.
 const LONGEST: usize = 2000000000;
 
 // A refusal of the record, or its header and sizes.
-pub fn measure(bytes: &[u8]) -> Measured
+pub fn measure(bytes: &[u8]) -> Result<Measured, Refusal>
     ensures { Allowed bytes.now result }
 {
-    match open(bytes) {
-        Opening::Opened(header) => {
-            let totals = totals_of(bytes, header);
-            if totals.k <= LONGEST {
-                Measured::Accepted(header, totals)
-            } else {
-                Measured::Refused(Refusal::ListTooLong)
-            }
-        }
-        Opening::Refused(r) => Measured::Refused(r),
+    let header = open(bytes)?;
+    let sizes = totals_of(bytes, header);
+    if LONGEST < sizes.k {
+        return Err(Refusal::ListTooLong);
     }
+    Ok(Measured { header, sizes })
 }

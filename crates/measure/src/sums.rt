@@ -9,9 +9,10 @@ ghost use Rattle.measure.specs.Shares.{Fit, Adding, plus};
 ghost use Rattle.measure.specs.Said.{kinds_of, totals_of};
 
 use crate::pieces::share_of;
-use crate::{Kinds, Part, Share, Totals};
+use crate::{Kinds, Part, Share};
+use definitions::Sizes;
 use opening::Header;
-use rules::{Ahead, next_piece, start};
+use rules::{next_piece, start};
 use slots::variables::first_number;
 
 impl Share {
@@ -39,13 +40,11 @@ fn rules_share(bytes: &[u8], clauses: usize, rules: &[u8]) -> Share
         selectors: 0,
     };
     let mut cursor = start(clauses);
-    loop {
-        let Ahead::Met(piece, next) = next_piece(rules, cursor) else {
-            return total;
-        };
+    while let Some((piece, next)) = next_piece(rules, cursor) {
         total = total.and(share_of(bytes, rules, piece));
         cursor = next;
     }
+    total
 }
 
 // They stand in the record's tail.
@@ -80,14 +79,14 @@ pub fn kinds_of(bytes: &[u8], header: Header) -> Kinds
 }
 
 // N, M and K are sums of kinds.
-pub fn totals_of(bytes: &[u8], header: Header) -> Totals
+pub fn totals_of(bytes: &[u8], header: Header) -> Sizes
     requires { Opened bytes.now header }
     ensures { result ≡ totals_of (board_of bytes.now) }
 {
     let kinds = kinds_of(bytes, header);
     let axioms = kinds.axioms;
     let rules = kinds.rules;
-    Totals {
+    Sizes {
         n: kinds.booleans + kinds.orders + kinds.selectors,
         m: axioms.clauses + rules.clauses,
         k: axioms.places + rules.places,

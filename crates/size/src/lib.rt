@@ -3,19 +3,13 @@
 
 ghost use Rattle.size.specs.Outcome.{Allowed};
 
-use definitions::Sizing;
-use measure::{Measured, measure};
+use definitions::{Refusal, Sizes};
+use measure::measure;
 
 // The three numbers, or a refusal of the record.
-pub fn size(bytes: &[u8]) -> Sizing
+pub fn size(bytes: &[u8]) -> Result<Sizes, Refusal>
     ensures { Allowed bytes.now result }
 {
-    match measure(bytes) {
-        Measured::Accepted(_, totals) => Sizing::Sizes {
-            n: totals.n,
-            m: totals.m,
-            k: totals.k,
-        },
-        Measured::Refused(r) => Sizing::Unsized(r),
-    }
+    let measured = measure(bytes)?;
+    Ok(measured.sizes)
 }

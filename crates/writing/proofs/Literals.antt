@@ -8,7 +8,7 @@ use Rattle.laws.specs.Limits.{numbers_limit}
 use Rattle.laws.specs.Whole.{abs_neg}
 use Rattle.laws.specs.Again.{There, literal_read, literals_at, FirstLiteral, first_literal}
 use Rattle.reader.specs.declared.Literal.{Literal}
-use Rattle.reader.specs.declared.Reread.{Reread}
+use Rattle.definitions.specs.declared.Got.{Got}
 use Rattle.reader.specs.Literals.{Rereads, KnownLiteral, known_literal}
 use Rattle.writing.specs.Lines.{literal_here, takes, line_numbers, line-more, line_none, LineRead}
 
@@ -22,16 +22,16 @@ module _ {t : List ℕ} {n place : ℕ} (h : 0 < n) (l : LineRead t n place) whe
   pub there : There t place
   there = (literal_read t place l.ctx _ first.read).there
 
-  module _ {r : Reread} (a : Rereads t place r) where
+  module _ {r : Got Literal} (a : Rereads t place r) where
     pub rest_read : LineRead t (n - 1) r.next
     rest_read = rw a.next (record { ctx = l.ctx; bools = l.bools; literals = first.rest })
 
-    pub line_first : (number : ℕ) → line_numbers number (literals_at t n place).value ≡ literal_here number r.literal ∷ line_numbers (number + takes r.literal) (literals_at t (n - 1) r.next).value
-    line_first number = rw (first.joined, a.next, ← a.literal) (line-more t number r.literal _)
+    pub line_first : (number : ℕ) → line_numbers number (literals_at t n place).value ≡ literal_here number r.value ∷ line_numbers (number + takes r.value) (literals_at t (n - 1) r.next).value
+    line_first number = rw (first.joined, a.next, ← a.literal) (line-more t number r.value _)
 
     -- its number fits
-    pub small : (number : ℕ) → number < numbers_limit → nat_abs (literal_here number r.literal) < numbers_limit
-    small number k = go r.literal (known_literal l.ctx t place first.read a)
+    pub small : (number : ℕ) → number < numbers_limit → nat_abs (literal_here number r.value) < numbers_limit
+    small number k = go r.value (known_literal l.ctx t place first.read a)
       where
         go : (x : Literal) → KnownLiteral t l.ctx.ints l.ctx.bools x → nat_abs (literal_here number x) < numbers_limit
         go (Literal.Boolean b) g = omega (arith, g.1, l.bools)

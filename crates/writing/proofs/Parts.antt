@@ -1,4 +1,5 @@
 -- What is written before a writer lends the rest of its list. Assumes nothing.
+use Rattle.std.specs.Prelude.{Option, Some, None}
 use mathlib.Core.Path.{◌≡◌, refl, sym, ap, ap₂, ◌∙◌, subst}
 use mathlib.Core.List.{List, [], ◌∷◌, ◌++◌, map, flatten, map-append, append_assoc, append-nil}
 use Prim.Native.Nat.{ℕ, ◌+◌, ◌-◌, ◌≤◌, ◌<◌}
@@ -12,10 +13,7 @@ use Rattle.laws.specs.Lists.{flatten-append}
 use Rattle.laws.specs.Written.{written}
 use Rattle.walk.specs.declared.Comparison.{Comparison}
 use Rattle.walk.specs.declared.Walk.{Walk}
-use Rattle.walk.specs.declared.At.{At}
-use Rattle.walk.specs.declared.At.TheVariants.{Tuple, End}
 use Rattle.walk.specs.declared.Spot.{Spot}
-use Rattle.walk.specs.declared.Front.{Front}
 use Rattle.walk.specs.declared.Run.{Run}
 use Rattle.walk.specs.Rows.{front_of, raised, lowered, in_run, ReadyRun, run-first, run_none, row_next}
 use Rattle.walk.specs.Comparisons.{to_come, none_left}
@@ -55,10 +53,10 @@ module _ (fixed : List ℤ) (o out : List ℤ) (at : ℕ) (en : at ≡ length fi
   unfolding clause
   alone fit = begun fixed (pos 0 ∷ []) o out at fit en ey
 
-led_next : (lead front : Front) (ls : List ℤ) (cs : List (List ℤ)) → led lead ((front_of front ++ ls) ∷ cs) ≡ clause (stays lead front ++ ls) ++ led lead cs
+led_next : (lead front : Option ℤ) (ls : List ℤ) (cs : List (List ℤ)) → led lead ((front_of front ++ ls) ∷ cs) ≡ clause (stays lead front ++ ls) ++ led lead cs
 led_next lead front ls cs = led-more lead (front_of front ++ ls) cs ∙ ap (λ l. clause l ++ led lead cs) (sym (append_assoc (front_of lead) (front_of front) ls))
 
-module _ (lead : Front) (run : Run) where
+module _ (lead : Option ℤ) (run : Run) where
   pub run_end : run.count ≡ 0 → led lead (in_run run) ≡ []
   run_end h = ap (led lead) (run_none run h) ∙ led_none lead
 
@@ -69,7 +67,7 @@ module _ (lead : Front) (run : Run) where
 abbrev unit : ℤ → Spot
 unit l = record { d = 1; r = 0; literal = l }
 
-abbrev pub unit_run : Front → ℤ → ℤ → ℕ → Run
+abbrev pub unit_run : Option ℤ → ℤ → ℤ → ℕ → Run
 unit_run front y z n = record { front = front; y = unit y; z = unit z; count = n }
 
 pub unit_is : (run : Run) → ReadyRun run → run.y.d + run.z.d < 3 → run ≡ unit_run run.front run.y.literal run.z.literal run.count
@@ -78,30 +76,30 @@ unit_is run ready h = ap₂ (λ y z. record { front = run.front; y = y; z = z; c
     one-step : (p : Spot) → p.d ≡ 1 → p.r ≡ 0 → p ≡ unit p.literal
     one-step p d r = ap₂ (λ a b. record { d = a; r = b; literal = p.literal }) d r
 
-pub units_more : (lead front : Front) (y z : ℤ) (n : ℕ) → 0 < n
+pub units_more : (lead front : Option ℤ) (y z : ℤ) (n : ℕ) → 0 < n
     → led lead (in_run (unit_run front y z n)) ≡ clause (stays lead front ++ (y ∷ z ∷ [])) ++ led lead (in_run (unit_run front (y +ℤ pos 1) (z -ℤ pos 1) (n - 1)))
 unfolding in_run raised lowered
 units_more lead front y z n h = ap (led lead) (row_next (front_of front) (unit y) (unit z) n h) ∙ led_next lead front (y ∷ z ∷ []) (in_run (unit_run front (y +ℤ pos 1) (z -ℤ pos 1) (n - 1)))
 
-pub units_ready : (front : Front) (y z : ℤ) (n : ℕ) → 0 < n → ReadyRun (unit_run front y z n) → ReadyRun (unit_run front (y +ℤ pos 1) (z -ℤ pos 1) (n - 1))
+pub units_ready : (front : Option ℤ) (y z : ℤ) (n : ℕ) → 0 < n → ReadyRun (unit_run front y z n) → ReadyRun (unit_run front (y +ℤ pos 1) (z -ℤ pos 1) (n - 1))
 unfolding raised lowered
 units_ready front y z n h ready = record { rising = raised_steady (unit y) n h ready.rising; falling = lowered_steady (unit z) n h ready.falling }
 
-pub led-append : (lead : Front) (cs ds : List (List ℤ)) → led lead (cs ++ ds) ≡ led lead cs ++ led lead ds
+pub led-append : (lead : Option ℤ) (cs ds : List (List ℤ)) → led lead (cs ++ ds) ≡ led lead cs ++ led lead ds
 unfolding flat
 led-append lead cs ds =
     ap (λ l. flatten (map clause l)) (map-append (λ ls. front_of lead ++ ls) cs ds)
     ∙ ap flatten (map-append clause (map (λ ls. front_of lead ++ ls) cs) (map (λ ls. front_of lead ++ ls) ds))
     ∙ flatten-append (map clause (map (λ ls. front_of lead ++ ls) cs)) (map clause (map (λ ls. front_of lead ++ ls) ds))
 
-pub led-single : (lead : Front) (ls : List ℤ) → led lead (ls ∷ []) ≡ clause (front_of lead ++ ls)
+pub led-single : (lead : Option ℤ) (ls : List ℤ) → led lead (ls ∷ []) ≡ clause (front_of lead ++ ls)
 led-single lead ls = led-more lead ls [] ∙ ap (λ l. clause (front_of lead ++ ls) ++ l) (led_none lead) ∙ append-nil (clause (front_of lead ++ ls))
 
 -- ---- the clauses of the tuples to come
-module _ (c : Comparison) (lead : Front) (cur : At) where
-  pub led-end : cur ≡ End → led lead (to_come c cur) ≡ []
+module _ (c : Comparison) (lead : Option ℤ) (cur : Option Walk) where
+  pub led-end : cur ≡ None → led lead (to_come c cur) ≡ []
   led-end q = ap (led lead) (ap (to_come c) q ∙ none_left c) ∙ led_none lead
 
   -- a row, and then the rest
-  pub led_on : (w : Walk) → cur ≡ Tuple w → (row rest : List (List ℤ)) → to_come c (Tuple w) ≡ row ++ rest → led lead (to_come c cur) ≡ led lead row ++ led lead rest
+  pub led_on : (w : Walk) → cur ≡ Some w → (row rest : List (List ℤ)) → to_come c (Some w) ≡ row ++ rest → led lead (to_come c cur) ≡ led lead row ++ led lead rest
   led_on w q row rest e = ap (led lead) (ap (to_come c) q ∙ e) ∙ led-append lead row rest

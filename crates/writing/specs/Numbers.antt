@@ -1,5 +1,5 @@
 -- The numbers of clauses, as the writers have them and as the definitions do. Assumes nothing.
-use Rattle.std.specs.Prelude.{◌≡◌, refl, Bool, true, false, ◌+◌, length, ℤ, pos, ◌≤ℤ◌, ◌<ℤ◌, if◌then◌else◌}
+use Rattle.std.specs.Prelude.{◌≡◌, refl, Bool, true, false, ◌+◌, length, ℤ, pos, ◌≤ℤ◌, ◌<ℤ◌, if◌then◌else◌, Option}
 use Rattle.std.proofs.Common.{sym, ap, ap₂, ◌∙◌, length-append}
 use mathlib.Core.List.{List, [], ◌∷◌, ◌++◌, map, flatten, zip_with, map-map, map-append, append-nil}
 use Rattle.std.specs.Int.Signed.{le_z}
@@ -9,7 +9,6 @@ use Rattle.definitions.specs.Encoding.{SatClause, least, tuples_of, sharp, claus
 use Rattle.laws.specs.Whole.{le_test, gt_test}
 use Rattle.laws.specs.Lists.{flatten-append, all_every, map_same}
 use Rattle.walk.specs.declared.Comparison.{Comparison}
-use Rattle.walk.specs.declared.Front.{Front}
 use Rattle.walk.specs.Rows.{front_of}
 use Rattle.walk.specs.Comparisons.{least_of, literals_of, Shows, shows_least, shows_literals}
 
@@ -25,15 +24,15 @@ unfoldable pub numbers_of : Board → List SatClause → List ℤ
 numbers_of B cs = flatten (map (λ c. map (literal_number B) c ++ (pos 0 ∷ [])) cs)
 
 -- the literals that stay along a row
-abbrev pub stays : Front → Front → List ℤ
+abbrev pub stays : Option ℤ → Option ℤ → List ℤ
 stays lead front = front_of lead ++ front_of front
 
 -- the clauses of literals ls under a lead
-abbrev pub led : Front → List (List ℤ) → List ℤ
+abbrev pub led : Option ℤ → List (List ℤ) → List ℤ
 led lead cs = flat (map (λ ls. front_of lead ++ ls) cs)
 
 -- a comparison's clauses under a lead: one without further literals where the constant is below the least sum
-unfoldable pub under_lead : Front → Comparison → List ℤ
+unfoldable pub under_lead : Option ℤ → Comparison → List ℤ
 under_lead lead c = led lead (if le_z (least_of c) c.constant then literals_of c else [] ∷ [])
 
 pub clause-length : (ls : List ℤ) → length (clause ls) ≡ length ls + 1
@@ -41,19 +40,19 @@ unfolding clause
 clause-length ls = length-append ls (pos 0 ∷ [])
 
 -- where the constant is below the least sum, and where it is not
-pub under_low : (lead : Front) (c : Comparison) → c.constant <ℤ least_of c → under_lead lead c ≡ led lead ([] ∷ [])
+pub under_low : (lead : Option ℤ) (c : Comparison) → c.constant <ℤ least_of c → under_lead lead c ≡ led lead ([] ∷ [])
 unfolding under_lead
 under_low lead c h = ap (λ b. led lead (if b then literals_of c else [] ∷ [])) (gt_test _ _ h)
 
-pub under-high : (lead : Front) (c : Comparison) → least_of c ≤ℤ c.constant → under_lead lead c ≡ led lead (literals_of c)
+pub under-high : (lead : Option ℤ) (c : Comparison) → least_of c ≤ℤ c.constant → under_lead lead c ≡ led lead (literals_of c)
 unfolding under_lead
 under-high lead c h = ap (λ b. led lead (if b then literals_of c else [] ∷ [])) (le_test _ _ h)
 
-pub led_none : (lead : Front) → led lead [] ≡ []
+pub led_none : (lead : Option ℤ) → led lead [] ≡ []
 unfolding flat flatten
 led_none lead = refl
 
-pub led-more : (lead : Front) (ls : List ℤ) (cs : List (List ℤ)) → led lead (ls ∷ cs) ≡ clause (front_of lead ++ ls) ++ led lead cs
+pub led-more : (lead : Option ℤ) (ls : List ℤ) (cs : List (List ℤ)) → led lead (ls ∷ cs) ≡ clause (front_of lead ++ ls) ++ led lead cs
 unfolding flat flatten
 led-more lead ls cs = refl
 
@@ -66,7 +65,7 @@ unfolding numbers_of flat clause
 numbers-flat B cs = ap flatten (sym (map-map (λ ls. ls ++ (pos 0 ∷ [])) (map (literal_number B)) cs))
 
 -- they are those of a board's comparison
-pub under_is : (B : Board) (q : board.Comparison) (c : Comparison) (lead : Front) (ls : SatClause) → Shows B q c → map (literal_number B) ls ≡ front_of lead
+pub under_is : (B : Board) (q : board.Comparison) (c : Comparison) (lead : Option ℤ) (ls : SatClause) → Shows B q c → map (literal_number B) ls ≡ front_of lead
     → under_lead lead c ≡ numbers_of B (clauses_under ls (bounds_of B) q)
 unfolding under_lead clauses_under
 under_is B q c lead ls h e =

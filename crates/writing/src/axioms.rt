@@ -9,16 +9,12 @@ fn put_steps(first: u32, steps: u32, list: &mut [i32]) -> usize
     requires { (first + steps < numbers_limit) × (length (steps_from first steps) ≤ length list.old) }
     ensures { (result ≡ length (steps_from first steps)) × (list.new ≡ written (steps_from first steps) list.old) }
 {
-    let mut number = first;
-    let mut left = steps;
     let mut at: usize = 0;
-    while 0 < left {
+    for number in first..first + steps {
         list[at] = -(number as i32);
         list[at + 1] = (number + 1) as i32;
         list[at + 2] = 0;
         at += 3;
-        number += 1;
-        left -= 1;
     }
     at
 }

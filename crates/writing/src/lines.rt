@@ -16,10 +16,7 @@ fn number_of(literal: Literal, selector: u32) -> i32
     match literal {
         Literal::Boolean(b) => b as i32,
         Literal::Negated(b) => -(b as i32),
-        Literal::Comparison {
-            place: _,
-            constant: _,
-        } => selector as i32,
+        Literal::Comparison { .. } => selector as i32,
     }
 }
 
@@ -29,10 +26,7 @@ fn selectors_of(literal: Literal) -> u32
     match literal {
         Literal::Boolean(_) => 0,
         Literal::Negated(_) => 0,
-        Literal::Comparison {
-            place: _,
-            constant: _,
-        } => 1,
+        Literal::Comparison { .. } => 1,
     }
 }
 
@@ -42,18 +36,14 @@ pub fn put_line(rules: &[u8], place: usize, n: usize, selector: u32, list: &mut 
     ensures { (result ≡ length (line_numbers selector (literals_at rules.now n place).value)) × (list.new ≡ written (line_numbers selector (literals_at rules.now n place).value) list.old) }
 {
     let mut next_place = place;
-    let mut left = n;
     let mut number = selector;
-    let mut at: usize = 0;
-    while 0 < left {
+    for at in 0..n {
         let read = literal_again(rules, next_place);
-        let literal = read.literal;
+        let literal = read.value;
         list[at] = number_of(literal, number);
         number += selectors_of(literal);
         next_place = read.next;
-        left -= 1;
-        at += 1;
     }
-    list[at] = 0;
-    at + 1
+    list[n] = 0;
+    n + 1
 }

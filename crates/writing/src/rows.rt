@@ -5,13 +5,13 @@ ghost use Rattle.walk.specs.Rows.{front_of, in_run, ReadyRun, in_row, Ready};
 ghost use Rattle.writing.specs.Numbers.{clause, led, stays};
 
 use walk::rows::onward;
-use walk::{Front, Row, Run};
+use walk::{Row, Run};
 
-fn put_front(front: Front, list: &mut [i32]) -> usize
+fn put_front(front: Option<i32>, list: &mut [i32]) -> usize
     requires { length (front_of front) ≤ length list.old }
     ensures { (result ≡ length (front_of front)) × (list.new ≡ written (front_of front) list.old) }
 {
-    let Front::Literal(literal) = front else {
+    let Some(literal) = front else {
         return 0;
     };
     list[0] = literal;
@@ -29,7 +29,7 @@ fn put_pair(y: i32, z: i32, list: &mut [i32]) -> usize
     3
 }
 
-fn put_fixed(lead: Front, front: Front, list: &mut [i32]) -> usize
+fn put_fixed(lead: Option<i32>, front: Option<i32>, list: &mut [i32]) -> usize
     requires { length (stays lead front) ≤ length list.old }
     ensures { (result ≡ length (stays lead front)) × (list.new ≡ written (stays lead front) list.old) }
 {
@@ -37,7 +37,7 @@ fn put_fixed(lead: Front, front: Front, list: &mut [i32]) -> usize
     at + put_front(front, &mut list[at..])
 }
 
-fn put_clause(lead: Front, front: Front, y: i32, z: i32, list: &mut [i32]) -> usize
+fn put_clause(lead: Option<i32>, front: Option<i32>, y: i32, z: i32, list: &mut [i32]) -> usize
     requires { length (clause (stays lead front ++ (y ∷ z ∷ []))) ≤ length list.old }
     ensures { (result ≡ length (clause (stays lead front ++ (y ∷ z ∷ [])))) × (list.new ≡ written (clause (stays lead front ++ (y ∷ z ∷ []))) list.old) }
 {
@@ -46,7 +46,7 @@ fn put_clause(lead: Front, front: Front, y: i32, z: i32, list: &mut [i32]) -> us
 }
 
 // One clause, of fewer than two terms.
-fn put_short(lead: Front, front: Front, list: &mut [i32]) -> usize
+fn put_short(lead: Option<i32>, front: Option<i32>, list: &mut [i32]) -> usize
     requires { length (clause (stays lead front)) ≤ length list.old }
     ensures { (result ≡ length (clause (stays lead front))) × (list.new ≡ written (clause (stays lead front)) list.old) }
 {
@@ -55,7 +55,7 @@ fn put_short(lead: Front, front: Front, list: &mut [i32]) -> usize
     at + 1
 }
 
-fn put_stepped(lead: Front, run: Run, list: &mut [i32]) -> usize
+fn put_stepped(lead: Option<i32>, run: Run, list: &mut [i32]) -> usize
     requires { ReadyRun run × (length (led lead (in_run run)) ≤ length list.old) }
     ensures { (result ≡ length (led lead (in_run run))) × (list.new ≡ written (led lead (in_run run)) list.old) }
 {
@@ -72,7 +72,7 @@ fn put_stepped(lead: Front, run: Run, list: &mut [i32]) -> usize
 }
 
 // Where both coefficients are 1 or -1, one literal rises with each clause, the other falls.
-fn put_units(lead: Front, run: Run, list: &mut [i32]) -> usize
+fn put_units(lead: Option<i32>, run: Run, list: &mut [i32]) -> usize
     requires { ReadyRun run × (run.y.d + run.z.d < 3) × (length (led lead (in_run run)) ≤ length list.old) }
     ensures { (result ≡ length (led lead (in_run run))) × (list.new ≡ written (led lead (in_run run)) list.old) }
 {
@@ -80,20 +80,18 @@ fn put_units(lead: Front, run: Run, list: &mut [i32]) -> usize
     let y = run.y;
     let z = run.z;
     let mut at: usize = 0;
-    let mut left = run.count;
     let mut p = y.literal;
     let mut q = z.literal;
-    while 0 < left {
+    for _ in 0..run.count {
         at += put_clause(lead, front, p, q, &mut list[at..]);
         p += 1;
         q -= 1;
-        left -= 1;
     }
     at
 }
 
 // The row's clauses, each under the lead.
-pub fn put_row(lead: Front, row: Row, list: &mut [i32]) -> usize
+pub fn put_row(lead: Option<i32>, row: Row, list: &mut [i32]) -> usize
     requires { Ready row × (length (led lead (in_row row)) ≤ length list.old) }
     ensures { (result ≡ length (led lead (in_row row))) × (list.new ≡ written (led lead (in_row row)) list.old) }
 {
