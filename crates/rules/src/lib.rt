@@ -10,6 +10,8 @@ use fields::unchecked;
 use reader::Literal;
 use reader::rereading::literal_again;
 
+pub mod pass; // pass.rt: a pass as an iterator over pieces
+
 // The kind of a comparison.
 const COMPARISON: u32 = 2;
 
