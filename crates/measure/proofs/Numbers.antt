@@ -1,5 +1,5 @@
 -- From the shares of the rules and the widths of the variables to the sizes by kind, and to N, M and K. Assumes nothing.
-use mathlib.Core.Path.{◌≡◌, refl, sym, ap, ◌∙◌}
+use mathlib.Core.Path.{◌≡◌, refl, ap, ◌∙◌}
 use mathlib.Core.List.{List, [], ◌∷◌, map}
 use Prim.Native.Nat.{ℕ, suc, ◌+◌, ◌*◌, ◌-◌, ◌<◌, ◌^◌}
 use native.Mathlib.Omega.{arith}
@@ -10,22 +10,13 @@ use Rattle.definitions.specs.Board.{Board, Bounds, bounds_of}
 use Rattle.definitions.specs.Encoding.{width, first, selected, axioms, rules, places, N, M, K}
 use Rattle.laws.specs.Reread.{Recorded}
 use Rattle.laws.specs.Pieces.{pieces_from}
-use Rattle.laws.specs.Written.{rest}
 use Rattle.laws.specs.Sizes.{selectors-sum, axioms-clauses, axioms-length, rules-clauses, rules-length, K-sum}
 use Rattle.laws.specs.Fits.{N_fits, M_fits, K_fits}
-use Rattle.opening.specs.declared.Header.{Header}
-use Rattle.opening.specs.Said.{header_of}
-use Rattle.opening.specs.Headers.{Opened, tail_is}
-use Rattle.rules.specs.Known.{Known}
 use Rattle.measure.specs.declared.Share.{Share}
 use Rattle.measure.specs.declared.Kinds.{Kinds}
 use Rattle.definitions.specs.declared.Sizes.{Sizes}
 use Rattle.measure.specs.Said.{kinds_of, totals_of}
 use Rattle.measure.specs.Shares.{Adding}
-
--- what a pass over the rules is given
-pub known : {s : List ℕ} {h : Header} → Opened s h → Known s (rest s h.rules)
-known o = record { opens = o.opens; tail = tail_is o }
 
 -- ---- the sums over the variables
 counts_sum : (bs : List Bounds) → sum (map (λ b. width b + 1) bs) ≡ sum (map width bs) + length bs
@@ -36,36 +27,36 @@ places-sum : (bs : List Bounds) → sum (map (λ b. 3 * width b + 1) bs) ≡ 3 *
 places-sum [] = refl
 places-sum (b ∷ bs) = omega (arith, places-sum bs)
 
-module _ (B : Board) (g : Recorded B) (h : Header) (e : h ≡ header_of B) (r : Share) (a : Adding (bounds_of B) (pieces_from 0 B.clauses) [] r) (f : ℕ) (k : f ≡ first B h.ints) where
+module _ (B : Board) (g : Recorded B) (r : Share) (a : Adding (bounds_of B) (pieces_from 0 B.clauses) [] r) (f : ℕ) (k : f ≡ first B (length B.bounds)) where
   abbrev widths : ℕ
   widths = sum (map width B.bounds)
 
-  pub first_is : f ≡ suc h.bools + widths
+  pub first_is : f ≡ suc B.bools + widths
   unfolding first
-  first_is = k ∙ ap (λ z. first B z.ints) e ∙ ap (λ bs. suc B.bools + sum (map width bs)) (take_all (length B.bounds) B.bounds (omega arith)) ∙ ap (λ z. suc z.bools + widths) (sym e)
+  first_is = k ∙ ap (λ bs. suc B.bools + sum (map width bs)) (take_all (length B.bounds) B.bounds (omega arith))
 
-  pub axioms_fit : 3 * (f - 1 - h.bools) + h.ints < 2 ^ 63
-  axioms_fit = omega (arith, first_is, ap (λ z. z.ints) e, places-sum B.bounds, K-sum B g.admitted.bounds, K_fits B g)
+  pub axioms_fit : 3 * (f - 1 - B.bools) + length B.bounds < 2 ^ 63
+  axioms_fit = omega (arith, first_is, places-sum B.bounds, K-sum B g.admitted.bounds, K_fits B g)
 
-  axioms_clauses_are : f - 1 - h.bools + h.ints ≡ sum (map length (axioms B))
-  axioms_clauses_are = omega (arith, first_is, ap (λ z. z.ints) e, counts_sum B.bounds, axioms-clauses B g.admitted.bounds)
+  axioms_clauses_are : f - 1 - B.bools + length B.bounds ≡ sum (map length (axioms B))
+  axioms_clauses_are = omega (arith, first_is, counts_sum B.bounds, axioms-clauses B g.admitted.bounds)
 
-  axioms_places_are : 3 * (f - 1 - h.bools) + h.ints ≡ sum (map places (axioms B))
-  axioms_places_are = omega (arith, first_is, ap (λ z. z.ints) e, places-sum B.bounds, axioms-length B g.admitted.bounds)
+  axioms_places_are : 3 * (f - 1 - B.bools) + length B.bounds ≡ sum (map places (axioms B))
+  axioms_places_are = omega (arith, first_is, places-sum B.bounds, axioms-length B g.admitted.bounds)
 
   pub kinds_are : ◌≡◌ {A = Kinds} (record {
-    booleans = h.bools;
-    orders = f - 1 - h.bools;
+    booleans = B.bools;
+    orders = f - 1 - B.bools;
     selectors = r.selectors;
-    axioms = record { clauses = f - 1 - h.bools + h.ints; places = 3 * (f - 1 - h.bools) + h.ints };
+    axioms = record { clauses = f - 1 - B.bools + length B.bounds; places = 3 * (f - 1 - B.bools) + length B.bounds };
     rules = record { clauses = r.clauses; places = r.places };
   }) (kinds_of B)
   kinds_are =
-      let orders : f - 1 - h.bools ≡ widths = omega (arith, first_is) in
+      let orders : f - 1 - B.bools ≡ widths = omega (arith, first_is) in
       let selectors : r.selectors ≡ sum (map (λ C. length (selected C)) B.clauses) = omega (arith, a.selectors, selectors-sum B) in
       let rule-clauses : r.clauses ≡ sum (map length (rules B)) = omega (arith, a.clauses, rules-clauses B) in
       let rule-places : r.places ≡ sum (map places (rules B)) = omega (arith, a.places, rules-length B) in
-      rw (axioms_clauses_are, axioms_places_are, orders, selectors, rule-clauses, rule-places, ap (λ z. z.bools) e)
+      rw (axioms_clauses_are, axioms_places_are, orders, selectors, rule-clauses, rule-places)
 
 -- ---- N, M and K
 module _ (B : Board) (g : Recorded B) (k : Kinds) (e : k ≡ kinds_of B) where

@@ -1,11 +1,12 @@
-// What all operations begin with: the record's refusals, or its header and sizes. They are counted; no tuple is walked.
+// What all operations begin with: the record's refusals, or the record and its sizes. They are counted; no tuple is walked.
 #![tactic(auto)]
 
 ghost use Rattle.measure.specs.Outcome.{Allowed};
 
 use crate::sums::totals_of;
 use definitions::{Refusal, Sizes};
-use opening::{Header, open};
+use opening::open;
+use opening::record::Record;
 
 pub mod count; // count.rt: how many tuples a comparison has, by formula
 pub mod pieces; // pieces.rt: what a piece of the rules adds
@@ -36,24 +37,24 @@ pub struct Kinds {
     pub rules: Part,
 }
 
-// An accepted record's header and sizes.
-#[derive(Clone, Copy)]
-pub struct Measured {
-    pub header: Header,
+// An accepted record, and its sizes.
+#[derive(Drop)]
+pub struct Measured<'a> {
+    pub opened: Record<'a>,
     pub sizes: Sizes,
 }
 
 // The longest list that is not refused.
 const LONGEST: usize = 2000000000;
 
-// A refusal of the record, or its header and sizes.
-pub fn measure(bytes: &[u8]) -> Result<Measured, Refusal>
+// A refusal of the record, or the record and its sizes.
+pub fn measure<'a>(bytes: &'a [u8]) -> Result<Measured<'a>, Refusal>
     ensures { Allowed bytes.now result }
 {
-    let header = open(bytes)?;
-    let sizes = totals_of(bytes, header);
+    let opened = open(bytes)?;
+    let sizes = totals_of(&opened);
     if LONGEST < sizes.k {
         return Err(Refusal::ListTooLong);
     }
-    Ok(Measured { header, sizes })
+    Ok(Measured { opened, sizes })
 }

@@ -1,26 +1,28 @@
 // What a piece of the rules adds to the sizes.
 ghost use Rattle.std.specs.Prelude.{◌≤◌, ◌<◌, ◌^◌, length};
 ghost use Rattle.definitions.specs.Board.{bounds_of};
-ghost use Rattle.laws.specs.Boards.{Opens, board_of};
+ghost use Rattle.laws.specs.Boards.{board_of};
 ghost use Rattle.laws.specs.Reread.{comparison_at, context_of, Stands};
 ghost use Rattle.laws.specs.Sizes.{piece_places};
+ghost use Rattle.opening.specs.Headers.{tail_of};
 ghost use Rattle.rules.specs.Cursors.{Held, said_piece};
 ghost use Rattle.measure.specs.Shares.{ShareOf, ShareUnder};
 
 use crate::Share;
 use crate::count::tuples_over;
+use opening::record::Record;
 use rules::Piece;
 use slots::comparisons::ready;
 use walk::tuples::over_least;
 
 // A comparison's clauses, each led by as many literals as is said.
-fn comparison_share(bytes: &[u8], rules: &[u8], lead: u64, place: usize, constant: i32) -> Share
-    requires { Opens bytes.now × Stands (length (board_of bytes.now).bounds) rules.now place constant × (lead ≤ 1) }
-    ensures { ShareUnder (bounds_of (board_of bytes.now)) lead (comparison_at rules.now place constant) result }
+fn comparison_share(opened: &Record, lead: u64, place: usize, constant: i32) -> Share
+    requires { Stands (length (board_of opened.now).bounds) (tail_of opened.now) place constant × (lead ≤ 1) }
+    ensures { ShareUnder (bounds_of (board_of opened.now)) lead (comparison_at (tail_of opened.now) place constant) result }
 {
     // counting needs no first numbers
     let unnumbered = [0u32; 0];
-    let c = ready(bytes, &unnumbered, rules, place, constant);
+    let c = ready(opened, &unnumbered, place, constant);
     let t = over_least(c);
     if t < 1 {
         return Share {
@@ -38,25 +40,21 @@ fn comparison_share(bytes: &[u8], rules: &[u8], lead: u64, place: usize, constan
 }
 
 // A line is one clause; a comparison's clauses are counted, never walked.
-pub fn share_of(bytes: &[u8], rules: &[u8], piece: Piece) -> Share
-    requires { Opens bytes.now × Held (context_of (board_of bytes.now)) rules.now piece × (piece_places (bounds_of (board_of bytes.now)) (said_piece rules.now piece) < 2 ^ 63) }
-    ensures { ShareOf (bounds_of (board_of bytes.now)) (said_piece rules.now piece) result }
+pub fn share_of(opened: &Record, piece: Piece) -> Share
+    requires { Held (context_of (board_of opened.now)) (tail_of opened.now) piece × (piece_places (bounds_of (board_of opened.now)) (said_piece (tail_of opened.now) piece) < 2 ^ 63) }
+    ensures { ShareOf (bounds_of (board_of opened.now)) (said_piece (tail_of opened.now) piece) result }
 {
     match piece {
-        Piece::Line {
-            place: _,
-            literals,
-            selector: _,
-        } => Share {
+        Piece::Line { literals, .. } => Share {
             clauses: 1,
             places: literals as u64 + 1,
             selectors: 0,
         },
-        Piece::Lone { place, constant } => comparison_share(bytes, rules, 0, place, constant),
+        Piece::Lone { place, constant } => comparison_share(opened, 0, place, constant),
         Piece::Led {
-            selector: _,
             place,
             constant,
-        } => comparison_share(bytes, rules, 1, place, constant),
+            ..
+        } => comparison_share(opened, 1, place, constant),
     }
 }

@@ -7,6 +7,7 @@ ghost use Rattle.opening.specs.Headers.{Opened, tail_of};
 use super::Header;
 use std::marker::Model;
 
+#[derive(Drop)]
 pub struct Record<'a> {
     bytes: &'a [u8],
     header: Header,

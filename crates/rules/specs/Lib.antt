@@ -1,3 +1,4 @@
 pub mod Cursors
 pub mod Known
+pub mod Nexts
 pub mod Passes

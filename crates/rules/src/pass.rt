@@ -4,7 +4,7 @@ ghost use Rattle.std.specs.Iterator.{at_most};
 ghost use Rattle.laws.specs.Boards.{Opens, board_of};
 ghost use Rattle.opening.specs.Headers.{tail_of};
 ghost use Rattle.rules.specs.Cursors.{Steady, todo, at_start};
-ghost use Rattle.rules.specs.Passes.{Next};
+ghost use Rattle.rules.specs.Nexts.{Next};
 
 use crate::{Cursor, Piece, next_piece, start};
 use opening::record::Record;

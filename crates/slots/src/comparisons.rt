@@ -93,7 +93,8 @@ fn readied(opened: &Record, firsts: &[u32], rules: &[u8], place: usize, constant
 // The comparison whose term count stands at a place of the rules; a table gives the first numbers, and those that it lacks are 0.
 pub fn ready(opened: &Record, firsts: &[u32], place: usize, constant: i32) -> Comparison
     requires { Small (board_of opened.now) firsts.now × Stands (length (board_of opened.now).bounds) (tail_of opened.now) place constant }
-    ensures { ReadyBy (board_of opened.now) (numbered firsts.now) (comparison_at (tail_of opened.now) place constant) result }
+    ensures ready { ReadyBy (board_of opened.now) (numbered firsts.now) (comparison_at (tail_of opened.now) place constant) result }
+    ensures opens { Opens opened.now }
 {
     readied(opened, firsts, opened.rules(), place, constant)
 }

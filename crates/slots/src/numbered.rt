@@ -14,6 +14,7 @@ use opening::record::Record;
 use std::marker::Model;
 use walk::Comparison;
 
+#[derive(Drop)]
 pub struct Numbered<'a> {
     opened: &'a Record<'a>,
     firsts: [u32; FIRSTS],
@@ -38,14 +39,16 @@ impl<'a> Numbered<'a> {
     }
 
     pub fn record(&self) -> &'a Record<'a>
-        ensures { result.now ≡ self.now }
+        ensures bytes { result.now ≡ self.now }
+        ensures opens { Opens self.now }
     {
         self.opened
     }
 
     // The number of the first selector.
     pub fn selectors(&self) -> u32
-        ensures { result ≡ first (board_of self.now) (length (board_of self.now).bounds) }
+        ensures number { result ≡ first (board_of self.now) (length (board_of self.now).bounds) }
+        ensures opens { Opens self.now }
     {
         self.firsts[self.opened.ints()]
     }
@@ -53,7 +56,8 @@ impl<'a> Numbered<'a> {
     // The comparison whose term count stands at a place of the rules, with the board's own numbers.
     pub fn ready(&self, place: usize, constant: i32) -> Comparison
         requires { Stands (length (board_of self.now).bounds) (tail_of self.now) place constant }
-        ensures { ReadyFor (board_of self.now) (comparison_at (tail_of self.now) place constant) result }
+        ensures ready { ReadyFor (board_of self.now) (comparison_at (tail_of self.now) place constant) result }
+        ensures opens { Opens self.now }
     {
         ready(self.opened, &self.firsts, place, constant)
     }

@@ -10,17 +10,17 @@ use Rattle.measure.proofs.pieces.share_of.Goals as goal
 
 pub overflow_add-result : goal.overflow_add-result
 overflow_add-result c =
-    line_fits _ _ _ _ _ (rw c.in-Line.is at c.requires.2)
+    line_fits _ _ _ _ _ (rw c.in-Line.is at c.requires.1)
 
 pub comparison_share-requires : goal.comparison_share-requires
 comparison_share-requires c =
-    let s = rw c.in-Lone.is at c.requires.1 in
-    (c.requires.0, rw (to_z-of_z (good-constant s.good)) s, omega arith)
+    let s = rw c.in-Lone.is at c.requires.0 in
+    (rw (to_z-of_z (good-constant s.good)) s, omega arith)
 
 pub comparison_share-requires-in-Led : goal.comparison_share-requires-in-Led
 comparison_share-requires-in-Led c =
-    let s = rw c.in-Led.is at c.requires.1 in
-    (c.requires.0, rw (to_z-of_z (good-constant s.good)) s, omega arith)
+    let s = rw c.in-Led.is at c.requires.0 in
+    (rw (to_z-of_z (good-constant s.good)) s, omega arith)
 
 pub returns-in-Line : goal.returns-in-Line
 returns-in-Line c =
@@ -28,10 +28,10 @@ returns-in-Line c =
 
 pub returns-in-Lone : goal.returns-in-Lone
 returns-in-Lone c =
-    let s = rw c.in-Lone.is at c.requires.1 in
+    let s = rw c.in-Lone.is at c.requires.0 in
     rw c.in-Lone.is (rw (to_z-of_z (good-constant s.good)) at c.comparison_share.ensures [] refl)
 
 pub returns-in-Led : goal.returns-in-Led
 returns-in-Led c =
-    let s = rw c.in-Led.is at c.requires.1 in
+    let s = rw c.in-Led.is at c.requires.0 in
     rw c.in-Led.is (rw (to_z-of_z (good-constant s.good)) at c.comparison_share-in-Led.ensures (minus (selector _) ∷ []) refl)

@@ -1,28 +1,28 @@
 -- `measure::sums::kinds_of` meets its contract.
-use native.Mathlib.Omega.{arith}
-use Rattle.opening.specs.Headers.{ints_is, bools_is, recorded}
+use Rattle.std.proofs.Common.{arith}
+use Rattle.laws.specs.Boards.{opens_recorded}
 use Rattle.measure.proofs.Numbers.{first_is, axioms_fit, kinds_are}
 use Rattle.measure.proofs.sums.kinds_of.Goals as goal
 
 pub first_number-requires : goal.first_number-requires
-first_number-requires c = let o = c.requires in (o.opens, bools_is o, omega (arith, ints_is o))
+first_number-requires c = omega arith
 
 pub overflow_sub-widths : goal.overflow_sub-widths
 overflow_sub-widths c =
-    omega (arith, first_is _ (recorded c.requires) _ c.requires.header _ c.tail_share-share.ensures _ c.first_number.ensures)
+    omega (arith, first_is _ (opens_recorded _ c.ints-ints.ensures.opens) _ c.rules_share-share.ensures _ (rw c.ints-ints.ensures.ints at c.first_number.ensures))
 
 pub overflow_sub-widths-2 : goal.overflow_sub-widths-2
 overflow_sub-widths-2 c =
-    omega (arith, first_is _ (recorded c.requires) _ c.requires.header _ c.tail_share-share.ensures _ c.first_number.ensures)
+    omega (arith, first_is _ (opens_recorded _ c.ints-ints.ensures.opens) _ c.rules_share-share.ensures _ (rw c.ints-ints.ensures.ints at c.first_number.ensures))
 
 pub overflow_add-result : goal.overflow_add-result
 overflow_add-result c =
-    omega (arith, axioms_fit _ (recorded c.requires) _ c.requires.header _ c.tail_share-share.ensures _ c.first_number.ensures)
+    rw (c.ints-ints.ensures.ints, c.bools-bools.ensures.bools) (omega (arith, axioms_fit _ (opens_recorded _ c.ints-ints.ensures.opens) _ c.rules_share-share.ensures _ (rw c.ints-ints.ensures.ints at c.first_number.ensures)))
 
 pub overflow_add-result-2 : goal.overflow_add-result-2
 overflow_add-result-2 c =
-    omega (arith, axioms_fit _ (recorded c.requires) _ c.requires.header _ c.tail_share-share.ensures _ c.first_number.ensures)
+    rw (c.ints-ints.ensures.ints, c.bools-bools.ensures.bools) (omega (arith, axioms_fit _ (opens_recorded _ c.ints-ints.ensures.opens) _ c.rules_share-share.ensures _ (rw c.ints-ints.ensures.ints at c.first_number.ensures)))
 
-pub returns : goal.returns
-returns c =
-    kinds_are _ (recorded c.requires) _ c.requires.header _ c.tail_share-share.ensures _ c.first_number.ensures
+pub returns-clause-kinds : goal.returns-clause-kinds
+returns-clause-kinds c =
+    rw (c.ints-ints.ensures.ints, c.bools-bools.ensures.bools) (kinds_are _ (opens_recorded _ c.ints-ints.ensures.opens) _ c.rules_share-share.ensures _ (rw c.ints-ints.ensures.ints at c.first_number.ensures))

@@ -6,7 +6,7 @@ pub readied-requires : goal.readied-requires
 readied-requires c =
     rw c.rules.ensures.rules (c.rules.ensures.opens, c.requires.0, rw (to_z-of_z c.ranges.constant) c.requires.1)
 
-pub returns : goal.returns
-returns c =
+pub returns-clause-ready : goal.returns-clause-ready
+returns-clause-ready c =
     let r = rw c.rules.ensures.rules at c.readied.ensures in
     rw (to_z-of_z c.ranges.constant) at r

@@ -8,7 +8,7 @@ ready-requires c =
     let r = to_ready _ c.self.invariant.0 _ c.self.invariant.1 h in
     (r.1, r.2)
 
-pub returns : goal.returns
-returns c =
+pub returns-clause-ready : goal.returns-clause-ready
+returns-clause-ready c =
     let h = rw (← c.self.view_is) at c.requires in
-    rw (← c.self.view_is) (is_ready _ c.self.invariant.0 _ c.self.invariant.1 h c.ready.ensures)
+    rw (← c.self.view_is) (is_ready _ c.self.invariant.0 _ c.self.invariant.1 h c.ready.ensures.ready)
