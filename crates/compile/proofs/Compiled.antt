@@ -13,7 +13,6 @@ use Rattle.laws.specs.Boards.{board_of}
 use Rattle.laws.specs.Sizes.{K_is}
 use Rattle.laws.specs.Written.{written}
 use Rattle.opening.specs.Said.{map_done}
-use Rattle.definitions.specs.Answers.{sizes_said}
 use Rattle.definitions.specs.declared.Sizes.{Sizes}
 use Rattle.measure.specs.declared.Measured.{Measured}
 use Rattle.measure.specs.Said.{measured_of}
