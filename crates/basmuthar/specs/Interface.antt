@@ -4,22 +4,48 @@ use Rattle.definitions.specs.Result.{Result, done, refused}
 use Rattle.definitions.specs.Operations.{Sizes}
 use Rattle.definitions.specs.Closing.{Earliest, found, none, unfinished}
 
--- Size, Compile and the reader of text: 0, N, M and K
-abbrev pub sizes_written : Result Sizes → List ℕ
-sizes_written (done z) = 0 ∷ z.n ∷ z.m ∷ z.k ∷ []
-sizes_written (refused number detail) = number ∷ detail ∷ 0 ∷ 0 ∷ []
+-- 0 and three numbers for what is answered, or a refusal's number and its detail
+abbrev pub written : {A : Type 0} → (A → List ℕ) → Result A → List ℕ
+written numbers (done a) = 0 ∷ numbers a
+written numbers (refused number detail) = number ∷ detail ∷ 0 ∷ 0 ∷ []
+
+-- Size, Compile and the reader of text: N, M and K
+abbrev pub sizes_numbers : Sizes → List ℕ
+sizes_numbers z = z.n ∷ z.m ∷ z.k ∷ []
 
 -- Decode, Judge and Image: only zeros
-abbrev pub verdict_written : Result (Unit {0}) → List ℕ
-verdict_written (done tt) = 0 ∷ 0 ∷ 0 ∷ 0 ∷ []
-verdict_written (refused number detail) = number ∷ detail ∷ 0 ∷ 0 ∷ []
+abbrev pub verdict_numbers : Unit {0} → List ℕ
+verdict_numbers u = 0 ∷ 0 ∷ 0 ∷ []
 
--- Closing: 0, and then 0 found, 1 none, 2 unfinished
+-- Closing: 0 found, 1 none, 2 unfinished
+abbrev pub hour_numbers : Earliest → List ℕ
+hour_numbers (found v) = 0 ∷ 0 ∷ 0 ∷ []
+hour_numbers none = 1 ∷ 0 ∷ 0 ∷ []
+hour_numbers (unfinished r question) = 2 ∷ 0 ∷ 0 ∷ []
+
+-- the writer of text: the length
+abbrev pub length_numbers : ℕ → List ℕ
+length_numbers n = n ∷ 0 ∷ 0 ∷ []
+
+-- the reader of a reply: 0 a model, 1 none
+abbrev pub reply_numbers : Bool → List ℕ
+reply_numbers true = 0 ∷ 0 ∷ 0 ∷ []
+reply_numbers false = 1 ∷ 0 ∷ 0 ∷ []
+
+abbrev pub sizes_written : Result Sizes → List ℕ
+sizes_written r = written sizes_numbers r
+
+abbrev pub verdict_written : Result (Unit {0}) → List ℕ
+verdict_written r = written verdict_numbers r
+
 abbrev pub hour_written : Result Earliest → List ℕ
-hour_written (done (found v)) = 0 ∷ 0 ∷ 0 ∷ 0 ∷ []
-hour_written (done none) = 0 ∷ 1 ∷ 0 ∷ 0 ∷ []
-hour_written (done (unfinished r question)) = 0 ∷ 2 ∷ 0 ∷ 0 ∷ []
-hour_written (refused number detail) = number ∷ detail ∷ 0 ∷ 0 ∷ []
+hour_written r = written hour_numbers r
+
+abbrev pub length_written : Result ℕ → List ℕ
+length_written r = written length_numbers r
+
+abbrev pub reply_written : Result Bool → List ℕ
+reply_written r = written reply_numbers r
 
 -- the three hours: the value three times; low, high and the next question; else what was there
 abbrev pub hours_written : Result Earliest → List ℤ → List ℤ
@@ -27,14 +53,3 @@ hours_written (done (found v)) hours = v ∷ v ∷ v ∷ []
 hours_written (done none) hours = hours
 hours_written (done (unfinished r question)) hours = r.lo ∷ r.hi ∷ question ∷ []
 hours_written (refused number detail) hours = hours
-
--- the writer of text: 0, and the length
-abbrev pub length_written : Result ℕ → List ℕ
-length_written (done n) = 0 ∷ n ∷ 0 ∷ 0 ∷ []
-length_written (refused number detail) = number ∷ detail ∷ 0 ∷ 0 ∷ []
-
--- the reader of a reply: 0, and then 0 a model, 1 none
-abbrev pub reply_written : Result Bool → List ℕ
-reply_written (done true) = 0 ∷ 0 ∷ 0 ∷ 0 ∷ []
-reply_written (done false) = 0 ∷ 1 ∷ 0 ∷ 0 ∷ []
-reply_written (refused number detail) = number ∷ detail ∷ 0 ∷ 0 ∷ []

@@ -12,15 +12,18 @@ use Rattle.definitions.specs.Operations.{accepted, sizes_of, compile_outcome}
 use Rattle.laws.specs.Boards.{board_of}
 use Rattle.laws.specs.Sizes.{K_is}
 use Rattle.laws.specs.Written.{written}
-use Rattle.opening.specs.declared.Header.{Header}
 use Rattle.opening.specs.Said.{map_done}
-use Rattle.measure.specs.declared.Totals.{Totals}
+use Rattle.definitions.specs.declared.Sizes.{Sizes}
+use Rattle.measure.specs.declared.Measured.{Measured}
 use Rattle.measure.specs.Said.{measured_of}
 use Rattle.measure.specs.Told.{Measures, measured, not_measured}
 
 module _ (s : List ℕ) (list : List ℤ) where
-  module _ (h : Header) (t : Totals) (e : map_done measured_of (accepted s) ≡ done (h, t)) where
-    measures : Measures s h t
+  module _ (m : Measured) (e : map_done measured_of (accepted s) ≡ done m) where
+    abbrev t : Sizes
+    t = m.sizes
+
+    measures : Measures s m.header t
     measures = measured s e
 
     pub too_short : length list < t.k → (refused 10 t.k ≡ (compile_outcome s list).answer) × (list ≡ (compile_outcome s list).left)

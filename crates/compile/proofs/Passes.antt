@@ -1,4 +1,5 @@
 -- The passes over an accepted record's variables and over the pieces of its rules. Assumes nothing.
+use Rattle.std.specs.Prelude.{Some, None}
 use mathlib.Core.Path.{◌≡◌, refl, sym, ap, ap₂, ◌∙◌}
 use mathlib.Core.List.{List, [], ◌∷◌, ◌++◌}
 use Prim.Native.Nat.{ℕ, ◌+◌, ◌≤◌, ◌<◌}
@@ -28,7 +29,6 @@ use Rattle.rules.specs.Cursors.{said_piece, coming_at, Meets}
 use Rattle.slots.specs.declared.Bounds.{Bounds}
 use Rattle.slots.specs.Variables.{bounds_read, BoundsOf, bounds_same}
 use Rattle.walk.specs.declared.Comparison.{Comparison}
-use Rattle.walk.specs.declared.Front.TheVariants.{Nothing, Literal}
 use Rattle.walk.specs.Comparisons.{Shows}
 use Rattle.writing.specs.Numbers.{numbers_of, numbers-append, under_lead, under_is}
 use Rattle.writing.specs.Axioms.{axiom_numbers, axioms_are}
@@ -55,13 +55,13 @@ module _ (B : Board) (n : ℕ) (e : n ≡ first B (length B.bounds)) where
   unfolding piece_numbers piece_clauses
   line-numbers j C = ap (λ k. line_numbers (k + j) C) e ∙ line_is B j C
 
-  pub led-numbers : (j : ℕ) (q : board.Comparison) (c : Comparison) → Shows B q c → under_lead (Literal (neg (n + j))) c ≡ piece_numbers B (under (minus (selector j) ∷ []) q)
+  pub led-numbers : (j : ℕ) (q : board.Comparison) (c : Comparison) → Shows B q c → under_lead (Some (neg (n + j))) c ≡ piece_numbers B (under (minus (selector j) ∷ []) q)
   unfolding piece_numbers piece_clauses literal_number number first
-  led-numbers j q c h = under_is B q c (Literal (neg (n + j))) (minus (selector j) ∷ []) h (ap (λ k. neg (k + j) ∷ []) (sym e))
+  led-numbers j q c h = under_is B q c (Some (neg (n + j))) (minus (selector j) ∷ []) h (ap (λ k. neg (k + j) ∷ []) (sym e))
 
-pub lone-numbers : (B : Board) (q : board.Comparison) (c : Comparison) → Shows B q c → under_lead Nothing c ≡ piece_numbers B (under [] q)
+pub lone-numbers : (B : Board) (q : board.Comparison) (c : Comparison) → Shows B q c → under_lead None c ≡ piece_numbers B (under [] q)
 unfolding piece_numbers piece_clauses
-lone-numbers B q c h = under_is B q c Nothing [] h refl
+lone-numbers B q c h = under_is B q c None [] h refl
 
 -- ---- what is known of the record
 module _ (s : List ℕ) (o : Opens s) where

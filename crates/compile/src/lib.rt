@@ -10,7 +10,7 @@ ghost use Rattle.compile.specs.Outcome.{Allowed};
 
 use crate::pieces::put_pieces;
 use crate::variables::put_variables;
-use definitions::{Refusal, Sizing};
+use definitions::{Refusal, Sizes};
 use measure::{Measured, measure};
 use opening::Header;
 use slots::FIRSTS;
@@ -40,22 +40,17 @@ fn put_list(bytes: &[u8], header: Header, list: &mut [i32]) -> usize
 }
 
 // Writes the first K places of the list; a refusal leaves it as it was.
-pub fn compile(bytes: &[u8], list: &mut [i32]) -> Sizing
+pub fn compile(bytes: &[u8], list: &mut [i32]) -> Result<Sizes, Refusal>
     ensures { Allowed bytes.now list.old result list.new }
 {
-    match measure(bytes) {
-        Measured::Accepted(header, totals) => {
-            if list.len() < totals.k {
-                Sizing::Unsized(Refusal::ListTooShort { wanted: totals.k })
-            } else {
-                let k = put_list(bytes, header, list);
-                Sizing::Sizes {
-                    n: totals.n,
-                    m: totals.m,
-                    k: k,
-                }
-            }
-        }
-        Measured::Refused(r) => Sizing::Unsized(r),
+    let Measured { header, sizes } = measure(bytes)?;
+    if list.len() < sizes.k {
+        return Err(Refusal::ListTooShort { wanted: sizes.k });
     }
+    let k = put_list(bytes, header, list);
+    Ok(Sizes {
+        n: sizes.n,
+        m: sizes.m,
+        k: k,
+    })
 }

@@ -11,9 +11,8 @@ ghost use Rattle.rules.specs.Known.{Known};
 ghost use Rattle.slots.specs.Variables.{FirstsOf};
 ghost use Rattle.compile.specs.Lists.{piece_numbers, pieces_numbers};
 
-use rules::{Ahead, Piece, next_piece, start};
+use rules::{Piece, next_piece, start};
 use slots::comparisons::ready;
-use walk::Front;
 use writing::comparisons::put_comparison;
 use writing::lines::put_line;
 
@@ -37,7 +36,7 @@ fn put_piece(
         } => put_line(rules, place, literals, selectors + selector as u32, list),
         Piece::Lone { place, constant } => put_comparison(
             ready(bytes, firsts, rules, place, constant),
-            Front::Nothing,
+            None,
             list,
         ),
         Piece::Led {
@@ -49,7 +48,7 @@ fn put_piece(
             let negated = -(number as i32);
             put_comparison(
                 ready(bytes, firsts, rules, place, constant),
-                Front::Literal(negated),
+                Some(negated),
                 list,
             )
         }
@@ -69,11 +68,9 @@ pub fn put_pieces(
 {
     let mut at: usize = 0;
     let mut cursor = start(clauses);
-    loop {
-        let Ahead::Met(piece, next) = next_piece(rules, cursor) else {
-            return at;
-        };
+    while let Some((piece, next)) = next_piece(rules, cursor) {
         at += put_piece(bytes, firsts, rules, selectors, piece, &mut list[at..]);
         cursor = next;
     }
+    at
 }

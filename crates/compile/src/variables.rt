@@ -12,13 +12,11 @@ pub fn put_variables(bytes: &[u8], ints: usize, bools: usize, list: &mut [i32]) 
     ensures { (result ≡ length (axioms_from (board_of bytes.now) 0)) × (list.new ≡ written (axioms_from (board_of bytes.now) 0) list.old) }
 {
     let mut first = bools as u32 + 1;
-    let mut x: usize = 0;
     let mut at: usize = 0;
-    while x < ints {
+    for x in 0..ints {
         let width = width_of(bounds_of(bytes, x));
         at += put_axioms(first, width, &mut list[at..]);
         first += width;
-        x += 1;
     }
     at
 }

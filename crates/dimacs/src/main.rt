@@ -28,9 +28,8 @@ fn read_full(input: &mut impl Read, buffer: &mut [u8]) -> usize
     done
 }
 
-fn complain(rt: &HostRuntime, what: &[u8]) {
-    let _ = rt.stderr().write_all(b"basmuthar: ");
-    let _ = rt.stderr().write_all(what);
+fn complain(rt: &impl Eprint, what: &str) {
+    let _ = eprintln!(rt; "basmuthar: {what}");
 }
 
 // A byte more than a record may have is read: enough to know that it is too long.
@@ -41,9 +40,9 @@ fn main(rt: HostRuntime) {
         let mut text = [0u8; 360512];
         let k = put_printed(&bytes[..n], &mut text);
         if rt.write_all(&text[..k]).is_err() {
-            complain(&rt, b"standard output cannot be written\n");
+            complain(&rt, "standard output cannot be written");
         }
     } else {
-        complain(&rt, b"standard input cannot be read\n");
+        complain(&rt, "standard input cannot be read");
     }
 }

@@ -8,7 +8,7 @@ ghost use Rattle.dimacs.specs.Shown.{cnf, refusal_line, listed};
 
 use answers::{detail_of, number_of};
 use compile::compile;
-use definitions::{Refusal, Sizing};
+use definitions::{Refusal, Sizes};
 use text::lines::put_text_line;
 use text::numbers::put_entries;
 
@@ -29,13 +29,13 @@ fn put_refusal(r: Refusal, out: &mut [u8]) -> usize
 }
 
 // The clauses stand in the first numbers of the list.
-fn put_shown(answer: Sizing, list: &[i32], out: &mut [u8]) -> usize
+fn put_shown(answer: Result<Sizes, Refusal>, list: &[i32], out: &mut [u8]) -> usize
     requires { (listed answer ≤ length list.now) × (64 + 22 * length list.now ≤ length out.old) }
     ensures { Put (shown (said_sizing answer) list.now) out.old result out.new }
 {
     match answer {
-        Sizing::Sizes { n, m, k } => put_cnf(n as u64, m as u64, &list[..k], out),
-        Sizing::Unsized(r) => put_refusal(r, out),
+        Ok(sizes) => put_cnf(sizes.n as u64, sizes.m as u64, &list[..sizes.k], out),
+        Err(r) => put_refusal(r, out),
     }
 }
 

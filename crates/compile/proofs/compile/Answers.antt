@@ -1,0 +1,24 @@
+-- From the answer of `measure` to that of `compile`.
+use Rattle.std.proofs.Common.{sym, ap, arith}
+use Rattle.std.proofs.lemmas.Result.{err_from_is_err_and}
+use Rattle.laws.specs.Boards.{board_of}
+use Rattle.laws.specs.Sizes.{K_is}
+use Rattle.measure.specs.Told.{measured}
+use Rattle.compile.proofs.Compiled.{too_short, compiled, unmeasured}
+use Rattle.compile.proofs.compile.Goals as goal
+
+pub returns-in_err-header : goal.returns-in_err-header
+returns-in_err-header c =
+    let p = err_from_is_err_and c.from_residual.result c.from_residual.ensures.1 in
+    rw (p.1, p.2) (unmeasured _ _ _ _ (sym c.in_err-header.ensures))
+
+pub returns-then-list-sizes : goal.returns-then-list-sizes
+returns-then-list-sizes c = too_short _ _ _ (sym c.in_ok-header.ensures) c.if-list-sizes.true
+
+pub put_list-k-requires : goal.put_list-k-requires
+put_list-k-requires c =
+    let m = measured c.args.bytes.now (sym c.in_ok-header.ensures) in
+    (m.opened, omega (arith, ap (λ z. z.k) m.totals, K_is (board_of c.args.bytes.now)))
+
+pub returns : goal.returns
+returns c = compiled _ _ _ (sym c.in_ok-header.ensures) c.if-list-sizes.false _ _ c.put_list-k.ensures.0 c.put_list-k.ensures.1
