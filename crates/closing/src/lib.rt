@@ -16,7 +16,8 @@ pub mod search; // search.rt: the range and the replies, refusal 23
 pub fn closing(bytes: &[u8], variable: usize, replies: &[u8]) -> Result<Hour, Refusal>
     ensures { Allowed bytes.now variable replies.now result }
 {
-    let header = measure(bytes)?.header;
-    checked(header.ints, variable, replies)?;
-    searched(bounds_of(bytes, variable), replies)
+    let measured = measure(bytes)?;
+    let opened = &measured.opened;
+    checked(opened.ints(), variable, replies)?;
+    searched(bounds_of(opened, variable), replies)
 }
