@@ -5,19 +5,17 @@ use Rattle.definitions.specs.Board.{Board, variables}
 use Rattle.definitions.specs.Result.{Result, ◌>>◌, each}
 use Rattle.definitions.specs.Meaning.{assigned, in_bounds, holds}
 use Rattle.definitions.specs.Operations.{long, bits}
-use Rattle.laws.specs.Boards.{board_of}
-use Rattle.opening.specs.declared.Header.{Header}
-use Rattle.opening.specs.Headers.{Opened}
+use Rattle.laws.specs.Boards.{Opens, board_of}
 
--- an accepted record, and lists as long as it wants
-pub record Long (s : List ℕ) (header : Header) (values : List ℤ) (booleans : List ℕ) : Type 0 where
-  pub opened : Opened s header
+-- an opened record, and lists as long as it wants
+pub record Long (s : List ℕ) (values : List ℤ) (booleans : List ℕ) : Type 0 where
+  pub opens : Opens s
   pub ints : length values ≡ length (board_of s).bounds
   pub bools : length booleans ≡ (board_of s).bools
 
 -- 11, for the values and for the Booleans
-unfoldable pub fitting : Header → List ℤ → List ℕ → Result (Unit {0})
-fitting header values booleans = long header.ints values >> long header.bools booleans
+unfoldable pub fitting : Board → List ℤ → List ℕ → Result (Unit {0})
+fitting B values booleans = long (length B.bounds) values >> long B.bools booleans
 
 -- 12, 14 and 13
 unfoldable pub solving : Board → List ℤ → List ℕ → Result (Unit {0})

@@ -16,7 +16,8 @@ pub mod values; // values.rt: the first value outside its bounds (refusal 14)
 pub fn judge(bytes: &[u8], values: &[i32], booleans: &[u8]) -> Result<(), Refusal>
     ensures { Allowed bytes.now values.now booleans.now result }
 {
-    let header = measure(bytes)?.header;
-    lengths(header, values, booleans)?;
-    solved(bytes, header, values, booleans)
+    let measured = measure(bytes)?;
+    let opened = &measured.opened;
+    lengths(opened, values, booleans)?;
+    solved(opened, values, booleans)
 }

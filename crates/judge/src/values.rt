@@ -4,9 +4,10 @@ ghost use Rattle.definitions.specs.Tools.{within};
 ghost use Rattle.definitions.specs.Board.{variables};
 ghost use Rattle.definitions.specs.Result.{each};
 ghost use Rattle.definitions.specs.Meaning.{assigned, in_bounds};
-ghost use Rattle.laws.specs.Boards.{Opens, board_of};
+ghost use Rattle.laws.specs.Boards.{board_of};
 ghost use Rattle.lent.specs.Said.{said_found};
 
+use opening::record::Record;
 use slots::variables::bounds_of;
 
 fn is_within(lower: i32, upper: i32, value: i32) -> bool
@@ -15,12 +16,12 @@ fn is_within(lower: i32, upper: i32, value: i32) -> bool
     lower <= value && value <= upper
 }
 
-pub fn first_outside(bytes: &[u8], values: &[i32]) -> Option<usize>
-    requires { Opens bytes.now × (length values.now ≡ length (board_of bytes.now).bounds) }
-    ensures { said_found 14 result ≡ each 14 0 (map (in_bounds (board_of bytes.now) (assigned values.now [])) (variables (board_of bytes.now))) }
+pub fn first_outside(opened: &Record, values: &[i32]) -> Option<usize>
+    requires { length values.now ≡ length (board_of opened.now).bounds }
+    ensures { said_found 14 result ≡ each 14 0 (map (in_bounds (board_of opened.now) (assigned values.now [])) (variables (board_of opened.now))) }
 {
     for (x, value) in values.iter().enumerate() {
-        let bounds = bounds_of(bytes, x);
+        let bounds = bounds_of(opened, x);
         if !is_within(bounds.lower, bounds.upper, *value) {
             return Some(x);
         }

@@ -4,10 +4,11 @@ use Rattle.judge.proofs.checks.lengths.Goals as goal
 
 pub returns-then-values-ints : goal.returns-then-values-ints
 returns-then-values-ints c =
-    values_wrong _ _ c.args.booleans.now c.if-values-ints.true
+    rw c.ints-ints.ensures.ints (values_wrong _ _ c.args.booleans.now (rw c.ints-ints.ensures.ints at c.if-values-ints.true))
 
 pub returns-then-booleans-bools : goal.returns-then-booleans-bools
-returns-then-booleans-bools c = booleans_wrong _ _ _ c.if-values-ints.false c.if-booleans-bools.true
+returns-then-booleans-bools c =
+    rw c.bools-bools.ensures.bools (booleans_wrong _ _ _ (rw c.ints-ints.ensures.ints at c.if-values-ints.false) (rw c.bools-bools.ensures.bools at c.if-booleans-bools.true))
 
 pub returns : goal.returns
-returns c = both_long _ _ _ c.if-values-ints.false c.if-booleans-bools.false
+returns c = both_long _ _ _ (rw c.ints-ints.ensures.ints at c.if-values-ints.false) (rw c.bools-bools.ensures.bools at c.if-booleans-bools.false)

@@ -9,5 +9,5 @@ use Rattle.judge.proofs.values.first_outside.Given as goal
 
 abbrev pub invariant-loop-x : goal.invariant-loop-x
 invariant-loop-x l =
-    seek 14 (in_bounds (board_of l.bytes) (assigned l.values [])) l.x (drop l.x (variables (board_of l.bytes)))
-    ≡ each 14 0 (map (in_bounds (board_of l.bytes) (assigned l.values [])) (variables (board_of l.bytes)))
+    seek 14 (in_bounds (board_of l.opened) (assigned l.values [])) l.x (drop l.x (variables (board_of l.opened)))
+    ≡ each 14 0 (map (in_bounds (board_of l.opened) (assigned l.values [])) (variables (board_of l.opened)))
