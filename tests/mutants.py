@@ -57,10 +57,19 @@ MUTANTS = [
          "    let checked = check_model(bytes, model, header);",
          "    write_values(bytes, model, header, values);\n    let checked = check_model(bytes, model, header);")]),
     ("a value outside its bounds told before a byte that is not 0 or 1", [
-        ("judge/src/checks.rt", "match first_bad_byte(booleans) {", "match first_outside(bytes, values) {"),
-        ("judge/src/checks.rt", "Refusal::ByteWrong { index: index }", "Refusal::ValueOutside { index: index, }"),
-        ("judge/src/checks.rt", "Found::Nothing => match first_outside(bytes, values) {", "Found::Nothing => match first_bad_byte(booleans) {"),
-        ("judge/src/checks.rt", "Refusal::ValueOutside { index: index }", "Refusal::ByteWrong { index: index }")]),
+        ("judge/src/checks.rt",
+         "    if let Some(index) = first_bad_byte(booleans) {\n"
+         "        return Err(Refusal::ByteWrong { index });\n"
+         "    }\n"
+         "    if let Some(index) = first_outside(bytes, values) {\n"
+         "        return Err(Refusal::ValueOutside { index });\n"
+         "    }\n",
+         "    if let Some(index) = first_outside(bytes, values) {\n"
+         "        return Err(Refusal::ValueOutside { index });\n"
+         "    }\n"
+         "    if let Some(index) = first_bad_byte(booleans) {\n"
+         "        return Err(Refusal::ByteWrong { index });\n"
+         "    }\n")]),
     ("the model written before the clauses are tested", [
         ("image/src/lib.rt",
          "            let verdict = checked(",
@@ -82,35 +91,37 @@ MUTANTS = [
          "        question: half(range),")]),
     ("a reply told to be wrong only where it answers a question", [
         ("closing/src/search.rt",
-         "        hour = told(narrowed(left, question, replies[i]));",
-         "        if 1 < replies[i] {\n"
-         "            return Hour::Refused(Refusal::ByteWrong { index: i });\n"
+         "        hour = told(narrowed(left, question, *reply));",
+         "        if 1 < *reply {\n"
+         "            return Err(Refusal::ByteWrong { index: i });\n"
          "        }\n"
-         "        hour = told(narrowed(left, question, replies[i]));"),
-        ("closing/src/checks.rt", "let second = first_bad_byte(replies);", "let second = Found::Nothing;")]),
+         "        hour = told(narrowed(left, question, *reply));"),
+        ("closing/src/checks.rt",
+         "    if let Some(index) = first_bad_byte(replies) {\n        return Err(Refusal::ByteWrong { index });\n    }\n",
+         "")]),
     ("a number past clause M read", [
         ("replies/src/clauses.rt",
-         "            if !room {\n                return Next::Bad(at);\n            }\n",
+         "    if !room {\n        return Err(Bad { place: at });\n    }\n",
          "")]),
     ("the model's length told before a variable that is missing", [
         ("replies/src/models.rt",
-         "    match least_not_once(text, n, from, sought_from(n, count, rising)) {",
+         "    if let Some(variable) = least_not_once(text, n, heard.from, sought_from(n, heard.listed)) {",
          "    if model.len() != n as usize {\n"
-         "        return Replied::Refused(Refusal::LentWrong { wanted: n as usize });\n"
+         "        return Err(Refusal::LentWrong { wanted: n as usize });\n"
          "    }\n"
-         "    match least_not_once(text, n, from, sought_from(n, count, rising)) {")]),
+         "    if let Some(variable) = least_not_once(text, n, heard.from, sought_from(n, heard.listed)) {")]),
     ("the model written before each variable is known to be there once", [
         ("replies/src/models.rt",
-         "    match least_not_once(text, n, from, sought_from(n, count, rising)) {",
+         "    if let Some(variable) = least_not_once(text, n, heard.from, sought_from(n, heard.listed)) {",
          "    if model.len() == n as usize {\n"
-         "        clear(model);\n"
-         "        put_literals(text, n, from, model);\n"
+         "        model.fill(0);\n"
+         "        put_literals(text, n, heard.from, model);\n"
          "    }\n"
-         "    match least_not_once(text, n, from, sought_from(n, count, rising)) {")]),
+         "    if let Some(variable) = least_not_once(text, n, heard.from, sought_from(n, heard.listed)) {")]),
     ("'none' clears the model", [
         ("replies/src/models.rt",
-         "        Heard::Nothing => Replied::None,",
-         "        Heard::Nothing => {\n            clear(model);\n            Replied::None\n        }")]),
+         "        None => Ok(Reply::None),",
+         "        None => {\n            model.fill(0);\n            Ok(Reply::None)\n        }")]),
     ("text written as far as there is room", [
         ("write_text/src/lib.rt",
          "            if out.len() < length {",

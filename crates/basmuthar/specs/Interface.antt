@@ -5,9 +5,9 @@ use Rattle.definitions.specs.Operations.{Sizes}
 use Rattle.definitions.specs.Closing.{Earliest, found, none, unfinished}
 
 -- 0 and three numbers for what is answered, or a refusal's number and its detail
-abbrev pub written : {A : Type 0} → (A → List ℕ) → Result A → List ℕ
-written numbers (done a) = 0 ∷ numbers a
-written numbers (refused number detail) = number ∷ detail ∷ 0 ∷ 0 ∷ []
+abbrev pub answer_written : {A : Type 0} → (A → List ℕ) → Result A → List ℕ
+answer_written numbers (done a) = 0 ∷ numbers a
+answer_written numbers (refused number detail) = number ∷ detail ∷ 0 ∷ 0 ∷ []
 
 -- Size, Compile and the reader of text: N, M and K
 abbrev pub sizes_numbers : Sizes → List ℕ
@@ -33,19 +33,19 @@ reply_numbers true = 0 ∷ 0 ∷ 0 ∷ []
 reply_numbers false = 1 ∷ 0 ∷ 0 ∷ []
 
 abbrev pub sizes_written : Result Sizes → List ℕ
-sizes_written r = written sizes_numbers r
+sizes_written r = answer_written sizes_numbers r
 
 abbrev pub verdict_written : Result (Unit {0}) → List ℕ
-verdict_written r = written verdict_numbers r
+verdict_written r = answer_written verdict_numbers r
 
 abbrev pub hour_written : Result Earliest → List ℕ
-hour_written r = written hour_numbers r
+hour_written r = answer_written hour_numbers r
 
 abbrev pub length_written : Result ℕ → List ℕ
-length_written r = written length_numbers r
+length_written r = answer_written length_numbers r
 
 abbrev pub reply_written : Result Bool → List ℕ
-reply_written r = written reply_numbers r
+reply_written r = answer_written reply_numbers r
 
 -- the three hours: the value three times; low, high and the next question; else what was there
 abbrev pub hours_written : Result Earliest → List ℤ → List ℤ

@@ -10,7 +10,7 @@ use Rattle.definitions.specs.declared.Sizes.{Sizes}
 use Rattle.definitions.specs.declared.Hour.{Hour}
 use Rattle.definitions.specs.declared.Reply.{Reply}
 use Rattle.laws.specs.Outcomes.{one_sizing, one_verdict, one_hour, one-text, one-reply}
-use Rattle.basmuthar.specs.Interface.{written, sizes_numbers, verdict_numbers, length_numbers, reply_numbers, sizes_written, verdict_written, hour_written, hours_written, length_written, reply_written}
+use Rattle.basmuthar.specs.Interface.{answer_written, sizes_numbers, verdict_numbers, length_numbers, reply_numbers, sizes_written, verdict_written, hour_written, hours_written, length_written, reply_written}
 
 -- no refusal has the number 0
 not_zero : (r : Refusal) → eqb (said r).0 0 ≡ false
@@ -42,11 +42,11 @@ read_as a numbers = if eqb (get_or numbers 0 0) 0 then done a else refused (get_
 
 -- what is meant can be read back from its numbers, and so can the answer
 module _ {A B : Type 0} (meaning : A → B) (numbers : B → List ℕ) (back : List ℕ → B) (is : (b : B) → back (0 ∷ numbers b) ≡ b) where
-  answer_back : (r : code.Result A Refusal) → let w = written numbers (answered meaning r) in read_as (back w) w ≡ answered meaning r
+  answer_back : (r : code.Result A Refusal) → let w = answer_written numbers (answered meaning r) in read_as (back w) w ≡ answered meaning r
   answer_back (Ok a) = ap done (is (meaning a))
   answer_back (Err r) = rw (not_zero r)
 
-  answer_told : (r r' : code.Result A Refusal) → written numbers (answered meaning r) ≡ written numbers (answered meaning r') → answered meaning r ≡ answered meaning r'
+  answer_told : (r r' : code.Result A Refusal) → answer_written numbers (answered meaning r) ≡ answer_written numbers (answered meaning r') → answered meaning r ≡ answered meaning r'
   answer_told r r' h = sym (answer_back r) ∙ ap (λ w. read_as (back w) w) h ∙ answer_back r'
 
 pub sizing_told : (z z' : code.Result Sizes Refusal) → sizes_written (said_sizing z) ≡ sizes_written (said_sizing z') → z ≡ z'

@@ -5,7 +5,7 @@
 
 ghost use Rattle.std.specs.Prelude.{◌≡◌, List, ℕ};
 ghost use Rattle.definitions.specs.Answers.{answered, hour_said, reply_said, said_hour, sizes_said};
-ghost use Rattle.basmuthar.specs.Interface.{hour_numbers, hours_written, length_numbers, reply_numbers, sizes_numbers, verdict_numbers, written};
+ghost use Rattle.basmuthar.specs.Interface.{answer_written, hour_numbers, hours_written, length_numbers, reply_numbers, sizes_numbers, verdict_numbers};
 ghost use Rattle.basmuthar.specs.Outcome.{ClosingLeaves, CompileLeaves, DecodeLeaves, ImageLeaves, JudgeLeaves, ReadReplyLeaves, ReadTextLeaves, SizeLeaves, WriteTextLeaves};
 
 pub use answers::{detail_of, number_of};
@@ -78,7 +78,7 @@ impl Numbered for Reply {
 }
 
 fn written<T: Numbered + Copy>(answer: Result<T, Refusal>) -> [u64; 4]
-    ensures { result ≡ written T.numbers (answered (λ a. a) answer) }
+    ensures { result ≡ answer_written T.numbers (answered (λ a. a) answer) }
 {
     match answer {
         Ok(value) => {

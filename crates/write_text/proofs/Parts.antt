@@ -1,4 +1,5 @@
 -- The text of several numbers, of a comparison's clauses, and of the rows still to come. Assumes nothing.
+use Rattle.std.specs.Prelude.{Option, Some, None}
 use mathlib.Core.Path.{◌≡◌, refl, sym, ap, ap₂, ◌∙◌, subst}
 use mathlib.Core.List.{List, [], ◌∷◌, ◌++◌, map, flatten, map-append, append-nil, append_assoc}
 use Prim.Native.Nat.{ℕ, ◌+◌, ◌-◌, ◌≤◌, ◌<◌}
@@ -24,10 +25,7 @@ use Rattle.laws.specs.Lists.{flatten-append}
 use Rattle.laws.specs.Written.{written}
 use Rattle.text.specs.Entries.{entries}
 use Rattle.walk.specs.declared.Comparison.{Comparison}
-use Rattle.walk.specs.declared.Front.{Front}
 use Rattle.walk.specs.declared.Walk.{Walk}
-use Rattle.walk.specs.declared.At.{At}
-use Rattle.walk.specs.declared.At.TheVariants.{Tuple, End}
 use Rattle.walk.specs.declared.Run.{Run}
 use Rattle.walk.specs.Comparisons.{to_come}
 use Rattle.walk.specs.Rows.{in_run}
@@ -90,7 +88,7 @@ steps_text i n l h =
     ∙ entries-append (step_here i) (steps_from (i + 1) (n - 1))
 
 -- ---- rows
-module _ (lead : Front) (run : Run) where
+module _ (lead : Option ℤ) (run : Run) where
   pub run-text-end : run.count ≡ 0 → entries (led lead (in_run run)) ≡ []
   run-text-end h = ap entries (run_end lead run h) ∙ entries-empty
 
@@ -98,12 +96,12 @@ module _ (lead : Front) (run : Run) where
   pub run-text-more : 0 < run.count → entries (led lead (in_run run)) ≡ entries (clause (stays lead run.front ++ (run.y.literal ∷ run.z.literal ∷ []))) ++ entries (led lead (drop 1 (in_run run)))
   run-text-more h = ap entries (run_more lead run h) ∙ entries-append (clause (stays lead run.front ++ (run.y.literal ∷ run.z.literal ∷ []))) (led lead (drop 1 (in_run run)))
 
-module _ (c : Comparison) (lead : Front) (cur : At) where
-  pub text-end : cur ≡ End → entries (led lead (to_come c cur)) ≡ []
+module _ (c : Comparison) (lead : Option ℤ) (cur : Option Walk) where
+  pub text-end : cur ≡ None → entries (led lead (to_come c cur)) ≡ []
   text-end q = ap entries (led-end c lead cur q) ∙ entries-empty
 
   -- a row, and then the rest
-  pub text-on : (w : Walk) → cur ≡ Tuple w → (row rest : List (List ℤ)) → to_come c (Tuple w) ≡ row ++ rest → entries (led lead (to_come c cur)) ≡ entries (led lead row) ++ entries (led lead rest)
+  pub text-on : (w : Walk) → cur ≡ Some w → (row rest : List (List ℤ)) → to_come c (Some w) ≡ row ++ rest → entries (led lead (to_come c cur)) ≡ entries (led lead row) ++ entries (led lead rest)
   text-on w q row rest e = ap entries (led_on c lead cur w q row rest e) ∙ entries-append (led lead row) (led lead rest)
 
 -- ---- pieces of the rules

@@ -16,9 +16,8 @@ use Rattle.laws.specs.Pieces.{pieces_from}
 use Rattle.laws.specs.Reread.{accepted-parts}
 use Rattle.laws.specs.Sizes.{K_is}
 use Rattle.laws.specs.Written.{written}
-use Rattle.opening.specs.declared.Header.{Header}
 use Rattle.opening.specs.Said.{map_done}
-use Rattle.measure.specs.declared.Totals.{Totals}
+use Rattle.measure.specs.declared.Measured.{Measured}
 use Rattle.measure.specs.Said.{measured_of}
 use Rattle.measure.specs.Told.{Measures, measured, not_measured}
 use Rattle.text.specs.Lines.{line, lined, line-length}
@@ -60,8 +59,8 @@ module _ (s lent : List ℕ) where
   abbrev text : List ℕ
   text = text_of (board_of s)
 
-  module _ (h : Header) (t : Totals) (e : map_done measured_of (accepted s) ≡ done (h, t)) where
-    measures : Measures s h t
+  module _ (m : Measured) (e : map_done measured_of (accepted s) ≡ done m) where
+    measures : Measures s m.header m.sizes
     measures = measured s e
 
     pub counted : Counts 0 text

@@ -15,14 +15,10 @@ fn add_steps(first: u32, steps: u32, at: usize, out: &mut [u8]) -> usize
     requires { (first + steps < numbers_limit) × Counts at (entries (steps_from first steps)) }
     ensures { Adds (entries (steps_from first steps)) at out.old result out.new }
 {
-    let mut number = first;
-    let mut left = steps;
     let mut place = at;
-    while 0 < left {
+    for number in first..first + steps {
         let clause = [-(number as i32), (number + 1) as i32, 0];
         place = add_entries(&clause, place, out);
-        number += 1;
-        left -= 1;
     }
     place
 }
@@ -44,13 +40,11 @@ pub fn add_variables(bytes: &[u8], ints: usize, bools: usize, at: usize, out: &m
     ensures { Adds (entries (axioms_from (board_of bytes.now) 0)) at out.old result out.new }
 {
     let mut first = bools as u32 + 1;
-    let mut x: usize = 0;
     let mut place = at;
-    while x < ints {
+    for x in 0..ints {
         let width = width_of(bounds_of(bytes, x));
         place = add_axioms(first, width, place, out);
         first += width;
-        x += 1;
     }
     place
 }

@@ -36,11 +36,9 @@ pub fn add_entries(list: &[i32], at: usize, out: &mut [u8]) -> usize
     requires { Counts at (entries list.now) }
     ensures { Adds (entries list.now) at out.old result out.new }
 {
-    let mut i: usize = 0;
     let mut place = at;
-    while i < list.len() {
-        place = add_entry(list[i], place, out);
-        i += 1;
+    for number in list {
+        place = add_entry(*number, place, out);
     }
     place
 }

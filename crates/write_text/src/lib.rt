@@ -16,8 +16,8 @@ ghost use Rattle.write_text.specs.Outcome.{Allowed};
 use crate::axioms::add_variables;
 use crate::head::add_first_line;
 use crate::pieces::add_pieces;
-use definitions::{Refusal, Texted};
-use measure::{Measured, Totals, measure};
+use definitions::Refusal;
+use measure::{Measured, measure};
 use opening::Header;
 use slots::FIRSTS;
 use slots::variables::{first_in, put_firsts};
@@ -50,37 +50,33 @@ fn add_rules(bytes: &[u8], header: Header, at: usize, out: &mut [u8]) -> usize
 }
 
 // The first line, the axioms, the clauses of the rules.
-fn add_text(bytes: &[u8], header: Header, totals: Totals, out: &mut [u8]) -> usize
-    requires { Opened bytes.now header × (totals ≡ totals_of (board_of bytes.now)) × Counts 0 (text_of (board_of bytes.now)) }
+fn add_text(bytes: &[u8], measured: Measured, out: &mut [u8]) -> usize
+    requires { Opened bytes.now measured.header × (measured.sizes ≡ totals_of (board_of bytes.now)) × Counts 0 (text_of (board_of bytes.now)) }
     ensures { Adds (text_of (board_of bytes.now)) 0 out.old result out.new }
 {
-    let clauses = add_first_line(totals.n as u64, totals.m as u64, 0, out);
+    let Measured { header, sizes } = measured;
+    let clauses = add_first_line(sizes.n as u64, sizes.m as u64, 0, out);
     let rules = add_variables(bytes, header.ints, header.bools, clauses, out);
     add_rules(bytes, header, rules, out)
 }
 
 // How many bytes the text has.
-fn text_length(bytes: &[u8], header: Header, totals: Totals) -> usize
-    requires { Opened bytes.now header × (totals ≡ totals_of (board_of bytes.now)) × Counts 0 (text_of (board_of bytes.now)) }
+fn text_length(bytes: &[u8], measured: Measured) -> usize
+    requires { Opened bytes.now measured.header × (measured.sizes ≡ totals_of (board_of bytes.now)) × Counts 0 (text_of (board_of bytes.now)) }
     ensures { result ≡ length (text_of (board_of bytes.now)) }
 {
     let mut nothing = [0u8; 0];
-    add_text(bytes, header, totals, &mut nothing)
+    add_text(bytes, measured, &mut nothing)
 }
 
 // Writes the text into the first bytes that are lent; a refusal leaves them as they were.
-pub fn write_text(bytes: &[u8], out: &mut [u8]) -> Texted
+pub fn write_text(bytes: &[u8], out: &mut [u8]) -> Result<usize, Refusal>
     ensures { Allowed bytes.now out.old result out.new }
 {
-    match measure(bytes) {
-        Measured::Accepted(header, totals) => {
-            let length = text_length(bytes, header, totals);
-            if out.len() < length {
-                Texted::Refused(Refusal::ListTooShort { wanted: length })
-            } else {
-                Texted::Length(add_text(bytes, header, totals, out))
-            }
-        }
-        Measured::Refused(r) => Texted::Refused(r),
+    let measured = measure(bytes)?;
+    let length = text_length(bytes, measured);
+    if out.len() < length {
+        return Err(Refusal::ListTooShort { wanted: length });
     }
+    Ok(add_text(bytes, measured, out))
 }

@@ -17,9 +17,8 @@ ghost use Rattle.write_text.specs.Adds.{Adds, Counts};
 
 use crate::comparisons::add_comparison;
 use crate::entries::add_first;
-use rules::{Ahead, Piece, next_piece, start};
+use rules::{Piece, next_piece, start};
 use slots::comparisons::ready;
-use walk::Front;
 use writing::lines::put_line;
 
 // 64 literals and 0.
@@ -56,7 +55,7 @@ fn add_piece(
         } => add_line(rules, place, literals, selectors + selector as u32, at, out),
         Piece::Lone { place, constant } => add_comparison(
             ready(bytes, firsts, rules, place, constant),
-            Front::Nothing,
+            None,
             at,
             out,
         ),
@@ -69,7 +68,7 @@ fn add_piece(
             let negated = -(number as i32);
             add_comparison(
                 ready(bytes, firsts, rules, place, constant),
-                Front::Literal(negated),
+                Some(negated),
                 at,
                 out,
             )
@@ -91,11 +90,9 @@ pub fn add_pieces(
 {
     let mut to = at;
     let mut cursor = start(clauses);
-    loop {
-        let Ahead::Met(piece, next) = next_piece(rules, cursor) else {
-            return to;
-        };
+    while let Some((piece, next)) = next_piece(rules, cursor) {
         to = add_piece(bytes, firsts, rules, selectors, piece, to, out);
         cursor = next;
     }
+    to
 }

@@ -7,13 +7,13 @@ ghost use Rattle.write_text.specs.Adds.{Adds, Counts};
 
 use crate::entries::add_entry;
 use walk::rows::onward;
-use walk::{Front, Row, Run};
+use walk::{Row, Run};
 
-fn add_front(front: Front, at: usize, out: &mut [u8]) -> usize
+fn add_front(front: Option<i32>, at: usize, out: &mut [u8]) -> usize
     requires { Counts at (entries (front_of front)) }
     ensures { Adds (entries (front_of front)) at out.old result out.new }
 {
-    let Front::Literal(literal) = front else {
+    let Some(literal) = front else {
         return at;
     };
     add_entry(literal, at, out)
@@ -29,7 +29,7 @@ fn add_pair(y: i32, z: i32, at: usize, out: &mut [u8]) -> usize
     add_entry(0, end, out)
 }
 
-fn add_fixed(lead: Front, front: Front, at: usize, out: &mut [u8]) -> usize
+fn add_fixed(lead: Option<i32>, front: Option<i32>, at: usize, out: &mut [u8]) -> usize
     requires { Counts at (entries (stays lead front)) }
     ensures { Adds (entries (stays lead front)) at out.old result out.new }
 {
@@ -37,7 +37,14 @@ fn add_fixed(lead: Front, front: Front, at: usize, out: &mut [u8]) -> usize
     add_front(front, place, out)
 }
 
-fn add_clause(lead: Front, front: Front, y: i32, z: i32, at: usize, out: &mut [u8]) -> usize
+fn add_clause(
+    lead: Option<i32>,
+    front: Option<i32>,
+    y: i32,
+    z: i32,
+    at: usize,
+    out: &mut [u8],
+) -> usize
     requires { Counts at (entries (clause (stays lead front ++ (y ∷ z ∷ [])))) }
     ensures { Adds (entries (clause (stays lead front ++ (y ∷ z ∷ [])))) at out.old result out.new }
 {
@@ -46,7 +53,7 @@ fn add_clause(lead: Front, front: Front, y: i32, z: i32, at: usize, out: &mut [u
 }
 
 // One clause, of fewer than two terms.
-fn add_short(lead: Front, front: Front, at: usize, out: &mut [u8]) -> usize
+fn add_short(lead: Option<i32>, front: Option<i32>, at: usize, out: &mut [u8]) -> usize
     requires { Counts at (entries (clause (stays lead front))) }
     ensures { Adds (entries (clause (stays lead front))) at out.old result out.new }
 {
@@ -54,7 +61,7 @@ fn add_short(lead: Front, front: Front, at: usize, out: &mut [u8]) -> usize
     add_entry(0, place, out)
 }
 
-fn add_run(lead: Front, run: Run, at: usize, out: &mut [u8]) -> usize
+fn add_run(lead: Option<i32>, run: Run, at: usize, out: &mut [u8]) -> usize
     requires { ReadyRun run × Counts at (entries (led lead (in_run run))) }
     ensures { Adds (entries (led lead (in_run run))) at out.old result out.new }
 {
@@ -71,7 +78,7 @@ fn add_run(lead: Front, run: Run, at: usize, out: &mut [u8]) -> usize
 }
 
 // The row's clauses, each under the lead.
-pub fn add_row(lead: Front, row: Row, at: usize, out: &mut [u8]) -> usize
+pub fn add_row(lead: Option<i32>, row: Row, at: usize, out: &mut [u8]) -> usize
     requires { Ready row × Counts at (entries (led lead (in_row row))) }
     ensures { Adds (entries (led lead (in_row row))) at out.old result out.new }
 {
