@@ -1,57 +1,42 @@
--- What is written before a writer lends the rest of its list. Assumes nothing.
-use Rattle.std.specs.Prelude.{Option, Some, None}
+-- The numbers of a row's clauses in their parts, and those of the tuples to come. Assumes nothing.
+use Rattle.std.proofs.Common.{FitsSigned, w32, to_z, of_z, to_z-of_z}
 use mathlib.Core.Path.{◌≡◌, refl, sym, ap, ap₂, ◌∙◌, subst}
 use mathlib.Core.List.{List, [], ◌∷◌, ◌++◌, map, flatten, map-append, append_assoc, append-nil}
 use Prim.Native.Nat.{ℕ, ◌+◌, ◌-◌, ◌≤◌, ◌<◌}
 use native.Mathlib.Omega.{arith}
 use lib.ListN.{length, drop, set}
 use lib.IntN.{ℤ, pos, ◌+ℤ◌, ◌-ℤ◌}
-use mir.Syntax.{w32}
-use mir.Val.{to_z, of_z}
 use Rattle.laws.specs.Limits.{numbers_limit}
+use Rattle.laws.specs.Signs.{plus_is, minus_is}
 use Rattle.laws.specs.Lists.{flatten-append}
-use Rattle.laws.specs.Written.{written}
 use Rattle.walk.specs.declared.Comparison.{Comparison}
 use Rattle.walk.specs.declared.Walk.{Walk}
+use Rattle.std.specs.Prelude.{Option, Some, None}
 use Rattle.walk.specs.declared.Spot.{Spot}
 use Rattle.walk.specs.declared.Run.{Run}
 use Rattle.walk.specs.Rows.{front_of, raised, lowered, in_run, ReadyRun, run-first, run_none, row_next}
 use Rattle.walk.specs.Comparisons.{to_come, none_left}
 use Rattle.walk.proofs.Runs.{raised_steady, lowered_steady}
-use Rattle.laws.specs.Signs.{plus_is, minus_is}
+use Rattle.definitions.specs.Tools.{neg}
+use Rattle.writing.specs.Axioms.{steps_from, axiom_numbers, steps_more}
 use Rattle.writing.specs.Numbers.{clause, flat, stays, led, led_none, led-more}
-use Rattle.writing.specs.Axioms.{steps_from, axiom_numbers}
-use Rattle.laws.specs.Filling.{Filling, begin, begun, one, three, ended}
 
--- the two unit clauses of a variable, before its steps
-abbrev pub headed : ℕ → ℕ → List ℤ → List ℤ
-headed i w o = set (set (set (set o 0 (to_z w32 (of_z w32 (pos 0 -ℤ to_z w32 i)))) 1 (pos 0)) 2 (to_z w32 (i + (w - 1)))) 3 (pos 0)
-
-pub units : (i w : ℕ) (o : List ℤ) → i + w < numbers_limit → length (axiom_numbers i w) ≤ length o
-    → Filling (axiom_numbers i w) (steps_from i (w - 1)) o (headed i w o) 4
-unfolding axiom_numbers
-units i w o h fit =
-    let u = minus_is i (omega arith) in
-    let v = plus_is (i + (w - 1)) (omega arith) in
-    let e = ap₂ (λ a b. a ∷ pos 0 ∷ b ∷ pos 0 ∷ steps_from i (w - 1)) (sym u) (sym v) in
-    one (one (one (one (begin _ _ o refl fit) _ _ e) (pos 0) _ refl) _ _ refl) (pos 0) _ refl
+-- what is said of two numbers that fit is said of them as words
+pub as_words : {y z : ℤ} (P : ℤ → ℤ → Type 0) → FitsSigned w32 y → FitsSigned w32 z → P y z → P (to_z w32 (of_z w32 y)) (to_z w32 (of_z w32 z))
+as_words {y} {z} P f g h = subst (λ u. P u (to_z w32 (of_z w32 z))) (sym (to_z-of_z f)) (subst (P y) (sym (to_z-of_z g)) h)
 
 -- ---- rows
-pub paired : (y z : ℤ) (o : List ℤ) → 3 ≤ length o → (3 ≡ length (clause (y ∷ z ∷ []))) × (set (set (set o 0 y) 1 z) 2 (pos 0) ≡ written (clause (y ∷ z ∷ [])) o)
+pub clause_behind : (fixed ls : List ℤ) → clause (fixed ++ ls) ≡ fixed ++ clause ls
 unfolding clause
-paired y z o h = ended (three (begin (y ∷ z ∷ pos 0 ∷ []) (y ∷ z ∷ pos 0 ∷ []) o refl h) y z (pos 0) [] refl) refl
+clause_behind fixed ls = append_assoc fixed ls (pos 0 ∷ [])
 
--- the literals that stay, before others, and before the clause's end
-module _ (fixed : List ℤ) (o out : List ℤ) (at : ℕ) (en : at ≡ length fixed) (ey : out ≡ written fixed o) where
-  pub staying : (ls : List ℤ) → length (clause (fixed ++ ls)) ≤ length o → Filling (clause (fixed ++ ls)) (clause ls) o out at
-  unfolding clause
-  staying ls fit =
-      let e = append_assoc fixed ls (pos 0 ∷ []) in
-      subst (λ all. Filling all (clause ls) o out at) (sym e) (begun fixed (clause ls) o out at (rw e at fit) en ey)
+pub clause_pair : (y z : ℤ) → clause (y ∷ z ∷ []) ≡ (y ∷ []) ++ ((z ∷ []) ++ (pos 0 ∷ []))
+unfolding clause
+clause_pair y z = refl
 
-  pub alone : length (clause fixed) ≤ length o → Filling (clause fixed) (pos 0 ∷ []) o out at
-  unfolding clause
-  alone fit = begun fixed (pos 0 ∷ []) o out at fit en ey
+pub clause_end : (fixed : List ℤ) → clause fixed ≡ fixed ++ (pos 0 ∷ [])
+unfolding clause
+clause_end fixed = refl
 
 led_next : (lead front : Option ℤ) (ls : List ℤ) (cs : List (List ℤ)) → led lead ((front_of front ++ ls) ∷ cs) ≡ clause (stays lead front ++ ls) ++ led lead cs
 led_next lead front ls cs = led-more lead (front_of front ++ ls) cs ∙ ap (λ l. clause l ++ led lead cs) (sym (append_assoc (front_of lead) (front_of front) ls))
@@ -103,3 +88,20 @@ module _ (c : Comparison) (lead : Option ℤ) (cur : Option Walk) where
   -- a row, and then the rest
   pub led_on : (w : Walk) → cur ≡ Some w → (row rest : List (List ℤ)) → to_come c (Some w) ≡ row ++ rest → led lead (to_come c cur) ≡ led lead row ++ led lead rest
   led_on w q row rest e = ap (led lead) (ap (to_come c) q ∙ e) ∙ led-append lead row rest
+
+-- ---- the axioms of a variable: two clauses of one literal, and its steps. The numbers are words
+abbrev pub negated : ℕ → ℤ
+negated i = to_z w32 (of_z w32 (pos 0 -ℤ to_z w32 i))
+
+-- n steps: the first, and m more
+pub steps_on : (i n m : ℕ) → n ≡ m + 1 → i + n < numbers_limit → steps_from i n ≡ clause (negated i ∷ to_z w32 (i + 1) ∷ []) ++ steps_from (i + 1) m
+unfolding clause
+steps_on i n m e h =
+    let k : n - 1 ≡ m = omega arith in
+    steps_more i n (omega arith)
+    ∙ ap₂ (λ u v. u ∷ v ∷ pos 0 ∷ steps_from (i + 1) (n - 1)) (sym (minus_is i (omega arith))) (sym (plus_is (i + 1) (omega arith)))
+    ∙ ap (λ j. negated i ∷ to_z w32 (i + 1) ∷ pos 0 ∷ steps_from (i + 1) j) k
+
+pub axioms_on : (i w : ℕ) → i + w < numbers_limit → axiom_numbers i w ≡ clause (negated i ∷ []) ++ (clause (to_z w32 (i + (w - 1)) ∷ []) ++ steps_from i (w - 1))
+unfolding clause axiom_numbers
+axioms_on i w h = ap₂ (λ a b. a ∷ pos 0 ∷ b ∷ pos 0 ∷ steps_from i (w - 1)) (sym (minus_is i (omega arith))) (sym (plus_is (i + (w - 1)) (omega arith)))
