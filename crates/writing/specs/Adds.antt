@@ -1,5 +1,5 @@
 -- Things of any kind that are added at a place of a lent list, and counted where it has no room. Assumes nothing.
---     nothing, retold, _then_
+--     nothing, retold, left_as, _then_
 --     put, no_room    what a callee put at the start of the rest of the list, and nothing
 use Rattle.std.specs.Prelude.{◌≡◌, refl, List, [], ◌∷◌, ◌++◌, ℕ, ◌+◌, ◌≤◌, ◌<◌, length, set, take, drop}
 use Rattle.std.proofs.Common.{sym, ap, ◌∙◌, subst, append_assoc, append-nil, arith, length-append, length-set, take-append-drop, take_at, drop_at, drop-drop, length-take-le}
@@ -30,6 +30,10 @@ module _ {A : Type 0} where
 
   pub retold : {t u : List A} → t ≡ u → {at : ℕ} {out : List A} {next : ℕ} {out' : List A} → Adds t at out next out' → Adds u at out next out'
   retold e {at} {out} {next} {out'} a = subst (λ l. Adds l at out next out') e a
+
+  -- the list is known by another name
+  pub left_as : {t : List A} {at : ℕ} {out : List A} {next : ℕ} {out' out'' : List A} → out'' ≡ out' → Adds t at out next out' → Adds t at out next out''
+  left_as {t} {at} {out} {next} e a = subst (Adds t at out next) (sym e) a
 
   -- text written over what it begins with
   over : (w f o : List A) → written (w ++ f) (written w o) ≡ written (w ++ f) o

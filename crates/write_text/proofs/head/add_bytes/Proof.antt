@@ -4,7 +4,7 @@ use native.Mathlib.Omega.{arith}
 use lib.ListN.{take}
 use lib.Seq.{length-take-le}
 use Rattle.laws.specs.Written.{rest-length}
-use Rattle.write_text.specs.Adds.{put, no_room}
+use Rattle.writing.specs.Adds.{put, no_room}
 use borrow.Author.Rules.{rules}
 use Rattle.write_text.proofs.head.add_bytes.Statement.{statement}
 use Rattle.write_text.proofs.head.add_bytes.Tie as tie

@@ -5,7 +5,7 @@ use lib.ListN.{length, take}
 use Rattle.definitions.specs.Dimacs.{ascii}
 use Rattle.text.specs.Puts.{put_text}
 use Rattle.text.specs.Lines.{line, line-length}
-use Rattle.write_text.specs.Adds.{retold}
+use Rattle.writing.specs.Adds.{retold}
 use borrow.Author.Rules.{rules}
 use Rattle.write_text.proofs.head.add_first_line.Statement.{statement}
 use Rattle.write_text.proofs.head.add_first_line.Tie as tie
