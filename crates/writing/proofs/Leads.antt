@@ -2,9 +2,9 @@
 use Rattle.std.proofs.Common.{FitsSigned, w32, to_z, of_z, to_z-of_z}
 use mathlib.Core.Path.{◌≡◌, refl, sym, ap, ap₂, ◌∙◌, subst}
 use mathlib.Core.List.{List, [], ◌∷◌, ◌++◌, map, flatten, map-append, append_assoc, append-nil}
-use Prim.Native.Nat.{ℕ, ◌+◌, ◌-◌, ◌≤◌, ◌<◌}
+use Prim.Native.Nat.{ℕ, ◌+◌, ◌-◌, ◌<◌}
 use native.Mathlib.Omega.{arith}
-use lib.ListN.{length, drop, set}
+use lib.ListN.{drop}
 use lib.IntN.{ℤ, pos, ◌+ℤ◌, ◌-ℤ◌}
 use Rattle.laws.specs.Limits.{numbers_limit}
 use Rattle.laws.specs.Signs.{plus_is, minus_is}
@@ -17,7 +17,6 @@ use Rattle.walk.specs.declared.Run.{Run}
 use Rattle.walk.specs.Rows.{front_of, raised, lowered, in_run, ReadyRun, run-first, run_none, row_next}
 use Rattle.walk.specs.Comparisons.{to_come, none_left}
 use Rattle.walk.proofs.Runs.{raised_steady, lowered_steady}
-use Rattle.definitions.specs.Tools.{neg}
 use Rattle.writing.specs.Axioms.{steps_from, axiom_numbers, steps_more}
 use Rattle.writing.specs.Numbers.{clause, flat, stays, led, led_none, led-more}
 

@@ -1,6 +1,6 @@
 -- What the numbers of clauses are added to, from a place on: the laws of it, a loop that adds part by part, and the two that there are,
 -- a lent list and lent bytes of text. Assumes nothing.
-use Rattle.std.specs.Prelude.{◌≡◌, refl, List, [], ◌∷◌, ◌++◌, ℕ, ◌+◌, ◌≤◌, ℤ, length, map, set, take}
+use Rattle.std.specs.Prelude.{◌≡◌, refl, List, [], ◌∷◌, ◌++◌, ℕ, ◌+◌, ◌≤◌, ℤ, length, map}
 use Rattle.std.specs.Borrow.{MutBor}
 use Rattle.std.proofs.Common.{sym, ap, ◌∙◌, subst, append_assoc, append-nil, arith, length-append}
 use mathlib.Core.List.{flatten, map-append}

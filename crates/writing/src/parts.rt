@@ -31,7 +31,9 @@ pub struct AsNumbers<'a> {
 
 impl Part for AsNumbers<'_> {
     ghost room = { λ s at xs. at + length xs ≤ length s.list.now };
+
     ghost adds = { λ xs at s n t. Adds xs at s.list.now n t.list.now × (t.list.ghost_name ≡ s.list.ghost_name) };
+
     ghost is = { list_is (λ s. s.list) };
 
     fn add(&mut self, number: i32, at: usize) -> usize {
@@ -61,7 +63,9 @@ pub struct AsText<'a> {
 
 impl Part for AsText<'_> {
     ghost room = { λ s at xs. Counts at (entries xs) };
+
     ghost adds = { λ xs at s n t. Adds (entries xs) at s.out.now n t.out.now × (t.out.ghost_name ≡ s.out.ghost_name) };
+
     ghost is = { text_is (λ s. s.out) };
 
     fn add(&mut self, number: i32, at: usize) -> usize {

@@ -16,8 +16,7 @@ slice_bounds-add_pieces-start g c = omega (arith, rules_inside c.requires.0)
 
 pub add_pieces-requires : goal.add_pieces-requires
 add_pieces-requires g c =
-    let o = c.requires.0 in
-    (
+    let o = c.requires.0 in (
       known o,
       c.put_firsts.ensures,
       clauses_is o,

@@ -4,7 +4,7 @@ use Rattle.laws.specs.Signs.{minus_fits}
 use Rattle.rules.specs.Cursors.{said_piece}
 use Rattle.slots.specs.Ready.{to_ready, is_ready}
 use Rattle.compile.specs.Lists.{piece_numbers}
-use Rattle.compile.proofs.Passes.{line-numbers, lone-numbers, led-words, line_read, few_selectors, held_at, few_at}
+use Rattle.compile.proofs.Passes.{line-numbers, lone-numbers, led-words, line_read, held_at, few_at}
 use Rattle.compile.proofs.pieces.put_piece.Goals as goal
 
 pub overflow_add-selectors : goal.overflow_add-selectors
@@ -13,8 +13,7 @@ overflow_add-selectors g c = omega (arith, few_at _ c.in-Line.is c.requires.0.op
 pub put_line-requires : goal.put_line-requires
 put_line-requires g c =
     let B = board_of c.args.bytes.now in
-    let e = c.in-Line.is in
-    (
+    let e = c.in-Line.is in (
       line_read _ c.requires.0.opens (held_at _ _ e c.requires.3),
       omega (arith, few_at _ e c.requires.0.opens c.requires.2 c.requires.4),
       subst (g.P.Part.room c.args.part.now c.args.at) (ap (λ p. piece_numbers B (said_piece c.args.rules.now p)) e ∙ sym (line-numbers B c.args.selectors c.requires.2 _ _)) c.requires.5,

@@ -1,6 +1,6 @@
 use Rattle.std.proofs.Common.{ap, arith, rules, ◌+◌, ◌≤◌, ◌∙◌, length}
 use Rattle.laws.specs.Boards.{board_of}
-use Rattle.laws.specs.Filling.{begin, room_before, room, room_for, part, ended}
+use Rattle.laws.specs.Filling.{begin, room_for, part, ended}
 use Rattle.laws.specs.Reread.{context_of}
 use Rattle.laws.specs.Written.{rest-length}
 use Rattle.rules.specs.Cursors.{said_piece, coming_at, Meets, meets, ends}

@@ -1,4 +1,4 @@
-use Rattle.std.proofs.Common.{refl, sym, ap, arith, ◌+◌, ◌<◌, ◌≡◌, ◌∙◌, length}
+use Rattle.std.proofs.Common.{refl, sym, ap, arith, ◌+◌, ◌<◌, ◌∙◌, length}
 use Rattle.laws.specs.Fits.{first-most, width-most, width-least}
 use Rattle.laws.specs.Boards.{board_of, opens_admitted}
 use Rattle.slots.specs.Variables.{first_none, first_more}
@@ -22,8 +22,7 @@ put_axioms-place-requires g c =
     let B = board_of c.args.bytes.now in
     let h : l.x < length B.bounds = omega (arith, c.requires.1) in
     let o = opens_admitted c.args.bytes.now c.requires.0 in
-    let b = c.bounds_of.ensures in
-    (
+    let b = c.bounds_of.ensures in (
       omega (arith, c.width_of-width.ensures, width-least _ b.good),
       omega (arith, c.width_of-width.ensures, width-most _ b.good, l.invariant.1, first-most B o l.x),
       first_room g.met.P.Part.is l.invariant.0 _ _ (axioms_next B o l.x h c.bounds_of.result l.first c.width_of-width.result b l.invariant.1 c.width_of-width.ensures),
@@ -39,8 +38,7 @@ loop-x-preserved g c =
     let B = board_of c.args.bytes.now in
     let h : l.x < length B.bounds = omega (arith, c.requires.1) in
     let o = opens_admitted c.args.bytes.now c.requires.0 in
-    let b = c.bounds_of.ensures in
-    (
+    let b = c.bounds_of.ensures in (
       on g.met.P.Part.is l.invariant.0 _ _ (axioms_next B o l.x h c.bounds_of.result l.first c.width_of-width.result b l.invariant.1 c.width_of-width.ensures) c.put_axioms-place.ensures,
       omega (arith, c.width_of-width.ensures, l.invariant.1, first_more B l.x c.bounds_of.result h b),
     )

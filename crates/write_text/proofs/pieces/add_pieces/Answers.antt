@@ -1,4 +1,4 @@
-use Rattle.std.proofs.Common.{ap, subst, sym, ◌∙◌}
+use Rattle.std.proofs.Common.{ap, ◌∙◌}
 use Rattle.laws.specs.Boards.{board_of}
 use Rattle.laws.specs.Reread.{context_of}
 use Rattle.rules.specs.Cursors.{Meets, meets, ends}

@@ -1,8 +1,7 @@
-use Rattle.std.proofs.Common.{[], ◌∷◌, ◌+◌, ◌-◌, arith, to_z, w32}
+use Rattle.std.proofs.Common.{◌-◌, arith}
 use Rattle.writing.specs.Axioms.{steps_from}
-use Rattle.writing.specs.Numbers.{clause}
 use Rattle.writing.specs.Parts.{front_room, rest_room, both}
-use Rattle.writing.proofs.Leads.{negated, axioms_on}
+use Rattle.writing.proofs.Leads.{axioms_on}
 use Rattle.writing.proofs.axioms.put_axioms.Goals as goal
 
 pub put_short-upper-requires : goal.put_short-upper-requires

@@ -1,4 +1,4 @@
-use Rattle.std.proofs.Common.{arith, ◌+◌, ◌-◌, ◌≡◌}
+use Rattle.std.proofs.Common.{arith, ◌+◌, ◌-◌}
 use Rattle.writing.specs.Axioms.{steps_none}
 use Rattle.writing.specs.Parts.{first_room, on, ended}
 use Rattle.writing.proofs.Leads.{steps_on}

@@ -1,5 +1,5 @@
-use Rattle.std.proofs.Common.{Some, ◌++◌, ap, arith, length, length-append, sym, subst, ◌∙◌, to_z-of_z}
-use Rattle.walk.specs.Comparisons.{Walking, to_come}
+use Rattle.std.proofs.Common.{◌++◌, ap, arith, length, length-append, sym, ◌∙◌}
+use Rattle.walk.specs.Comparisons.{to_come}
 use Rattle.walk.specs.Rows.{in_row, row_clauses, row_some}
 use Rattle.writing.specs.Parts.{begin, first_room, on, ended}
 use Rattle.writing.specs.Numbers.{led}

@@ -1,4 +1,4 @@
-use Rattle.std.proofs.Common.{arith, [], ◌∷◌, ◌+◌, ◌-◌, ◌<◌, ◌≡◌, ◌∙◌, ℕ, pos, refl, append-nil, to_z-of_z, w32}
+use Rattle.std.proofs.Common.{arith, [], ◌∷◌, ◌+◌, ◌-◌, ◌<◌, ◌≡◌, ◌∙◌, pos, refl, to_z-of_z, w32}
 use Rattle.writing.specs.Lines.{takes_few}
 use Rattle.writing.specs.Parts.{first_room, on, ended}
 use Rattle.writing.proofs.Literals.{there, small, rest_of, line_on, line-last}
@@ -25,8 +25,7 @@ loop-before-preserved g c =
     let m = c.args.n - (l._before + 1) in
     let e : c.args.n - l._before ≡ m + 1 = omega arith in
     let h : 0 < c.args.n - l._before = omega arith in
-    let v = to_z-of_z {w = w32} (record { sfits = c.number_of.type_inv }) ∙ c.number_of.ensures in
-    (
+    let v = to_z-of_z {w = w32} (record { sfits = c.number_of.type_inv }) ∙ c.number_of.ensures in (
       on g.met.P.Part.is l.invariant.0 _ _ (line_on h l.invariant.1 a m e l.number _ c.selectors_of-number.result v c.selectors_of-number.ensures) c.add-to.ensures,
       rest_of h l.invariant.1 a m e,
       omega (arith, l.invariant.2, c.selectors_of-number.ensures, takes_few c.literal_again-got.result.value),

@@ -1,4 +1,4 @@
-use Rattle.std.proofs.Common.{[], ◌∷◌, ◌++◌, pos, to_z-of_z, subst, sym}
+use Rattle.std.proofs.Common.{[], ◌∷◌, pos, to_z-of_z, subst, sym}
 use Rattle.writing.specs.Parts.{front_room, rest_room, both}
 use Rattle.writing.proofs.Leads.{clause_pair}
 use Rattle.writing.proofs.rows.put_pair.Goals as goal

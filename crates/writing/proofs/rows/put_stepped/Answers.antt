@@ -1,7 +1,7 @@
-use Rattle.std.proofs.Common.{List, ℤ, [], ◌∷◌, ◌++◌, ◌≡◌, ap, arith, drop, length, to_z-of_z, FitsSigned, w32}
+use Rattle.std.proofs.Common.{[], ◌∷◌, ◌++◌, ap, arith, length, to_z-of_z, FitsSigned, w32}
 use Rattle.laws.specs.Whole.{abs_fits}
-use Rattle.walk.specs.Rows.{in_run, run-first}
-use Rattle.writing.specs.Numbers.{clause, led, stays}
+use Rattle.walk.specs.Rows.{run-first}
+use Rattle.writing.specs.Numbers.{clause, stays}
 use Rattle.writing.specs.Parts.{first_room, on, ended}
 use Rattle.writing.proofs.Leads.{as_words, run_end, run_more}
 use Rattle.writing.proofs.rows.put_stepped.Goals as goal

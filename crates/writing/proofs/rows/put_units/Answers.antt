@@ -1,4 +1,4 @@
-use Rattle.std.proofs.Common.{List, ℤ, pos, ◌+ℤ◌, ◌-ℤ◌, ◌-◌, ap, arith, sym, subst, FitsSigned, w32, to_z}
+use Rattle.std.proofs.Common.{pos, ◌+ℤ◌, ◌-ℤ◌, ◌-◌, ap, arith, sym, subst, FitsSigned, w32, to_z}
 use Rattle.laws.specs.Whole.{abs_fits, abs_add, abs_sub}
 use Rattle.walk.specs.Rows.{in_run, ReadyRun}
 use Rattle.writing.specs.Numbers.{led}

@@ -1,4 +1,3 @@
-use Rattle.std.proofs.Common.{length}
 use Rattle.walk.specs.Rows.{in_run, ReadyRun}
 use Rattle.writing.specs.Numbers.{led}
 use Rattle.writing.specs.Parts.{Adding}

@@ -1,6 +1,5 @@
-use Rattle.std.proofs.Common.{refl, to_z-of_z, arith, ap, List, length, ℕ, ◌≡◌}
+use Rattle.std.proofs.Common.{refl, to_z-of_z, arith, ap, length}
 use Rattle.definitions.specs.Dimacs.{entry}
-use Rattle.text.specs.Entries.{entries}
 use Rattle.writing.specs.Adds.{retold, put, no_room}
 use Rattle.writing.specs.Parts.{entries-one}
 use Rattle.writing.proofs.parts.AsTextPart.add.Goals as goal
