@@ -1,11 +1,12 @@
 -- The passes over an accepted record's variables and over the pieces of its rules. Assumes nothing.
-use Rattle.std.specs.Prelude.{Some, None}
-use mathlib.Core.Path.{◌≡◌, refl, sym, ap, ap₂, ◌∙◌}
+use mathlib.Core.Path.{◌≡◌, refl, sym, ap, ap₂, subst, ◌∙◌}
 use mathlib.Core.List.{List, [], ◌∷◌, ◌++◌}
 use Prim.Native.Nat.{ℕ, ◌+◌, ◌≤◌, ◌<◌}
 use native.Mathlib.Omega.{arith}
 use lib.ListN.{length}
 use lib.IntN.{ℤ}
+use Rattle.std.proofs.Common.{to_z, of_z, w32, pos, ◌-ℤ◌}
+use Rattle.laws.specs.Signs.{minus_is}
 use Rattle.laws.specs.Limits.{selectors_limit, numbers_limit}
 use Rattle.definitions.specs.Tools.{neg}
 use Rattle.definitions.specs.Board.{Board, Clause, bounds_of}
@@ -25,10 +26,11 @@ use Rattle.laws.specs.Pieces.{line, under, piece_clauses}
 use Rattle.laws.specs.Again.{literals_at}
 use Rattle.rules.specs.declared.Cursor.{Cursor}
 use Rattle.rules.specs.declared.Piece as code
-use Rattle.rules.specs.Cursors.{said_piece, coming_at, Meets}
+use Rattle.rules.specs.Cursors.{said_piece, selectors_to, Held, coming_at, Meets}
 use Rattle.slots.specs.declared.Bounds.{Bounds}
 use Rattle.slots.specs.Variables.{bounds_read, BoundsOf, bounds_same}
 use Rattle.walk.specs.declared.Comparison.{Comparison}
+use Rattle.std.specs.Prelude.{Some, None}
 use Rattle.walk.specs.Comparisons.{Shows}
 use Rattle.writing.specs.Numbers.{numbers_of, numbers-append, under_lead, under_is}
 use Rattle.writing.specs.Axioms.{axiom_numbers, axioms_are}
@@ -59,6 +61,11 @@ module _ (B : Board) (n : ℕ) (e : n ≡ first B (length B.bounds)) where
   unfolding piece_numbers piece_clauses literal_number number first
   led-numbers j q c h = under_is B q c (Some (neg (n + j))) (minus (selector j) ∷ []) h (ap (λ k. neg (k + j) ∷ []) (sym e))
 
+  -- the negated selector is a word
+  pub led-words : (j : ℕ) (q : board.Comparison) (c : Comparison) → Shows B q c → n + (j + 1) < numbers_limit
+      → under_lead (Some (to_z w32 (of_z w32 (pos 0 -ℤ to_z w32 (n + j))))) c ≡ piece_numbers B (under (minus (selector j) ∷ []) q)
+  led-words j q c h f = ap (λ k. under_lead (Some k) c) (minus_is (n + j) (omega arith)) ∙ led-numbers j q c h
+
 pub lone-numbers : (B : Board) (q : board.Comparison) (c : Comparison) → Shows B q c → under_lead None c ≡ piece_numbers B (under [] q)
 unfolding piece_numbers piece_clauses
 lone-numbers B q c h = under_is B q c None [] h refl
@@ -70,6 +77,14 @@ module _ (s : List ℕ) (o : Opens s) where
 
   pub few_selectors : {n j : ℕ} → n ≡ first (board_of s) (length (board_of s).bounds) → j ≤ selectors_limit → n + j < numbers_limit
   few_selectors e h = omega (arith, first-most (board_of s) (opens_admitted s o) (length (board_of s).bounds))
+
+-- of a piece that a match has found
+pub held_at : (ctx : Context) (t : List ℕ) {p p' : code.Piece} → p ≡ p' → Held ctx t p → Held ctx t p'
+held_at ctx t e h = subst (Held ctx t) e h
+
+pub few_at : (s : List ℕ) {n : ℕ} {p p' : code.Piece} → p ≡ p' → Opens s → n ≡ first (board_of s) (length (board_of s).bounds) → selectors_to p ≤ selectors_limit
+    → n + selectors_to p' < numbers_limit
+few_at s e o f h = few_selectors s o f (subst (λ p. selectors_to p ≤ selectors_limit) e h)
 
 -- ---- a step of a pass
 module _ (B : Board) {ctx : Context} {t : List ℕ} {c : Cursor} where

@@ -15,29 +15,39 @@ use rules::{Piece, next_piece, start};
 use slots::comparisons::ready;
 use writing::comparisons::put_comparison;
 use writing::lines::put_line;
+use writing::parts::{AsNumbers, Part};
 
 // The number `selectors` is that of the first selector.
-fn put_piece(
+pub fn put_piece<P: Part>(
     bytes: &[u8],
     firsts: &[u32],
     rules: &[u8],
     selectors: u32,
     piece: Piece,
-    list: &mut [i32],
+    at: usize,
+    part: &mut P,
 ) -> usize
-    requires { Known bytes.now rules.now × FirstsOf (board_of bytes.now) firsts.now × (selectors ≡ first (board_of bytes.now) (length (board_of bytes.now).bounds)) × Held (context_of (board_of bytes.now)) rules.now piece × (selectors_to piece ≤ selectors_limit) × (length (piece_numbers (board_of bytes.now) (said_piece rules.now piece)) ≤ length list.old) }
-    ensures { (result ≡ length (piece_numbers (board_of bytes.now) (said_piece rules.now piece))) × (list.new ≡ written (piece_numbers (board_of bytes.now) (said_piece rules.now piece)) list.old) }
+    requires { Known bytes.now rules.now × FirstsOf (board_of bytes.now) firsts.now × (selectors ≡ first (board_of bytes.now) (length (board_of bytes.now).bounds)) × Held (context_of (board_of bytes.now)) rules.now piece × (selectors_to piece ≤ selectors_limit) × P.room part.old at (piece_numbers (board_of bytes.now) (said_piece rules.now piece)) }
+    ensures { P.adds (piece_numbers (board_of bytes.now) (said_piece rules.now piece)) at part.old result part.new }
 {
     match piece {
         Piece::Line {
             place,
             literals,
             selector,
-        } => put_line(rules, place, literals, selectors + selector as u32, list),
+        } => put_line(
+            rules,
+            place,
+            literals,
+            selectors + selector as u32,
+            at,
+            part,
+        ),
         Piece::Lone { place, constant } => put_comparison(
             ready(bytes, firsts, rules, place, constant),
             None,
-            list,
+            at,
+            part,
         ),
         Piece::Led {
             selector,
@@ -49,10 +59,27 @@ fn put_piece(
             put_comparison(
                 ready(bytes, firsts, rules, place, constant),
                 Some(negated),
-                list,
+                at,
+                part,
             )
         }
     }
+}
+
+// Into a list from its start on.
+fn put_first(
+    bytes: &[u8],
+    firsts: &[u32],
+    rules: &[u8],
+    selectors: u32,
+    piece: Piece,
+    list: &mut [i32],
+) -> usize
+    requires { Known bytes.now rules.now × FirstsOf (board_of bytes.now) firsts.now × (selectors ≡ first (board_of bytes.now) (length (board_of bytes.now).bounds)) × Held (context_of (board_of bytes.now)) rules.now piece × (selectors_to piece ≤ selectors_limit) × (length (piece_numbers (board_of bytes.now) (said_piece rules.now piece)) ≤ length list.old) }
+    ensures { (result ≡ length (piece_numbers (board_of bytes.now) (said_piece rules.now piece))) × (list.new ≡ written (piece_numbers (board_of bytes.now) (said_piece rules.now piece)) list.old) }
+{
+    let mut part = AsNumbers { list };
+    put_piece(bytes, firsts, rules, selectors, piece, 0, &mut part)
 }
 
 pub fn put_pieces(
@@ -69,7 +96,7 @@ pub fn put_pieces(
     let mut at: usize = 0;
     let mut cursor = start(clauses);
     while let Some((piece, next)) = next_piece(rules, cursor) {
-        at += put_piece(bytes, firsts, rules, selectors, piece, &mut list[at..]);
+        at += put_first(bytes, firsts, rules, selectors, piece, &mut list[at..]);
         cursor = next;
     }
     at

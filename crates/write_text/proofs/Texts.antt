@@ -12,7 +12,6 @@ use Rattle.definitions.specs.Result.{done, refused}
 use Rattle.definitions.specs.Operations.{accepted, sizes_of}
 use Rattle.definitions.specs.Dimacs.{ascii, shown}
 use Rattle.laws.specs.Boards.{board_of}
-use Rattle.laws.specs.Pieces.{pieces_from}
 use Rattle.laws.specs.Reread.{accepted-parts}
 use Rattle.laws.specs.Sizes.{K_is}
 use Rattle.laws.specs.Written.{written}
@@ -22,33 +21,19 @@ use Rattle.measure.specs.Said.{measured_of}
 use Rattle.measure.specs.Told.{Measures, measured, not_measured}
 use Rattle.text.specs.Lines.{line, lined, line-length}
 use Rattle.text.specs.Entries.{entries, entries-length}
-use Rattle.compile.specs.Lists.{axioms_from, pieces_numbers, whole_list}
 use Rattle.definitions.specs.TextOperations.{text_of, write_text_outcome}
-use Rattle.write_text.specs.Adds.{Counts}
-use Rattle.write_text.proofs.Parts.{entries-append}
+use Rattle.writing.specs.Adds.{Counts}
 
 -- ---- the parts
 module _ (B : Board) where
   abbrev pub first_line : List ℕ
   first_line = line (ascii "p cnf ") (N B) (M B)
 
-  abbrev pub axioms_text : List ℕ
-  axioms_text = entries (axioms_from B 0)
-
-  abbrev pub rules_text : List ℕ
-  rules_text = entries (pieces_numbers B (pieces_from 0 B.clauses))
-
-  text_list : text_of B ≡ first_line ++ entries (clause_list B)
+  pub text_list : text_of B ≡ first_line ++ entries (clause_list B)
   unfolding text_of shown sizes_of
   text_list =
       ap (λ l. l ++ entries (take (K B) (clause_list B))) (lined (ascii "p cnf ") (N B) (M B))
       ∙ ap (λ l. first_line ++ entries l) (take_all (K B) (clause_list B) (omega (arith, K_is B)))
-
-  pub text_is : text_of B ≡ first_line ++ (axioms_text ++ rules_text)
-  text_is =
-      text_list
-      ∙ ap (λ l. first_line ++ entries l) (whole_list B)
-      ∙ ap (λ t. first_line ++ t) (entries-append (axioms_from B 0) (pieces_numbers B (pieces_from 0 B.clauses)))
 
   pub text_counts : K B ≤ 2000000000 → Counts 0 (text_of B)
   text_counts h =

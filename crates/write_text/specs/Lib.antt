@@ -1,3 +1,1 @@
-pub mod Adds
-pub mod Lengths
 pub mod Outcome

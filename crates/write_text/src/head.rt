@@ -2,7 +2,7 @@
 ghost use Rattle.std.specs.Prelude.{◌≤◌, length, take};
 ghost use Rattle.definitions.specs.Dimacs.{ascii};
 ghost use Rattle.text.specs.Lines.{line};
-ghost use Rattle.write_text.specs.Adds.{Adds, Counts};
+ghost use Rattle.writing.specs.Adds.{Adds, Counts};
 
 use text::lines::{put_text_line, put_word};
 

@@ -3,36 +3,33 @@
 #![tactic(auto)]
 
 ghost use Rattle.std.specs.Prelude.{◌≡◌, length};
+ghost use Rattle.definitions.specs.Encoding.{clause_list};
 ghost use Rattle.laws.specs.Boards.{board_of};
 ghost use Rattle.laws.specs.Pieces.{pieces_from};
 ghost use Rattle.opening.specs.Headers.{Opened};
 ghost use Rattle.measure.specs.Said.{totals_of};
-ghost use Rattle.text.specs.Entries.{entries};
 ghost use Rattle.compile.specs.Lists.{pieces_numbers};
 ghost use Rattle.definitions.specs.TextOperations.{text_of};
-ghost use Rattle.write_text.specs.Adds.{Adds, Counts};
+ghost use Rattle.writing.specs.Adds.{Adds, Counts};
 ghost use Rattle.write_text.specs.Outcome.{Allowed};
 
-use crate::axioms::add_variables;
 use crate::head::add_first_line;
 use crate::pieces::add_pieces;
-use definitions::Refusal;
+use compile::variables::put_variables;
+use definitions::{Refusal, Sizes};
 use measure::{Measured, measure};
 use opening::Header;
 use slots::FIRSTS;
 use slots::variables::{first_in, put_firsts};
+use writing::parts::{AsText, Part};
 
-pub mod axioms; // axioms.rt: the axioms of all variables
-pub mod comparisons; // comparisons.rt: a comparison's clauses
-pub mod entries; // entries.rt: numbers of the clause list
 pub mod head; // head.rt: the first line
 pub mod pieces; // pieces.rt: the clauses of the rules, piece by piece
-pub mod rows; // rows.rt: a row of a comparison's clauses
 
 // The clauses of the rules, which stand in the record's tail.
-fn add_rules(bytes: &[u8], header: Header, at: usize, out: &mut [u8]) -> usize
-    requires { Opened bytes.now header × Counts at (entries (pieces_numbers (board_of bytes.now) (pieces_from 0 (board_of bytes.now).clauses))) }
-    ensures { Adds (entries (pieces_numbers (board_of bytes.now) (pieces_from 0 (board_of bytes.now).clauses))) at out.old result out.new }
+fn add_rules<P: Part>(bytes: &[u8], header: Header, at: usize, part: &mut P) -> usize
+    requires { Opened bytes.now header × P.room part.old at (pieces_numbers (board_of bytes.now) (pieces_from 0 (board_of bytes.now).clauses)) }
+    ensures { P.adds (pieces_numbers (board_of bytes.now) (pieces_from 0 (board_of bytes.now).clauses)) at part.old result part.new }
 {
     let tail = header.rules;
     let mut firsts = [0u32; FIRSTS];
@@ -45,38 +42,46 @@ fn add_rules(bytes: &[u8], header: Header, at: usize, out: &mut [u8]) -> usize
         header.clauses,
         selectors,
         at,
-        out,
+        part,
     )
 }
 
-// The first line, the axioms, the clauses of the rules.
-fn add_text(bytes: &[u8], measured: Measured, out: &mut [u8]) -> usize
-    requires { Opened bytes.now measured.header × (measured.sizes ≡ totals_of (board_of bytes.now)) × Counts 0 (text_of (board_of bytes.now)) }
+// The axioms, the clauses of the rules.
+fn add_clauses<P: Part>(bytes: &[u8], header: Header, at: usize, part: &mut P) -> usize
+    requires { Opened bytes.now header × P.room part.old at (clause_list (board_of bytes.now)) }
+    ensures { P.adds (clause_list (board_of bytes.now)) at part.old result part.new }
+{
+    let rules = put_variables(bytes, header.ints, header.bools, at, part);
+    add_rules(bytes, header, rules, part)
+}
+
+// The first line, the clauses.
+fn add_text(bytes: &[u8], header: Header, sizes: Sizes, out: &mut [u8]) -> usize
+    requires { Opened bytes.now header × (sizes ≡ totals_of (board_of bytes.now)) × Counts 0 (text_of (board_of bytes.now)) }
     ensures { Adds (text_of (board_of bytes.now)) 0 out.old result out.new }
 {
-    let Measured { header, sizes } = measured;
     let clauses = add_first_line(sizes.n as u64, sizes.m as u64, 0, out);
-    let rules = add_variables(bytes, header.ints, header.bools, clauses, out);
-    add_rules(bytes, header, rules, out)
+    let mut part = AsText { out };
+    add_clauses(bytes, header, clauses, &mut part)
 }
 
 // How many bytes the text has.
-fn text_length(bytes: &[u8], measured: Measured) -> usize
-    requires { Opened bytes.now measured.header × (measured.sizes ≡ totals_of (board_of bytes.now)) × Counts 0 (text_of (board_of bytes.now)) }
+fn text_length(bytes: &[u8], header: Header, sizes: Sizes) -> usize
+    requires { Opened bytes.now header × (sizes ≡ totals_of (board_of bytes.now)) × Counts 0 (text_of (board_of bytes.now)) }
     ensures { result ≡ length (text_of (board_of bytes.now)) }
 {
     let mut nothing = [0u8; 0];
-    add_text(bytes, measured, &mut nothing)
+    add_text(bytes, header, sizes, &mut nothing)
 }
 
 // Writes the text into the first bytes that are lent; a refusal leaves them as they were.
 pub fn write_text(bytes: &[u8], out: &mut [u8]) -> Result<usize, Refusal>
     ensures { Allowed bytes.now out.old result out.new }
 {
-    let measured = measure(bytes)?;
-    let length = text_length(bytes, measured);
+    let Measured { header, sizes } = measure(bytes)?;
+    let length = text_length(bytes, header, sizes);
     if out.len() < length {
         return Err(Refusal::ListTooShort { wanted: length });
     }
-    Ok(add_text(bytes, measured, out))
+    Ok(add_text(bytes, header, sizes, out))
 }

@@ -1,2 +1,2 @@
 pub mod Literals
-pub mod Parts
+pub mod Leads

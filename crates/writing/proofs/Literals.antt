@@ -1,9 +1,9 @@
 -- A literal that was read before, as a line meets it again. Assumes nothing.
-use mathlib.Core.Path.{◌≡◌, ap, ◌∙◌}
-use mathlib.Core.List.{List, [], ◌∷◌}
+use mathlib.Core.Path.{◌≡◌, sym, ap, ap₂, ◌∙◌, subst}
+use mathlib.Core.List.{List, [], ◌∷◌, ◌++◌}
 use Prim.Native.Nat.{ℕ, ◌+◌, ◌-◌, ◌<◌}
 use native.Mathlib.Omega.{arith}
-use lib.IntN.{pos, nat_abs}
+use lib.IntN.{ℤ, pos, nat_abs}
 use Rattle.laws.specs.Limits.{numbers_limit}
 use Rattle.laws.specs.Whole.{abs_neg}
 use Rattle.laws.specs.Again.{There, literal_read, literals_at, FirstLiteral, first_literal}
@@ -28,6 +28,21 @@ module _ {t : List ℕ} {n place : ℕ} (h : 0 < n) (l : LineRead t n place) whe
 
     pub line_first : (number : ℕ) → line_numbers number (literals_at t n place).value ≡ literal_here number r.value ∷ line_numbers (number + takes r.value) (literals_at t (n - 1) r.next).value
     line_first number = rw (first.joined, a.next, ← a.literal) (line-more t number r.value _)
+
+    -- m more are left, and v is its number
+    module _ (m : ℕ) (e : n ≡ m + 1) where
+      m_is : n - 1 ≡ m
+      m_is = omega arith
+
+      pub rest_of : LineRead t m r.next
+      rest_of = subst (λ k. LineRead t k r.next) m_is rest_read
+
+      pub line_on : (number : ℕ) (v : ℤ) (k : ℕ) → v ≡ literal_here number r.value → k ≡ takes r.value
+          → line_numbers number (literals_at t n place).value ≡ (v ∷ []) ++ line_numbers (number + k) (literals_at t m r.next).value
+      line_on number v k ev ek =
+          line_first number
+          ∙ ap₂ (λ w j. w ∷ line_numbers (number + j) (literals_at t (n - 1) r.next).value) (sym ev) (sym ek)
+          ∙ ap (λ j. v ∷ line_numbers (number + k) (literals_at t j r.next).value) m_is
 
     -- its number fits
     pub small : (number : ℕ) → number < numbers_limit → nat_abs (literal_here number r.value) < numbers_limit

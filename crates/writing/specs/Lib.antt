@@ -1,3 +1,6 @@
+pub mod Adds
+pub mod Parts
+pub mod Lengths
 pub mod Numbers
 pub mod Axioms
 pub mod Lines

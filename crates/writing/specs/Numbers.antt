@@ -1,5 +1,5 @@
 -- The numbers of clauses, as the writers have them and as the definitions do. Assumes nothing.
-use Rattle.std.specs.Prelude.{◌≡◌, refl, Bool, true, false, ◌+◌, length, ℤ, pos, ◌≤ℤ◌, ◌<ℤ◌, if◌then◌else◌, Option}
+use Rattle.std.specs.Prelude.{◌≡◌, refl, Option, Bool, true, false, ◌+◌, length, ℤ, pos, ◌≤ℤ◌, ◌<ℤ◌, if◌then◌else◌}
 use Rattle.std.proofs.Common.{sym, ap, ap₂, ◌∙◌, length-append}
 use mathlib.Core.List.{List, [], ◌∷◌, ◌++◌, map, flatten, zip_with, map-map, map-append, append-nil}
 use Rattle.std.specs.Int.Signed.{le_z}

@@ -1,33 +1,30 @@
 // The axioms of an integer variable, from its first number and how many order variables it has.
-ghost use Rattle.std.specs.Prelude.{◌≡◌, ◌+◌, ◌≤◌, ◌<◌, length};
+ghost use Rattle.std.specs.Prelude.{◌+◌, ◌<◌};
 ghost use Rattle.laws.specs.Limits.{numbers_limit};
-ghost use Rattle.laws.specs.Written.{written};
 ghost use Rattle.writing.specs.Axioms.{steps_from, axiom_numbers};
 
+use crate::parts::Part;
+use crate::rows::{put_pair, put_short};
+
 // From each order variable to the next: if x is at most c - 1, it is at most c.
-fn put_steps(first: u32, steps: u32, list: &mut [i32]) -> usize
-    requires { (first + steps < numbers_limit) × (length (steps_from first steps) ≤ length list.old) }
-    ensures { (result ≡ length (steps_from first steps)) × (list.new ≡ written (steps_from first steps) list.old) }
+fn put_steps<P: Part>(first: u32, steps: u32, at: usize, part: &mut P) -> usize
+    requires { (first + steps < numbers_limit) × P.room part.old at (steps_from first steps) }
+    ensures { P.adds (steps_from first steps) at part.old result part.new }
 {
-    let mut at: usize = 0;
+    let mut place = at;
     for number in first..first + steps {
-        list[at] = -(number as i32);
-        list[at + 1] = (number + 1) as i32;
-        list[at + 2] = 0;
-        at += 3;
+        place = put_pair(-(number as i32), (number + 1) as i32, place, part);
     }
-    at
+    place
 }
 
 // Not p(x, lower - 1); p(x, upper); then the steps between.
-pub fn put_axioms(first: u32, width: u32, list: &mut [i32]) -> usize
-    requires { (0 < width) × (first + width < numbers_limit) × (length (axiom_numbers first width) ≤ length list.old) }
-    ensures { (result ≡ length (axiom_numbers first width)) × (list.new ≡ written (axiom_numbers first width) list.old) }
+pub fn put_axioms<P: Part>(first: u32, width: u32, at: usize, part: &mut P) -> usize
+    requires { (0 < width) × (first + width < numbers_limit) × P.room part.old at (axiom_numbers first width) }
+    ensures { P.adds (axiom_numbers first width) at part.old result part.new }
 {
     let steps = width - 1;
-    list[0] = -(first as i32);
-    list[1] = 0;
-    list[2] = (first + steps) as i32;
-    list[3] = 0;
-    4 + put_steps(first, steps, &mut list[4..])
+    let upper = put_short(Some(-(first as i32)), None, at, part);
+    let between = put_short(Some((first + steps) as i32), None, upper, part);
+    put_steps(first, steps, between, part)
 }

@@ -1,10 +1,10 @@
 // The line of a clause: its Boolean literals and its comparisons' selectors.
-ghost use Rattle.std.specs.Prelude.{◌≡◌, ◌+◌, ◌≤◌, ◌<◌, nat_abs, length};
+ghost use Rattle.std.specs.Prelude.{◌≡◌, ◌+◌, ◌<◌, nat_abs};
 ghost use Rattle.laws.specs.Limits.{numbers_limit};
 ghost use Rattle.laws.specs.Again.{literals_at};
-ghost use Rattle.laws.specs.Written.{written};
 ghost use Rattle.writing.specs.Lines.{literal_here, takes, line_numbers, LineRead};
 
+use crate::parts::Part;
 use reader::Literal;
 use reader::rereading::literal_again;
 
@@ -31,19 +31,26 @@ fn selectors_of(literal: Literal) -> u32
 }
 
 // Of n literals that begin at a place of the rules; the first selector has the number given.
-pub fn put_line(rules: &[u8], place: usize, n: usize, selector: u32, list: &mut [i32]) -> usize
-    requires { LineRead rules.now n place × (selector + n < numbers_limit) × (length (line_numbers selector (literals_at rules.now n place).value) ≤ length list.old) }
-    ensures { (result ≡ length (line_numbers selector (literals_at rules.now n place).value)) × (list.new ≡ written (line_numbers selector (literals_at rules.now n place).value) list.old) }
+pub fn put_line<P: Part>(
+    rules: &[u8],
+    place: usize,
+    n: usize,
+    selector: u32,
+    at: usize,
+    part: &mut P,
+) -> usize
+    requires { LineRead rules.now n place × (selector + n < numbers_limit) × P.room part.old at (line_numbers selector (literals_at rules.now n place).value) }
+    ensures { P.adds (line_numbers selector (literals_at rules.now n place).value) at part.old result part.new }
 {
     let mut next_place = place;
     let mut number = selector;
-    for at in 0..n {
-        let read = literal_again(rules, next_place);
-        let literal = read.value;
-        list[at] = number_of(literal, number);
+    let mut to = at;
+    for _before in 0..n {
+        let got = literal_again(rules, next_place);
+        let literal = got.value;
+        to = part.add(number_of(literal, number), to);
         number += selectors_of(literal);
-        next_place = read.next;
+        next_place = got.next;
     }
-    list[n] = 0;
-    n + 1
+    part.add(0, to)
 }

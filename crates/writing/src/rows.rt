@@ -1,109 +1,116 @@
 // A row of a comparison's clauses: the literals of all terms but the last two stay, and those of the last two are stepped.
-ghost use Rattle.std.specs.Prelude.{◌≡◌, ◌+◌, ◌≤◌, ◌<◌, ◌∷◌, [], ◌++◌, length};
-ghost use Rattle.laws.specs.Written.{written};
+ghost use Rattle.std.specs.Prelude.{◌+◌, ◌<◌, ◌∷◌, [], ◌++◌};
 ghost use Rattle.walk.specs.Rows.{front_of, in_run, ReadyRun, in_row, Ready};
 ghost use Rattle.writing.specs.Numbers.{clause, led, stays};
 
+use crate::parts::Part;
 use walk::rows::onward;
 use walk::{Row, Run};
 
-fn put_front(front: Option<i32>, list: &mut [i32]) -> usize
-    requires { length (front_of front) ≤ length list.old }
-    ensures { (result ≡ length (front_of front)) × (list.new ≡ written (front_of front) list.old) }
+fn put_front<P: Part>(front: Option<i32>, at: usize, part: &mut P) -> usize
+    requires { P.room part.old at (front_of front) }
+    ensures { P.adds (front_of front) at part.old result part.new }
 {
     let Some(literal) = front else {
-        return 0;
+        return at;
     };
-    list[0] = literal;
-    1
+    part.add(literal, at)
 }
 
 // The last two terms' literals and 0.
-fn put_pair(y: i32, z: i32, list: &mut [i32]) -> usize
-    requires { 3 ≤ length list.old }
-    ensures { (result ≡ length (clause (y ∷ z ∷ []))) × (list.new ≡ written (clause (y ∷ z ∷ [])) list.old) }
+pub fn put_pair<P: Part>(y: i32, z: i32, at: usize, part: &mut P) -> usize
+    requires { P.room part.old at (clause (y ∷ z ∷ [])) }
+    ensures { P.adds (clause (y ∷ z ∷ [])) at part.old result part.new }
 {
-    list[0] = y;
-    list[1] = z;
-    list[2] = 0;
-    3
+    let second = part.add(y, at);
+    let end = part.add(z, second);
+    part.add(0, end)
 }
 
-fn put_fixed(lead: Option<i32>, front: Option<i32>, list: &mut [i32]) -> usize
-    requires { length (stays lead front) ≤ length list.old }
-    ensures { (result ≡ length (stays lead front)) × (list.new ≡ written (stays lead front) list.old) }
+fn put_fixed<P: Part>(lead: Option<i32>, front: Option<i32>, at: usize, part: &mut P) -> usize
+    requires { P.room part.old at (stays lead front) }
+    ensures { P.adds (stays lead front) at part.old result part.new }
 {
-    let at = put_front(lead, list);
-    at + put_front(front, &mut list[at..])
+    let place = put_front(lead, at, part);
+    put_front(front, place, part)
 }
 
-fn put_clause(lead: Option<i32>, front: Option<i32>, y: i32, z: i32, list: &mut [i32]) -> usize
-    requires { length (clause (stays lead front ++ (y ∷ z ∷ []))) ≤ length list.old }
-    ensures { (result ≡ length (clause (stays lead front ++ (y ∷ z ∷ [])))) × (list.new ≡ written (clause (stays lead front ++ (y ∷ z ∷ []))) list.old) }
+fn put_clause<P: Part>(
+    lead: Option<i32>,
+    front: Option<i32>,
+    y: i32,
+    z: i32,
+    at: usize,
+    part: &mut P,
+) -> usize
+    requires { P.room part.old at (clause (stays lead front ++ (y ∷ z ∷ []))) }
+    ensures { P.adds (clause (stays lead front ++ (y ∷ z ∷ []))) at part.old result part.new }
 {
-    let at = put_fixed(lead, front, list);
-    at + put_pair(y, z, &mut list[at..])
+    let place = put_fixed(lead, front, at, part);
+    put_pair(y, z, place, part)
 }
 
 // One clause, of fewer than two terms.
-fn put_short(lead: Option<i32>, front: Option<i32>, list: &mut [i32]) -> usize
-    requires { length (clause (stays lead front)) ≤ length list.old }
-    ensures { (result ≡ length (clause (stays lead front))) × (list.new ≡ written (clause (stays lead front)) list.old) }
+#[tactic(auto, unfolding(crate::specs::Numbers::clause))]
+pub fn put_short<P: Part>(lead: Option<i32>, front: Option<i32>, at: usize, part: &mut P) -> usize
+    requires { P.room part.old at (clause (stays lead front)) }
+    ensures { P.adds (clause (stays lead front)) at part.old result part.new }
 {
-    let at = put_fixed(lead, front, list);
-    list[at] = 0;
-    at + 1
+    let place = put_fixed(lead, front, at, part);
+    part.add(0, place)
 }
 
-fn put_stepped(lead: Option<i32>, run: Run, list: &mut [i32]) -> usize
-    requires { ReadyRun run × (length (led lead (in_run run)) ≤ length list.old) }
-    ensures { (result ≡ length (led lead (in_run run))) × (list.new ≡ written (led lead (in_run run)) list.old) }
+fn put_stepped<P: Part>(lead: Option<i32>, run: Run, at: usize, part: &mut P) -> usize
+    requires { ReadyRun run × P.room part.old at (led lead (in_run run)) }
+    ensures { P.adds (led lead (in_run run)) at part.old result part.new }
 {
-    let mut at: usize = 0;
+    let mut place = at;
     let mut rest = run;
     while 0 < rest.count {
         let front = rest.front;
         let y = rest.y;
         let z = rest.z;
-        at += put_clause(lead, front, y.literal, z.literal, &mut list[at..]);
+        place = put_clause(lead, front, y.literal, z.literal, place, part);
         rest = onward(rest);
     }
-    at
+    place
 }
 
 // Where both coefficients are 1 or -1, one literal rises with each clause, the other falls.
-fn put_units(lead: Option<i32>, run: Run, list: &mut [i32]) -> usize
-    requires { ReadyRun run × (run.y.d + run.z.d < 3) × (length (led lead (in_run run)) ≤ length list.old) }
-    ensures { (result ≡ length (led lead (in_run run))) × (list.new ≡ written (led lead (in_run run)) list.old) }
+fn put_units<P: Part>(lead: Option<i32>, run: Run, at: usize, part: &mut P) -> usize
+    requires { ReadyRun run × (run.y.d + run.z.d < 3) × P.room part.old at (led lead (in_run run)) }
+    ensures { P.adds (led lead (in_run run)) at part.old result part.new }
 {
     let front = run.front;
     let y = run.y;
     let z = run.z;
-    let mut at: usize = 0;
+    let mut place = at;
+    let mut left = run.count;
     let mut p = y.literal;
     let mut q = z.literal;
-    for _ in 0..run.count {
-        at += put_clause(lead, front, p, q, &mut list[at..]);
+    while 0 < left {
+        place = put_clause(lead, front, p, q, place, part);
         p += 1;
         q -= 1;
+        left -= 1;
     }
-    at
+    place
 }
 
 // The row's clauses, each under the lead.
-pub fn put_row(lead: Option<i32>, row: Row, list: &mut [i32]) -> usize
-    requires { Ready row × (length (led lead (in_row row)) ≤ length list.old) }
-    ensures { (result ≡ length (led lead (in_row row))) × (list.new ≡ written (led lead (in_row row)) list.old) }
+pub fn put_row<P: Part>(lead: Option<i32>, row: Row, at: usize, part: &mut P) -> usize
+    requires { Ready row × P.room part.old at (led lead (in_row row)) }
+    ensures { P.adds (led lead (in_row row)) at part.old result part.new }
 {
     match row {
-        Row::One(front) => put_short(lead, front, list),
+        Row::One(front) => put_short(lead, front, at, part),
         Row::Many(run) => {
             let y = run.y;
             let z = run.z;
             if y.d + z.d < 3 {
-                put_units(lead, run, list)
+                put_units(lead, run, at, part)
             } else {
-                put_stepped(lead, run, list)
+                put_stepped(lead, run, at, part)
             }
         }
     }

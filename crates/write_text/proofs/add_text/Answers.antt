@@ -1,40 +1,36 @@
--- The text has three parts.
-use Rattle.std.proofs.Common.{◌≡◌, ◌∙◌, refl, sym, ap, ◌++◌}
-use Rattle.definitions.specs.Board.{Board}
+use Rattle.std.proofs.Common.{List, ℕ, ◌++◌, ◌≡◌, ◌∙◌, ap, sym, arith, rules, length, length-append}
+use Rattle.definitions.specs.Encoding.{clause_list}
 use Rattle.definitions.specs.Dimacs.{ascii}
 use Rattle.definitions.specs.TextOperations.{text_of}
-use Rattle.definitions.specs.declared.Sizes.{Sizes}
 use Rattle.laws.specs.Boards.{board_of}
-use Rattle.measure.specs.Said.{totals_of}
-use Rattle.opening.specs.Headers.{ints_is, bools_is}
+use Rattle.text.specs.Entries.{entries}
 use Rattle.text.specs.Lines.{line}
-use Rattle.write_text.specs.Adds.{retold, ◌then◌, first_counts, then_counts}
-use Rattle.write_text.proofs.Texts.{axioms_text, rules_text, text_is}
+use Rattle.writing.specs.Adds.{retold, left_as, ◌then◌}
+use Rattle.write_text.proofs.Texts.{text_list}
 use Rattle.write_text.proofs.add_text.Goals as goal
+use Rattle.write_text.proofs.add_text.Goals.{Start}
 
-parts : (B : Board) (sizes : Sizes) → sizes ≡ totals_of B → text_of B ≡ line (ascii "p cnf ") sizes.n sizes.m ++ (axioms_text B ++ rules_text B)
-parts B sizes e = text_is B ∙ ap (λ t. line (ascii "p cnf ") t.n t.m ++ (axioms_text B ++ rules_text B)) (sym e)
+module _ (s : Start) where
+  abbrev head : List ℕ
+  head = line (ascii "p cnf ") s.args.sizes.n s.args.sizes.m
+
+  abbrev clauses : List ℕ
+  clauses = entries (clause_list (board_of s.args.bytes.now))
+
+  whole : text_of (board_of s.args.bytes.now) ≡ head ++ clauses
+  whole = text_list (board_of s.args.bytes.now) ∙ ap (λ t. line (ascii "p cnf ") t.n t.m ++ clauses) (sym s.requires.1)
 
 pub add_first_line-clauses-requires : goal.add_first_line-clauses-requires
 add_first_line-clauses-requires c =
-    let B = board_of c.args.bytes.now in
-    let sizes = c.args.measured.sizes in
-    first_counts 0 c.requires.2 (line (ascii "p cnf ") sizes.n sizes.m) (axioms_text B ++ rules_text B) (parts B sizes c.requires.1)
+    let s = (goal.at.add_first_line-clauses-requires c).Start in
+    omega (arith, c.requires.2, ap length (whole s), length-append (head s) (clauses s))
 
-pub add_variables-rules-requires : goal.add_variables-rules-requires
-add_variables-rules-requires c =
-    let o = c.requires.0 in
-    let B = board_of c.args.bytes.now in
-    let sizes = c.args.measured.sizes in
-    let behind = then_counts 0 c.requires.2 (line (ascii "p cnf ") sizes.n sizes.m) (axioms_text B ++ rules_text B) (parts B sizes c.requires.1) c.add_first_line-clauses.ensures in
-    (o.opens, ints_is o, bools_is o, first_counts _ behind (axioms_text B) (rules_text B) refl)
-
-pub add_rules-requires : goal.add_rules-requires
-add_rules-requires c =
-    let B = board_of c.args.bytes.now in
-    let sizes = c.args.measured.sizes in
-    let behind = then_counts 0 c.requires.2 (line (ascii "p cnf ") sizes.n sizes.m) (axioms_text B ++ rules_text B) (parts B sizes c.requires.1) c.add_first_line-clauses.ensures in
-    (c.requires.0, then_counts _ behind (axioms_text B) (rules_text B) refl c.add_variables-rules.ensures)
+pub add_clauses-requires : goal.add_clauses-requires
+add_clauses-requires c =
+    let s = (goal.at.add_clauses-requires c).Start in
+    (c.requires.0, omega (arith, c.requires.2, ap length (whole s), length-append (head s) (clauses s), c.add_first_line-clauses.ensures.place))
 
 pub returns : goal.returns
-returns c = retold (sym (parts (board_of c.args.bytes.now) c.args.measured.sizes c.requires.1)) (c.add_first_line-clauses.ensures then (c.add_variables-rules.ensures then c.add_rules.ensures))
+returns c =
+    let s = (goal.at.returns c).Start in
+    left_as (search rules) (retold (sym (whole s)) (c.add_first_line-clauses.ensures then c.add_clauses.ensures.0))

@@ -1,4 +1,3 @@
--- The pieces passed are written, and those at the cursor are to come.
 use Rattle.laws.specs.Boards.{board_of}
 use Rattle.laws.specs.Filling.{Filling}
 use Rattle.laws.specs.Pieces.{pieces_from}
@@ -9,8 +8,8 @@ use Rattle.compile.proofs.pieces.put_pieces.Given as goal
 
 abbrev pub invariant-loop-piece : goal.invariant-loop-piece
 invariant-loop-piece l =
-    let B = board_of l.bytes in
-    Sound (context_of B) l.rules l.cursor × Filling (pieces_numbers B (pieces_from 0 B.clauses)) (pieces_numbers B (coming_at l.rules l.cursor)) l.fn.list l.list l.at
+    Sound (context_of (board_of l.bytes)) l.rules l.cursor
+    × Filling (pieces_numbers (board_of l.bytes) (pieces_from 0 (board_of l.bytes).clauses)) (pieces_numbers (board_of l.bytes) (coming_at l.rules l.cursor)) l.fn.list l.list l.at
 
 abbrev pub decreases-loop-piece : goal.decreases-loop-piece
 decreases-loop-piece l = todo l.cursor

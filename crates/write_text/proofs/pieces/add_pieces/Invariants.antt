@@ -1,21 +1,23 @@
--- The pieces passed are added, and those at the cursor are to come.
-use Rattle.definitions.specs.Tools.{All}
 use Rattle.laws.specs.Boards.{board_of}
-use Rattle.laws.specs.Mentions as mentions
 use Rattle.laws.specs.Pieces.{pieces_from}
 use Rattle.laws.specs.Reread.{context_of}
 use Rattle.rules.specs.Cursors.{Sound, coming_at, todo}
-use Rattle.text.specs.Entries.{entries}
+use Rattle.writing.specs.Parts.{Adding}
 use Rattle.compile.specs.Lists.{pieces_numbers}
-use Rattle.write_text.specs.Adds.{Adding}
 use Rattle.write_text.proofs.pieces.add_pieces.Given as goal
 
 abbrev pub invariant-loop-piece : goal.invariant-loop-piece
-invariant-loop-piece l =
-    let B = board_of l.bytes in
-    Sound (context_of B) l.rules l.cursor
-    × Adding (entries (pieces_numbers B (pieces_from 0 B.clauses))) (entries (pieces_numbers B (coming_at l.rules l.cursor))) l.at l.fn.out l.to l.out
-    × All (mentions.Sound B) (coming_at l.rules l.cursor)
+invariant-loop-piece g l =
+    Sound (context_of (board_of l.bytes)) l.rules l.cursor
+    × Adding
+    g.P.Part.room
+    g.P.Part.adds
+    (pieces_numbers (board_of l.bytes) (pieces_from 0 (board_of l.bytes).clauses))
+    (pieces_numbers (board_of l.bytes) (coming_at l.rules l.cursor))
+    l.fn.at
+    l.fn.part
+    l.to
+    l.part
 
 abbrev pub decreases-loop-piece : goal.decreases-loop-piece
-decreases-loop-piece l = todo l.cursor
+decreases-loop-piece g l = todo l.cursor

@@ -1,9 +1,8 @@
--- The steps before `number` are written, and those from it on are to come.
-use Rattle.std.proofs.Common.{◌-◌}
-use Rattle.laws.specs.Filling.{Filling}
+use Rattle.std.proofs.Common.{◌+◌, ◌-◌}
 use Rattle.writing.specs.Axioms.{steps_from}
+use Rattle.writing.specs.Parts.{Adding}
 use Rattle.writing.proofs.axioms.put_steps.Given as goal
 
 abbrev pub invariant-loop-number : goal.invariant-loop-number
-invariant-loop-number l =
-    Filling (steps_from l.first l.steps) (steps_from l.number (l.number-end - l.number)) l.fn.list l.list l.at
+invariant-loop-number g l =
+    Adding g.P.Part.room g.P.Part.adds (steps_from l.fn.first l.fn.steps) (steps_from l.number (l.fn.first + l.fn.steps - l.number)) l.fn.at l.fn.part l.place l.part

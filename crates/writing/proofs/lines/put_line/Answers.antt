@@ -1,49 +1,43 @@
--- A turn writes the next literal's number; behind the last one the line ends.
-use Rattle.std.proofs.Common.{◌≡◌, ◌∙◌, refl, sym, ap, ap₂, subst, ◌+◌, ◌-◌, ◌<◌, [], ◌∷◌, pos, length, set, arith, rules, to_z-of_z}
-use Rattle.std.specs.Int.{w32}
-use Rattle.laws.specs.Again.{literals_at}
-use Rattle.laws.specs.Written.{written}
-use Rattle.laws.specs.Filling.{begin, room, ended, one}
-use Rattle.writing.specs.Lines.{takes_few, line_numbers}
-use Rattle.writing.proofs.Literals.{line-last, there, rest_read, line_first, small}
+use Rattle.std.proofs.Common.{arith, [], ◌∷◌, ◌+◌, ◌-◌, ◌<◌, ◌≡◌, ◌∙◌, pos, refl, to_z-of_z, w32}
+use Rattle.writing.specs.Lines.{takes_few}
+use Rattle.writing.specs.Parts.{first_room, on, ended}
+use Rattle.writing.proofs.Literals.{there, small, rest_of, line_on, line-last}
 use Rattle.writing.proofs.lines.put_line.Goals as goal
 
-pub loop-at-init : goal.loop-at-init
-loop-at-init c =
-    let all : c.args.n - 0 ≡ c.args.n = omega arith in
-    rw all (begin _ _ _ refl c.requires.2, c.requires.0, omega arith)
-
-pub literal_again-read-requires : goal.literal_again-read-requires
-literal_again-read-requires c = there (omega arith) c.loop-at.invariant.1
+pub literal_again-got-requires : goal.literal_again-got-requires
+literal_again-got-requires g c = there (omega arith) c.loop-before.invariant.1
 
 pub number_of-requires : goal.number_of-requires
-number_of-requires c = small (omega arith) c.loop-at.invariant.1 c.literal_again-read.ensures c.loop-at.number (omega arith)
+number_of-requires g c =
+    let l = c.loop-before in
+    small (omega arith) l.invariant.1 c.literal_again-got.ensures l.number (omega (arith, l.invariant.2))
 
-pub bounds-list-at : goal.bounds-list-at
-bounds-list-at c = omega (arith, room c.loop-at.invariant.0, ap length (line_first (omega arith) c.loop-at.invariant.1 c.literal_again-read.ensures c.loop-at.number))
+pub add-to-requires : goal.add-to-requires
+add-to-requires g c =
+    let l = c.loop-before in
+    let v = to_z-of_z {w = w32} (record { sfits = c.number_of.type_inv }) ∙ c.number_of.ensures in
+    first_room g.met.P.Part.is l.invariant.0 _ _ (line_on (omega arith) l.invariant.1 c.literal_again-got.ensures (c.args.n - (l._before + 1)) (omega arith) l.number _ _ v refl)
 
-pub loop-at-preserved : goal.loop-at-preserved
-loop-at-preserved c =
-    let l = c.loop-at in
-    let read = c.literal_again-read in
-    let some : 0 < c.args.n - l.at = omega arith in
-    let fewer : c.args.n - (l.at + 1) ≡ c.args.n - l.at - 1 = omega arith in
-    let number = to_z-of_z {w = w32} (search rules) ∙ c.number_of.ensures in
-    let behind = ap₂ (λ z k. z ∷ line_numbers (l.number + k) (literals_at c.args.rules.now (c.args.n - l.at - 1) read.result.next).value) (sym number) (sym c.selectors_of-number.ensures) in (
-      rw fewer (one l.invariant.0 _ _ (line_first some l.invariant.1 read.ensures l.number ∙ behind)),
-      rw fewer (rest_read some l.invariant.1 read.ensures),
-      omega (arith, takes_few read.result.value),
+pub loop-before-preserved : goal.loop-before-preserved
+loop-before-preserved g c =
+    let l = c.loop-before in
+    let a = c.literal_again-got.ensures in
+    let m = c.args.n - (l._before + 1) in
+    let e : c.args.n - l._before ≡ m + 1 = omega arith in
+    let h : 0 < c.args.n - l._before = omega arith in
+    let v = to_z-of_z {w = w32} (record { sfits = c.number_of.type_inv }) ∙ c.number_of.ensures in (
+      on g.met.P.Part.is l.invariant.0 _ _ (line_on h l.invariant.1 a m e l.number _ c.selectors_of-number.result v c.selectors_of-number.ensures) c.add-to.ensures,
+      rest_of h l.invariant.1 a m e,
+      omega (arith, l.invariant.2, c.selectors_of-number.ensures, takes_few c.literal_again-got.result.value),
     )
 
-pub slice_set_of-list : goal.slice_set_of-list
-slice_set_of-list c =
-    let l = c.loop-at in
-    omega (arith, room l.invariant.0, ap length (line-last c.args.rules.now (c.args.n - l.at) l.next_place l.number (omega arith)))
+pub add-requires : goal.add-requires
+add-requires g c =
+    let l = c.loop-before in
+    first_room g.met.P.Part.is l.invariant.0 (pos 0 ∷ []) [] (line-last c.args.rules.now _ l.next_place l.number (omega arith))
 
 pub returns : goal.returns
-returns c =
-    let l = c.loop-at in
-    let all = line_numbers c.args.selector (literals_at c.args.rules.now c.args.n c.args.place).value in
-    let end : l.at ≡ c.args.n = omega arith in
-    subst (λ k. (k + 1 ≡ length all) × (set l.list k (pos 0) ≡ written all c.args.list.now)) end
-    (ended (one l.invariant.0 (pos 0) [] (line-last c.args.rules.now (c.args.n - l.at) l.next_place l.number (omega arith))) refl)
+returns g c =
+    let l = c.loop-before in
+    let L = g.met.P.Part.is in
+    ended L (on L l.invariant.0 (pos 0 ∷ []) [] (line-last c.args.rules.now _ l.next_place l.number (omega arith)) c.add.ensures) refl

@@ -1,13 +1,20 @@
--- The literals read so far are written, and those from the next place on are to come.
-use Rattle.std.proofs.Common.{◌+◌, ◌-◌, ◌≤◌}
+use Rattle.std.proofs.Common.{◌+◌, ◌-◌, ◌<◌}
 use Rattle.laws.specs.Again.{literals_at}
-use Rattle.laws.specs.Filling.{Filling}
+use Rattle.laws.specs.Limits.{numbers_limit}
 use Rattle.writing.specs.Lines.{line_numbers, LineRead}
+use Rattle.writing.specs.Parts.{Adding}
 use Rattle.writing.proofs.lines.put_line.Given as goal
 
-abbrev pub invariant-loop-at : goal.invariant-loop-at
-invariant-loop-at l =
-    let left = l.n - l.at in
-    Filling (line_numbers l.selector (literals_at l.rules l.n l.place).value) (line_numbers l.number (literals_at l.rules left l.next_place).value) l.fn.list l.list l.at
-    × LineRead l.rules left l.next_place
-    × (l.number + left ≤ l.selector + l.n)
+abbrev pub invariant-loop-before : goal.invariant-loop-before
+invariant-loop-before g l =
+    Adding
+    g.P.Part.room
+    g.P.Part.adds
+    (line_numbers l.fn.selector (literals_at l.rules l.fn.n l.fn.place).value)
+    (line_numbers l.number (literals_at l.rules (l.fn.n - l._before) l.next_place).value)
+    l.fn.at
+    l.fn.part
+    l.to
+    l.part
+    × LineRead l.rules (l.fn.n - l._before) l.next_place
+    × (l.number + (l.fn.n - l._before) < numbers_limit)

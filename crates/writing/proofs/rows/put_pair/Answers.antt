@@ -1,8 +1,33 @@
--- Three numbers are written.
-use Rattle.std.proofs.Common.{to_z-of_z}
-use Rattle.writing.proofs.Parts.{paired}
+use Rattle.std.proofs.Common.{[], ◌∷◌, pos, to_z-of_z, subst, sym}
+use Rattle.writing.specs.Parts.{front_room, rest_room, both}
+use Rattle.writing.proofs.Leads.{clause_pair}
 use Rattle.writing.proofs.rows.put_pair.Goals as goal
 
+-- the numbers in their three parts
+pub add-second-requires : goal.add-second-requires
+add-second-requires g c = subst (λ y. g.P.Part.room c.args.part.now c.args.at (y ∷ [])) (sym (to_z-of_z c.ranges.y)) (front_room g.met.P.Part.is _ _ (clause_pair c.args.y c.args.z) c.requires)
+
+pub add-end-requires : goal.add-end-requires
+add-end-requires g c =
+    let L = g.met.P.Part.is in
+    let f = c.ranges.y in
+    let a = simp to_z-of_z at c.add-second.ensures in
+    subst (λ z. g.P.Part.room c.add-second.new.self c.add-second.result (z ∷ [])) (sym (to_z-of_z c.ranges.z)) (L.front (c.args.z ∷ []) (pos 0 ∷ []) _ _ (rest_room L (c.args.y ∷ []) _ (clause_pair c.args.y c.args.z) c.requires a))
+
+pub add-requires : goal.add-requires
+add-requires g c =
+    let L = g.met.P.Part.is in
+    let f = c.ranges.y in
+    let h = c.ranges.z in
+    let a = simp to_z-of_z at c.add-second.ensures in
+    let b = simp to_z-of_z at c.add-end.ensures in
+    L.behind (c.args.z ∷ []) (pos 0 ∷ []) _ _ _ _ (rest_room L (c.args.y ∷ []) _ (clause_pair c.args.y c.args.z) c.requires a) b
+
 pub returns : goal.returns
-returns c =
-    let y = c.ranges.y in let z = c.ranges.z in simp to_z-of_z (paired c.args.y c.args.z c.args.list.now c.requires)
+returns g c =
+    let L = g.met.P.Part.is in
+    let f = c.ranges.y in
+    let h = c.ranges.z in
+    let a = simp to_z-of_z at c.add-second.ensures in
+    let b = simp to_z-of_z at c.add-end.ensures in
+    both L (c.args.y ∷ []) _ (clause_pair c.args.y c.args.z) a (L.joined (c.args.z ∷ []) (pos 0 ∷ []) _ _ _ _ _ _ b c.add.ensures)
