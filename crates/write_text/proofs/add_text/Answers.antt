@@ -15,20 +15,20 @@ module _ (s : Start) where
   head = line (ascii "p cnf ") s.args.sizes.n s.args.sizes.m
 
   abbrev clauses : List ℕ
-  clauses = entries (clause_list (board_of s.args.bytes.now))
+  clauses = entries (clause_list (board_of s.args.opened.now))
 
-  whole : text_of (board_of s.args.bytes.now) ≡ head ++ clauses
-  whole = text_list (board_of s.args.bytes.now) ∙ ap (λ t. line (ascii "p cnf ") t.n t.m ++ clauses) (sym s.requires.1)
+  whole : text_of (board_of s.args.opened.now) ≡ head ++ clauses
+  whole = text_list (board_of s.args.opened.now) ∙ ap (λ t. line (ascii "p cnf ") t.n t.m ++ clauses) (sym s.requires.0)
 
 pub add_first_line-clauses-requires : goal.add_first_line-clauses-requires
 add_first_line-clauses-requires c =
     let s = (goal.at.add_first_line-clauses-requires c).Start in
-    omega (arith, c.requires.2, ap length (whole s), length-append (head s) (clauses s))
+    omega (arith, c.requires.1, ap length (whole s), length-append (head s) (clauses s))
 
 pub add_clauses-requires : goal.add_clauses-requires
 add_clauses-requires c =
     let s = (goal.at.add_clauses-requires c).Start in
-    (c.requires.0, omega (arith, c.requires.2, ap length (whole s), length-append (head s) (clauses s), c.add_first_line-clauses.ensures.place))
+    omega (arith, c.requires.1, ap length (whole s), length-append (head s) (clauses s), c.add_first_line-clauses.ensures.place)
 
 pub returns : goal.returns
 returns c =

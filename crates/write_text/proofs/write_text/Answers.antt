@@ -6,27 +6,29 @@ use Rattle.writing.specs.Adds.{all_held}
 use Rattle.write_text.proofs.Texts.{counted, too_short, texted, unmeasured}
 use Rattle.write_text.proofs.write_text.Goals as goal
 
-pub returns-in_err-header : goal.returns-in_err-header
-returns-in_err-header c =
+pub returns-in_err-measured : goal.returns-in_err-measured
+returns-in_err-measured c =
     let p = err_from_is_err_and c.from_residual.result c.from_residual.ensures.1 in
-    rw (p.1, p.2) (unmeasured _ _ _ _ (sym c.in_err-header.ensures))
+    rw (p.1, p.2) (unmeasured _ _ _ _ (sym c.in_err-measured.ensures))
 
 pub text_length-length-requires : goal.text_length-length-requires
 text_length-length-requires c =
-    let e = sym c.in_ok-header.ensures in
+    let e = sym c.in_ok-measured.ensures in
     let m = measured c.args.bytes.now e in
-    (m.opened, m.totals, counted c.args.bytes.now c.args.out.now _ e)
+    rw m.bytes (m.totals, counted c.args.bytes.now c.args.out.now _ e)
 
 pub returns-then-out-length : goal.returns-then-out-length
-returns-then-out-length c = too_short _ _ _ (sym c.in_ok-header.ensures) _ c.text_length-length.ensures c.if-out-length.true
+returns-then-out-length c = too_short _ _ _ (sym c.in_ok-measured.ensures) _ (rw (measured c.args.bytes.now (sym c.in_ok-measured.ensures)).bytes at c.text_length-length.ensures) c.if-out-length.true
 
 pub add_text-requires : goal.add_text-requires
 add_text-requires c =
-    let e = sym c.in_ok-header.ensures in
+    let e = sym c.in_ok-measured.ensures in
     let m = measured c.args.bytes.now e in
-    (m.opened, m.totals, counted c.args.bytes.now c.args.out.now _ e)
+    rw m.bytes (m.totals, counted c.args.bytes.now c.args.out.now _ e)
 
 pub returns : goal.returns
 returns c =
-    let t = c.add_text.ensures in
-    texted _ _ _ (sym c.in_ok-header.ensures) (omega (arith, c.text_length-length.ensures)) _ _ (omega (arith, t.place)) (all_held t (omega (arith, c.text_length-length.ensures)))
+    let b = (measured c.args.bytes.now (sym c.in_ok-measured.ensures)).bytes in
+    let t = rw b at c.add_text.ensures in
+    let n = rw b at c.text_length-length.ensures in
+    texted _ _ _ (sym c.in_ok-measured.ensures) (omega (arith, n)) _ _ (omega (arith, t.place)) (all_held t (omega (arith, n)))

@@ -7,4 +7,4 @@ use Rattle.compile.proofs.variables.put_variables.Given as goal
 
 abbrev pub invariant-loop-x : goal.invariant-loop-x
 invariant-loop-x g l =
-    Adding g.P.Part.room g.P.Part.adds (axioms_from (board_of l.bytes) 0) (axioms_from (board_of l.bytes) l.x) l.fn.at l.fn.part l.place l.part × (l.first ≡ encoding.first (board_of l.bytes) l.x)
+    Adding g.P.Part.room g.P.Part.adds (axioms_from (board_of l.opened) 0) (axioms_from (board_of l.opened) l.x) l.fn.at l.fn.part l.place l.part × (l.first ≡ encoding.first (board_of l.opened) l.x)

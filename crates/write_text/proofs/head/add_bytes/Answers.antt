@@ -1,7 +1,7 @@
 -- The bytes are put where they have room.
 use Rattle.std.proofs.Common.{take, arith}
 use Rattle.std.proofs.Math.Seq.{length-take-le}
-use Rattle.write_text.specs.Adds.{put}
+use Rattle.writing.specs.Adds.{put}
 use Rattle.write_text.proofs.head.add_bytes.Goals as goal
 
 pub returns : goal.returns

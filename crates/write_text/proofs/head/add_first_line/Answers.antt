@@ -3,7 +3,7 @@ use Rattle.std.proofs.Common.{◌≡◌, ap, length, take, arith}
 use Rattle.definitions.specs.Dimacs.{ascii}
 use Rattle.text.specs.Puts.{put_text}
 use Rattle.text.specs.Lines.{line, line-length}
-use Rattle.write_text.specs.Adds.{retold}
+use Rattle.writing.specs.Adds.{retold}
 use Rattle.write_text.proofs.head.add_first_line.Goals as goal
 use Rattle.write_text.proofs.head.add_first_line.Goals.{After-put_text_line-k}
 

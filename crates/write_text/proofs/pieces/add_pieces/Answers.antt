@@ -1,41 +1,44 @@
+-- Each piece's numbers are added behind those before.
 use Rattle.std.proofs.Common.{ap, ◌∙◌}
 use Rattle.laws.specs.Boards.{board_of}
-use Rattle.laws.specs.Reread.{context_of}
-use Rattle.rules.specs.Cursors.{Meets, meets, ends}
-use Rattle.rules.specs.Known.{starts, all-coming}
+use Rattle.rules.specs.Passes as passes
+use Rattle.rules.specs.Passes.{begun, all_coming, callable, met, further}
 use Rattle.writing.specs.Parts.{begin, first_room, on, ended}
 use Rattle.compile.specs.Lists.{pieces_numbers, pieces_end}
 use Rattle.compile.proofs.Passes.{numbers_met}
 use Rattle.write_text.proofs.pieces.add_pieces.Goals as goal
 
+pub loop-piece-init-derived : goal.loop-piece-init-derived
+loop-piece-init-derived g c =
+    let s = rw c.record.ensures.bytes at c.pieces-piece-items.ensures in
+    rw c.into_iter-piece-iterator.ensures.into_iter_gives (callable _ c.pieces-piece-items.result (begun _ c.pieces-piece-items.result s.opens s.rules s.start), tt)
+
 pub loop-piece-init : goal.loop-piece-init
 loop-piece-init g c =
-    let k = c.requires.0 in
-    let B = board_of c.args.bytes.now in
-    rw c.start-cursor.ensures (starts k c.requires.2, begin g.met.P.Part.is c.args.at c.args.part.now (ap (pieces_numbers B) (all-coming k c.requires.2)) c.requires.4)
+    let s = rw c.record.ensures.bytes at c.pieces-piece-items.ensures in
+    let p = c.pieces-piece-items.result in
+    rw c.into_iter-piece-iterator.ensures.into_iter_gives (record {
+      passing = begun _ p s.opens s.rules s.start;
+      adding = begin g.met.P.Part.is c.args.at c.args.part.now (ap (pieces_numbers (board_of c.args.numbered.now)) (all_coming _ p s.opens s.rules s.start)) c.requires;
+    })
 
 pub put_piece-to-requires : goal.put_piece-to-requires
 put_piece-to-requires g c =
     let l = c.loop-piece in
-    let B = board_of c.args.bytes.now in
-    let m : Meets (context_of B) c.args.rules.now l.cursor c.in-Some.piece c.in-Some.next = meets _ _ _ (c.next_piece.ensures _ l.invariant.0) c.in-Some.is in
-    (c.requires.0, c.requires.1, c.requires.3, m.held, m.few, first_room g.met.P.Part.is l.invariant.1 _ _ (numbers_met B m))
-
-pub loop-piece-smaller : goal.loop-piece-smaller
-loop-piece-smaller g c =
-    let l = c.loop-piece in
-    let m : Meets (context_of (board_of c.args.bytes.now)) c.args.rules.now l.cursor c.in-Some.piece c.in-Some.next = meets _ _ _ (c.next_piece.ensures _ l.invariant.0) c.in-Some.is in
-    m.onward.less
+    let m = met c.args.numbered.now l.piece-iterator l.invariant.passing c.next.new.self _ c.next.ensures.steps _ c.in-Some.is in
+    (m.held, m.few, first_room g.met.P.Part.is l.invariant.adding _ _ (numbers_met (board_of c.args.numbered.now) m))
 
 pub loop-piece-preserved : goal.loop-piece-preserved
 loop-piece-preserved g c =
     let l = c.loop-piece in
-    let B = board_of c.args.bytes.now in
-    let m : Meets (context_of B) c.args.rules.now l.cursor c.in-Some.piece c.in-Some.next = meets _ _ _ (c.next_piece.ensures _ l.invariant.0) c.in-Some.is in
-    (m.onward.sound, on g.met.P.Part.is l.invariant.1 _ _ (numbers_met B m) c.put_piece-to.ensures)
+    let m = met c.args.numbered.now l.piece-iterator l.invariant.passing c.next.new.self _ c.next.ensures.steps _ c.in-Some.is in
+    record {
+      passing = further _ l.piece-iterator l.invariant.passing c.next.new.self _ c.next.ensures.steps _ c.in-Some.is;
+      adding = on g.met.P.Part.is l.invariant.adding _ _ (numbers_met (board_of c.args.numbered.now) m) c.put_piece-to.ensures;
+    }
 
 pub returns : goal.returns
 returns g c =
     let l = c.loop-piece in
-    let B = board_of c.args.bytes.now in
-    ended g.met.P.Part.is l.invariant.1 (ap (pieces_numbers B) (ends _ _ _ (c.next_piece.ensures _ l.invariant.0) c.in_default.is) ∙ pieces_end B)
+    let B = board_of c.args.numbered.now in
+    ended g.met.P.Part.is l.invariant.adding (ap (pieces_numbers B) (passes.ended _ l.piece-iterator l.invariant.passing c.next.new.self _ c.next.ensures.steps c.in-None.is) ∙ pieces_end B)
