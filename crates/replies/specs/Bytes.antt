@@ -9,8 +9,6 @@ use Rattle.definitions.specs.Texts.{blank, most}
 use Rattle.definitions.specs.TextReading.{digit, Number, whole, begun, grown}
 use Rattle.laws.specs.Stepping.{num}
 use Rattle.replies.specs.Parts.{word_at, count_from, count_at, number_from, number_at, Found, ends, holds, found_from}
-use Rattle.replies.specs.declared.Count.{Count}
-use Rattle.replies.specs.Said.{CountIn}
 
 pub via : {A : Type 0} {x y z : A} → x ≡ y → x ≡ z → y ≡ z
 via p q = sym p ∙ q
@@ -135,10 +133,6 @@ module _ (t : List ℕ) (at : ℕ) (h : length t ≤ at) where
   pub found_end : (N : ℕ) (room : Bool) → found_from N room at (drop at t) ≡ done (ends at)
   found_end N room = rw (nothing_left t at h)
 
--- what a call ensures of its result, where a match has told which case the result is
-pub told : {A B : Type 0} (f : A → B) {x y : A} {z : B} → f x ≡ z → x ≡ y → z ≡ f y
-told f p q = sym p ∙ ap f q
-
 -- what a value was made of, and where there was none
 pub record Made {A B : Type 0} (f : A → B) (m : Result A) (b : B) : Type 0 where
   pub from : A
@@ -152,7 +146,3 @@ made_by f (refused n d) e = never e
 pub made_not : {A B : Type 0} (f : A → B) (m : Result A) {n d : ℕ} → (m >>= λ a. done (f a)) ≡ refused n d → m ≡ refused n d
 made_not f (done a) e = never (sym e)
 made_not f (refused n d) {n = n'} e = let r = refusal_is e in ap (λ x. refused x d) r.0 ∙ ap (refused n') r.1
-
-pub count_sooner : (from : ℕ) (t : List ℕ) (r : Count) → CountIn (from + 1) t r → CountIn from t r
-count_sooner from t (Count.Value v next) h = (omega (arith, h.0), h.1)
-count_sooner from t (Count.Bad d) h = tt

@@ -15,10 +15,7 @@ use Rattle.definitions.specs.TextReading.{Number, number_read, whole, begun, gro
 use Rattle.definitions.specs.TextOperations.{often}
 use Rattle.laws.specs.Stepping.{num, cases}
 use Rattle.demands.specs.Reached.{value-size}
-use Rattle.replies.specs.declared.Value.{Value}
-use Rattle.replies.specs.declared.Heard.{Heard}
 use Rattle.replies.specs.Parts.{word_at, number_from, number_at, reply_from, nothing, Taken, last, more, after_number, number_on, value_at, wanted, lines, in_order, Summary, without, literals, summed, none_at, model_at, literals_of, literals_from, HasModel}
-use Rattle.replies.specs.Said.{ValueIn, said_heard, HeardIn}
 use Rattle.replies.specs.Bytes.{nothing_left, first_of, second_of}
 use Rattle.replies.specs.Texts.{from_step, word_parts}
 
@@ -67,11 +64,6 @@ module _ (N at : ℕ) (t : List ℕ) where
 
 pub number_none : (N : ℕ) (t : List ℕ) (at : ℕ) → length t ≤ at → number_on N at (drop at t) ≡ refused 18 at
 number_none N t at h = rw (nothing_left t at h)
-
-pub value_sooner : (from at : ℕ) (t : List ℕ) (r : Value) → from ≤ at → ValueIn at t r → ValueIn from t r
-value_sooner from at t (Value.Literal minus size line next) l h = (omega (arith, h.0), h.1)
-value_sooner from at t Value.Last l h = tt
-value_sooner from at t (Value.Bad d) l h = tt
 
 -- ---- all of them
 over-parts : (r : Reply) (at : ℕ) (t : List ℕ) → reply_from (over r) at t ≡ nothing r at t
@@ -169,16 +161,15 @@ order_snoc k (n ∷ ns) z =
 -- what is read so far of a reply's literals
 pub record Passed (N from : ℕ) (line : Bool) (at : ℕ) (t : List ℕ) : Type 0 where
   pub ns : List ℤ
-  pub inside : at ≤ length t
   pub goes : reply_from (wanted N ns line) at (drop at t) ≡ reply_from (lines N) from (drop from t)
 
 module _ (N from : ℕ) (t : List ℕ) where
-  unfoldable pub passed_none : from ≤ length t → Passed N from true from t
-  passed_none h = record { ns = []; inside = h; goes = refl }
+  unfoldable pub passed_none : Passed N from true from t
+  passed_none = record { ns = []; goes = refl }
 
   module _ {line : Bool} {at : ℕ} (k : Passed N from line at t) where
-    unfoldable pub passed_more : {z : ℤ} {begins : Bool} {next : ℕ} → value_at N line at (drop at t) ≡ done (more z begins next (drop next t)) → next ≤ length t → Passed N from begins next t
-    passed_more {z} f m = record { ns = k.ns ++ (z ∷ []); inside = m; goes = sym (taken_is N k.ns line at (drop at t) f) ∙ k.goes }
+    unfoldable pub passed_more : {z : ℤ} {begins : Bool} {next : ℕ} → value_at N line at (drop at t) ≡ done (more z begins next (drop next t)) → Passed N from begins next t
+    passed_more {z} f = record { ns = k.ns ++ (z ∷ []); goes = sym (taken_is N k.ns line at (drop at t) f) ∙ k.goes }
 
     pub passed_all : value_at N line at (drop at t) ≡ done last → reply_from (lines N) from (drop from t) ≡ done (model k.ns)
     passed_all f = sym k.goes ∙ taken_is N k.ns line at (drop at t) f
@@ -194,21 +185,21 @@ pub record Literals (N from : ℕ) (line : Bool) (count : ℕ) (rising : Bool) (
   pub short : count ≤ at
 
 module _ (N from : ℕ) (t : List ℕ) where
-  pub literals_none : from ≤ length t → Literals N from true 0 true from t
+  pub literals_none : Literals N from true 0 true from t
   unfolding passed_none
-  literals_none h = record { passed = passed_none N from t h; long = refl; order = refl; short = omega arith }
+  literals_none = record { passed = passed_none N from t; long = refl; order = refl; short = omega arith }
 
   module _ {line : Bool} {count : ℕ} {rising : Bool} {at : ℕ} (k : Literals N from line count rising at t) where
     pub literals-more : (minus : Bool) (size : ℕ) (begins : Bool) (next : ℕ) (rises : Bool)
-        → value_at N line at (drop at t) ≡ done (more (number_read (num 0 minus size)) begins next (drop next t)) → at < next → next ≤ length t
+        → value_at N line at (drop at t) ≡ done (more (number_read (num 0 minus size)) begins next (drop next t)) → at < next
         → rises ≡ (rising && eqb size (count + 1)) → Literals N from begins (count + 1) rises next t
     unfolding passed_more
-    literals-more minus size begins next rises f l m r =
+    literals-more minus size begins next rises f l r =
         let z = number_read (num 0 minus size) in
         let ns = k.passed.ns in
         let e : 1 + length ns ≡ count + 1 = omega (arith, k.long) in
         record {
-          passed = passed_more N from t k.passed f m;
+          passed = passed_more N from t k.passed f;
           long = omega (arith, length-append ns (z ∷ []), k.long);
           order = order_snoc 1 ns z
               ∙ ap (λ a. a && eqb (nat_abs z) (1 + length ns)) k.order
@@ -233,15 +224,15 @@ pub record Passing {A : Type 0} (f : List ℤ → A) (N from : ℕ) (line : Bool
   pub held : now ≡ f passed.ns
 
 module _ {A : Type 0} (f : List ℤ → A) (N from : ℕ) (t : List ℕ) where
-  pub passing_none : {now : A} → from ≤ length t → now ≡ f [] → Passing f N from true from t now
+  pub passing_none : {now : A} → now ≡ f [] → Passing f N from true from t now
   unfolding passed_none
-  passing_none h e = record { passed = passed_none N from t h; held = e }
+  passing_none e = record { passed = passed_none N from t; held = e }
 
   module _ {line : Bool} {at : ℕ} {now : A} (k : Passing f N from line at t now) where
-    pub passing-more : {z : ℤ} {begins : Bool} {next : ℕ} {after : A} → value_at N line at (drop at t) ≡ done (more z begins next (drop next t)) → next ≤ length t
+    pub passing-more : {z : ℤ} {begins : Bool} {next : ℕ} {after : A} → value_at N line at (drop at t) ≡ done (more z begins next (drop next t))
         → ((ns : List ℤ) → now ≡ f ns → after ≡ f (ns ++ (z ∷ []))) → Passing f N from begins next t after
     unfolding passed_more
-    passing-more h m e = record { passed = passed_more N from t k.passed h m; held = e k.passed.ns k.held }
+    passing-more h e = record { passed = passed_more N from t k.passed h; held = e k.passed.ns k.held }
 
     pub passing-all : value_at N line at (drop at t) ≡ done last → now ≡ f (literals_from N from t)
     passing-all h = k.held ∙ ap (λ m. f (literals_of m)) (sym (passed_all N from t k.passed h))
@@ -250,20 +241,7 @@ module _ {A : Type 0} (f : List ℤ → A) (N from : ℕ) (t : List ℕ) where
     passing-bad g h = never (sym (passed_bad N from t k.passed h) ∙ g.is)
 
 -- ---- a whole reply
-no_literals : {B : Type 0} {count : ℕ} {rising : Bool} (w : Result (ℕ × List ℕ)) → done (literals count rising) ≡ summed (w >>= λ p. nothing unsatisfiable p.0 p.1) → B
-no_literals (refused n d) e = never (sym e)
-no_literals {B} {count} {rising} (done p) e = go p.1 e
-  where
-    go : (u : List ℕ) → done (literals count rising) ≡ summed (nothing unsatisfiable p.0 u) → B
-    go [] e = absurd (let z : ◌≡◌ {A = ℕ} 0 1 = cc in omega arith)
-    go (b ∷ u) e = never (sym e)
-
 module _ (at : ℕ) (t : List ℕ) where
-  pub none_in : (N : ℕ) (s : List ℕ) (m : Result Reply) (r : Heard) → said_heard r ≡ summed (none_at at t) → HeardIn N s m r
-  none_in N s m Heard.Nothing e = tt
-  none_in N s m (Heard.Literals from count rising) e = no_literals (word_at (ascii "UNSATISFIABLE\n") at t) e
-  none_in N s m (Heard.Bad d) e = tt
-
   pub none_wrong : {n d : ℕ} → word_at (ascii "UNSATISFIABLE\n") at t ≡ refused n d → refused n d ≡ summed (none_at at t)
   none_wrong h = sym (ap summed (ap (λ m. m >>= λ p. nothing unsatisfiable p.0 p.1) h))
 
