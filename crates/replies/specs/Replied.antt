@@ -318,10 +318,14 @@ module _ (N : ℕ) (t : List ℕ) where
         let is : drop next t ≡ 85 ∷ drop (suc next) t = drop-cons t next 0 l ∙ ap (λ b. b ∷ drop (suc next) t) e in
         ap summed (ap (none_at next) is ∙ sym (judged_none N next (drop (suc next) t)) ∙ ap (judged N next) (sym is) ∙ sym reply-on)
 
-    pub reply-model : next < length t → (get_or t next 0 ≡ 85 → ⊥) → model_at N next (drop next t) ≡ read_reply N t
-    reply-model l e =
-        let is = drop-cons t next 0 l in
-        ap (model_at N next) is ∙ sym (judged-model N next (get_or t next 0) (drop (suc next) t) e) ∙ ap (judged N next) (sym is) ∙ sym reply-on
+    pub reply-model : (next < length t → get_or t next 0 ≡ 85 → ⊥) → model_at N next (drop next t) ≡ read_reply N t
+    reply-model e = elim (cases (ltb next (length t))) [
+      | inl k ↦ (let l = ltb-true next (length t) k in
+          let is = drop-cons t next 0 l in
+          ap (model_at N next) is ∙ sym (judged-model N next (get_or t next 0) (drop (suc next) t) (e l)) ∙ ap (judged N next) (sym is) ∙ sym reply-on)
+      | inr k ↦ (let is = nothing_left t next (ltb-false next (length t) k) in
+          ap (model_at N next) is ∙ ap (refused 18) (sym (add-zero next)) ∙ ap (judged N next) (sym is) ∙ sym reply-on)
+    ]
 
 -- ---- literals of k, k + 1, .. in order: each variable of them stands there once
 often-before : (k v : ℕ) (ns : List ℤ) → in_order k ns ≡ true → v < k → often v ns ≡ 0

@@ -1,5 +1,5 @@
 // A whole reply.
-ghost use Rattle.std.specs.Prelude.{◌≡◌, ◌<◌, length, drop, IfOk};
+ghost use Rattle.std.specs.Prelude.{◌≡◌, ◌≤◌, length, drop, IfOk};
 ghost use Rattle.definitions.specs.TextReading.{read_reply};
 ghost use Rattle.replies.specs.Parts.{summed, none_at, model_at};
 ghost use Rattle.replies.specs.Said.{said_nothing, said_model, ModelIn, said_heard, HeardIn};
@@ -19,7 +19,7 @@ fn no_model(text: &[u8], from: usize) -> Result<(), Bad>
 }
 
 fn a_model(text: &[u8], n: u32, at: usize) -> Result<Heard, Bad>
-    requires { at < length text.now }
+    requires { at ≤ length text.now }
     ensures says { said_model result ≡ summed (model_at n at (drop at text.now)) }
     ensures lines { IfOk result (ModelIn n text.now (model_at n at (drop at text.now))) }
 {
@@ -34,15 +34,10 @@ pub fn check_reply(text: &[u8], n: u32) -> Result<Option<Heard>, Bad>
     ensures lines { IfOk result (HeardIn n text.now (read_reply n text.now)) }
 {
     let next = word_at(text, b"s ", 0)?;
-    match text.get(next) {
-        Some(b'U') => {
-            no_model(text, next)?;
-            Ok(None)
-        }
-        Some(_) => {
-            let heard = a_model(text, n, next)?;
-            Ok(Some(heard))
-        }
-        None => Err(Bad { place: next }),
+    if next < text.len() && text[next] == b'U' {
+        no_model(text, next)?;
+        return Ok(None);
     }
+    let heard = a_model(text, n, next)?;
+    Ok(Some(heard))
 }

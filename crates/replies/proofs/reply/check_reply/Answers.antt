@@ -1,6 +1,8 @@
-use Rattle.std.proofs.Common.{drop, sym, ap, ◌∙◌, subst, rules, arith}
+use Rattle.std.proofs.Common.{◌≡◌, ◌<◌, length, get_or, sym, ap, ◌∙◌, subst, rules}
 use Rattle.std.proofs.lemmas.Result.{err_from_is_err_and}
-use Rattle.replies.specs.Replied.{reply_wrong, reply_ends, reply_none, reply-model}
+use Rattle.replies.specs.Parts.{summed}
+use Rattle.replies.specs.Said.{ModelIn}
+use Rattle.replies.specs.Replied.{reply_wrong, reply_none, reply-model}
 use Rattle.replies.proofs.reply.check_reply.Goals as goal
 
 pub returns-in_err-next-clause-says : goal.returns-in_err-next-clause-says
@@ -8,23 +10,24 @@ returns-in_err-next-clause-says c =
     let p = err_from_is_err_and c.from_residual.result c.from_residual.ensures.1 in
     rw (p.1, p.2) (reply_wrong c.args.n c.args.text.now (sym c.in_err-next.ensures.says))
 
-pub returns-in-None-clause-says : goal.returns-in-None-clause-says
-returns-in-None-clause-says c = reply_ends c.args.n c.args.text.now (sym c.in_ok-next.ensures.says) (search rules)
+pub returns-in_err-no_model-clause-says : goal.returns-in_err-no_model-clause-says
+returns-in_err-no_model-clause-says c =
+    let p = err_from_is_err_and c.from_residual-in_err-no_model.result c.from_residual-in_err-no_model.ensures.1 in
+    rw (p.1, p.2) (c.in_err-no_model.ensures ∙ reply_none c.args.n c.args.text.now (sym c.in_ok-next.ensures.says) c.if-next-text.true c.if-text-next-eq85.true)
 
-pub returns-in_err-no_model-in-Some-eq85-clause-says : goal.returns-in_err-no_model-in-Some-eq85-clause-says
-returns-in_err-no_model-in-Some-eq85-clause-says c =
-    let p = err_from_is_err_and c.from_residual-in_err-no_model-in-Some-eq85.result c.from_residual-in_err-no_model-in-Some-eq85.ensures.1 in
-    rw (p.1, p.2) (c.in_err-no_model-in-Some-eq85.ensures ∙ reply_none c.args.n c.args.text.now (sym c.in_ok-next.ensures.says) (search rules) (search rules))
+pub returns-then-text-next-eq85-clause-says : goal.returns-then-text-next-eq85-clause-says
+returns-then-text-next-eq85-clause-says c =
+    c.in_ok-no_model.ensures ∙ reply_none c.args.n c.args.text.now (sym c.in_ok-next.ensures.says) c.if-next-text.true c.if-text-next-eq85.true
 
-pub returns-in_ok-no_model-in-Some-eq85-clause-says : goal.returns-in_ok-no_model-in-Some-eq85-clause-says
-returns-in_ok-no_model-in-Some-eq85-clause-says c =
-    c.in_ok-no_model-in-Some-eq85.ensures ∙ reply_none c.args.n c.args.text.now (sym c.in_ok-next.ensures.says) (search rules) (search rules)
+pub returns-in_err-heard-clause-says : goal.returns-in_err-heard-clause-says
+returns-in_err-heard-clause-says c =
+    let p = err_from_is_err_and c.from_residual-in_err-heard.result c.from_residual-in_err-heard.ensures.1 in
+    rw (p.1, p.2) (c.in_err-heard.ensures.says ∙ ap summed (reply-model c.args.n c.args.text.now (sym c.in_ok-next.ensures.says) (search rules)))
 
-pub returns-in_err-heard-in-Some-clause-says : goal.returns-in_err-heard-in-Some-clause-says
-returns-in_err-heard-in-Some-clause-says c = let h = c.in-Some.ensures.lookup in let i = c.in-Some.field-0-test in let j = c.in-Some.field-0-is in ?
+pub returns-clause-says : goal.returns-clause-says
+returns-clause-says c = c.in_ok-heard.ensures.says ∙ ap summed (reply-model c.args.n c.args.text.now (sym c.in_ok-next.ensures.says) (search rules))
 
-pub returns-in_ok-heard-in-Some-clause-says : goal.returns-in_ok-heard-in-Some-clause-says
-returns-in_ok-heard-in-Some-clause-says c = ?
-
-pub returns-in_ok-heard-in-Some-clause-lines : goal.returns-in_ok-heard-in-Some-clause-lines
-returns-in_ok-heard-in-Some-clause-lines c = ?
+pub returns-clause-lines : goal.returns-clause-lines
+returns-clause-lines c =
+    let whole = reply-model c.args.n c.args.text.now (sym c.in_ok-next.ensures.says) (search rules) in
+    subst (λ m. ModelIn c.args.n c.args.text.now m c.in_ok-heard.heard) whole c.in_ok-heard.ensures.lines
