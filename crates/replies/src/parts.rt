@@ -14,10 +14,7 @@ pub fn word_at(text: &[u8], word: &[u8], from: usize) -> Result<usize, Bad>
 {
     let mut at = from;
     for letter in word {
-        if text.len() <= at {
-            return Err(Bad { place: at });
-        }
-        if text[at] != *letter {
+        if text.len() <= at || text[at] != *letter {
             return Err(Bad { place: at });
         }
         at += 1;

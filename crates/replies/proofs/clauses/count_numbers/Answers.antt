@@ -1,12 +1,10 @@
 use Rattle.std.proofs.Common.{sym}
-use Rattle.std.proofs.lemmas.Result.{err_from_is_err_and}
 use Rattle.replies.specs.Texts.{counts_more, counts_bad, counts_all, counts_short}
+use Rattle.replies.proofs.Exits.{bad_exit}
 use Rattle.replies.proofs.clauses.count_numbers.Goals as goal
 
 pub returns-in_err-got : goal.returns-in_err-got
-returns-in_err-got c =
-    let p = err_from_is_err_and c.from_residual.result c.from_residual.ensures.1 in
-    rw (p.1, p.2) (counts_bad _ _ _ _ c.loop-got.invariant _ (sym c.in_err-got.ensures.says))
+returns-in_err-got c = bad_exit _ _ c.from_residual.ensures.1 (counts_bad _ _ _ _ c.loop-got.invariant _ (sym c.in_err-got.ensures.says))
 
 pub loop-got-preserved : goal.loop-got-preserved
 loop-got-preserved c =

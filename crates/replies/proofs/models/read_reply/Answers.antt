@@ -1,13 +1,13 @@
 use Rattle.std.proofs.Common.{◌∙◌, sym}
-use Rattle.std.proofs.lemmas.Result.{err_from_is_err_and}
 use Rattle.replies.specs.Outcome.{apart}
-use Rattle.replies.specs.Models.{reply-bad, reply-nothing, reply_told, reply-taken}
+use Rattle.replies.specs.Models.{reply-bad, reply-nothing, reply-taken}
+use Rattle.replies.proofs.Exits.{refusal_exit}
 use Rattle.replies.proofs.models.read_reply.Goals as goal
 
 pub returns-in_err-check_reply : goal.returns-in_err-check_reply
 returns-in_err-check_reply c =
-    let p = err_from_is_err_and c.from_residual.result c.from_residual.ensures.1 in
-    rw (p.1, p.2) (apart (reply-bad c.args.n c.args.text.now c.args.model.now (sym c.in_err-check_reply.ensures.says)))
+    let bad = apart (reply-bad c.args.n c.args.text.now c.args.model.now (sym c.in_err-check_reply.ensures.says)) in
+    (refusal_exit _ _ c.from_residual.ensures.1 bad.0, bad.1)
 
 pub returns-in-None : goal.returns-in-None
 returns-in-None c =

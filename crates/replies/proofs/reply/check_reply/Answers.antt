@@ -1,19 +1,17 @@
-use Rattle.std.proofs.Common.{◌≡◌, ◌<◌, length, get_or, sym, ap, ◌∙◌, subst, rules}
-use Rattle.std.proofs.lemmas.Result.{err_from_is_err_and}
+use Rattle.std.proofs.Common.{sym, ap, ◌∙◌, subst, rules}
 use Rattle.replies.specs.Parts.{summed}
 use Rattle.replies.specs.Said.{ModelIn}
 use Rattle.replies.specs.Replied.{reply_wrong, reply_none, reply-model}
+use Rattle.replies.proofs.Exits.{bad_exit}
 use Rattle.replies.proofs.reply.check_reply.Goals as goal
 
 pub returns-in_err-next-clause-says : goal.returns-in_err-next-clause-says
-returns-in_err-next-clause-says c =
-    let p = err_from_is_err_and c.from_residual.result c.from_residual.ensures.1 in
-    rw (p.1, p.2) (reply_wrong c.args.n c.args.text.now (sym c.in_err-next.ensures.says))
+returns-in_err-next-clause-says c = bad_exit _ _ c.from_residual.ensures.1 (reply_wrong c.args.n c.args.text.now (sym c.in_err-next.ensures.says))
 
 pub returns-in_err-no_model-clause-says : goal.returns-in_err-no_model-clause-says
 returns-in_err-no_model-clause-says c =
-    let p = err_from_is_err_and c.from_residual-in_err-no_model.result c.from_residual-in_err-no_model.ensures.1 in
-    rw (p.1, p.2) (c.in_err-no_model.ensures ∙ reply_none c.args.n c.args.text.now (sym c.in_ok-next.ensures.says) c.if-next-text.true c.if-text-next-eq85.true)
+    let none = reply_none c.args.n c.args.text.now (sym c.in_ok-next.ensures.says) c.if-next-text.true c.if-text-next-eq85.true in
+    bad_exit _ _ c.from_residual-in_err-no_model.ensures.1 (c.in_err-no_model.ensures ∙ none)
 
 pub returns-then-text-next-eq85-clause-says : goal.returns-then-text-next-eq85-clause-says
 returns-then-text-next-eq85-clause-says c =
@@ -21,11 +19,13 @@ returns-then-text-next-eq85-clause-says c =
 
 pub returns-in_err-heard-clause-says : goal.returns-in_err-heard-clause-says
 returns-in_err-heard-clause-says c =
-    let p = err_from_is_err_and c.from_residual-in_err-heard.result c.from_residual-in_err-heard.ensures.1 in
-    rw (p.1, p.2) (c.in_err-heard.ensures.says ∙ ap summed (reply-model c.args.n c.args.text.now (sym c.in_ok-next.ensures.says) (search rules)))
+    let whole = reply-model c.args.n c.args.text.now (sym c.in_ok-next.ensures.says) (search rules) in
+    bad_exit _ _ c.from_residual-in_err-heard.ensures.1 (c.in_err-heard.ensures.says ∙ ap summed whole)
 
 pub returns-clause-says : goal.returns-clause-says
-returns-clause-says c = c.in_ok-heard.ensures.says ∙ ap summed (reply-model c.args.n c.args.text.now (sym c.in_ok-next.ensures.says) (search rules))
+returns-clause-says c =
+    let whole = reply-model c.args.n c.args.text.now (sym c.in_ok-next.ensures.says) (search rules) in
+    c.in_ok-heard.ensures.says ∙ ap summed whole
 
 pub returns-clause-lines : goal.returns-clause-lines
 returns-clause-lines c =
