@@ -1,5 +1,5 @@
 // The numbers of a clause list.
-ghost use Rattle.std.specs.Prelude.{◌≡◌, suc, ◌<◌, length, drop, IfOk, if◌then◌else◌};
+ghost use Rattle.std.specs.Prelude.{◌≡◌, suc, ◌<◌, drop, IfOk, if◌then◌else◌};
 ghost use Rattle.definitions.specs.Tools.{eqb};
 ghost use Rattle.replies.specs.Parts.{found_from, started, list_from, sized};
 ghost use Rattle.replies.specs.Said.{said_next, NextIn, said_counted};
@@ -13,6 +13,7 @@ pub fn next_number(text: &[u8], n: u32, room: bool, from: usize) -> Result<Next,
     ensures says { said_next text.now result ≡ found_from n room from (drop from text.now) }
     ensures place { IfOk result (NextIn from text.now) }
 {
+    // by hand, since a place is answered also where `from` is past the end
     let mut at = from;
     while at < text.len() && is_blank(text[at]) {
         at += 1;

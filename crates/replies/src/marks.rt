@@ -72,6 +72,7 @@ pub fn least_not_once(text: &[u8], n: u32, from: usize, first: usize) -> Option<
     ensures { said_found 19 result ≡ once_from first ((n + 1) - first) (literals_from n from text.now) }
 {
     let end = n as usize + 1;
+    // by hand, since the last window is shorter
     let mut at = first;
     while at < end {
         let many = (end - at).min(32768);

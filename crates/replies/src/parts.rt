@@ -1,6 +1,6 @@
 // The parts of a text: a word, a count of the first line, a number. Each answers its value and the next place.
-// They walk by hand: a part ends in the middle of the text, and its place there is what is answered.
-ghost use Rattle.std.specs.Prelude.{◌≡◌, ◌≤◌, length, drop, IfOk};
+// `at` is kept by hand: a part ends in the middle of the text, and its place there is what is answered.
+ghost use Rattle.std.specs.Prelude.{◌≡◌, ◌≤◌, drop, IfOk};
 ghost use Rattle.replies.specs.Parts.{word_at, count_from, count_at, number_from, number_at};
 ghost use Rattle.replies.specs.Said.{number_said, said_word, said_count, said_numeral, Onward, Past};
 

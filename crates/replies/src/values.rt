@@ -1,5 +1,5 @@
 // The numbers of a reply.
-ghost use Rattle.std.specs.Prelude.{◌≡◌, ◌+◌, ◌<◌, length, drop, ◌&&◌, IfOk, IfSome};
+ghost use Rattle.std.specs.Prelude.{◌≡◌, ◌+◌, ◌<◌, drop, ◌&&◌, IfOk};
 ghost use Rattle.definitions.specs.Tools.{eqb};
 ghost use Rattle.replies.specs.Parts.{after_number, number_on, value_at, reply_from, lines, summed};
 ghost use Rattle.replies.specs.Said.{number_said, said_value, ValueIn, said_listed};
