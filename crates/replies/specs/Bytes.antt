@@ -133,6 +133,10 @@ module _ (t : List ℕ) (at : ℕ) (h : length t ≤ at) where
   pub found_end : (N : ℕ) (room : Bool) → found_from N room at (drop at t) ≡ done (ends at)
   found_end N room = rw (nothing_left t at h)
 
+-- what a call ensures of its result, where a match has told which case the result is
+pub told : {A B : Type 0} (f : A → B) {x y : A} {z : B} → f x ≡ z → x ≡ y → z ≡ f y
+told f p q = sym p ∙ ap f q
+
 -- what a value was made of, and where there was none
 pub record Made {A B : Type 0} (f : A → B) (m : Result A) (b : B) : Type 0 where
   pub from : A

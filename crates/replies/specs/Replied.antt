@@ -1,5 +1,5 @@
 -- Laws of a reply part by part: its numbers one by one, and what they make of the whole. Assumes nothing.
-use Rattle.std.specs.Prelude.{◌≡◌, refl, Bool, true, false, ◌&&◌, ℕ, suc, ◌+◌, ◌≤◌, ◌<◌, ltb, drop, get_or, ℤ, nat_abs, if◌then◌else◌}
+use Rattle.std.specs.Prelude.{◌≡◌, refl, Option, Some, None, Bool, true, false, ◌&&◌, ℕ, suc, ◌+◌, ◌≤◌, ◌<◌, ltb, drop, get_or, ℤ, nat_abs, if◌then◌else◌}
 use Rattle.std.proofs.Math.Path.{sym, ap}
 use Rattle.std.proofs.Common.{◌∙◌, inl, inr, add-zero, add-one, drop-cons, eq-eqb, ne_eqb, eqb-true, ltb-true, ltb-false}
 use mathlib.Core.List.{List, [], ◌∷◌, ◌++◌}
@@ -15,7 +15,10 @@ use Rattle.definitions.specs.TextReading.{Number, number_read, whole, begun, gro
 use Rattle.definitions.specs.TextOperations.{often}
 use Rattle.laws.specs.Stepping.{num, cases}
 use Rattle.demands.specs.Reached.{value-size}
+use Rattle.replies.specs.declared.Literal.{Literal}
+use Rattle.replies.specs.declared.Heard.{Heard}
 use Rattle.replies.specs.Parts.{word_at, number_from, number_at, reply_from, nothing, Taken, last, more, after_number, number_on, value_at, wanted, lines, in_order, Summary, without, literals, summed, none_at, model_at, literals_of, literals_from, HasModel}
+use Rattle.replies.specs.Said.{ValueIn, heard_said, HeardIn}
 use Rattle.replies.specs.Bytes.{nothing_left, first_of, second_of}
 use Rattle.replies.specs.Texts.{from_step, word_parts}
 
@@ -64,6 +67,10 @@ module _ (N at : ℕ) (t : List ℕ) where
 
 pub number_none : (N : ℕ) (t : List ℕ) (at : ℕ) → length t ≤ at → number_on N at (drop at t) ≡ refused 18 at
 number_none N t at h = rw (nothing_left t at h)
+
+pub value_sooner : (from at : ℕ) (t : List ℕ) (r : Option Literal) → from ≤ at → ValueIn at t r → ValueIn from t r
+value_sooner from at t (Some literal) l h = (omega (arith, h.0), h.1)
+value_sooner from at t None l h = tt
 
 -- ---- all of them
 over-parts : (r : Reply) (at : ℕ) (t : List ℕ) → reply_from (over r) at t ≡ nothing r at t
@@ -241,7 +248,19 @@ module _ {A : Type 0} (f : List ℤ → A) (N from : ℕ) (t : List ℕ) where
     passing-bad g h = never (sym (passed_bad N from t k.passed h) ∙ g.is)
 
 -- ---- a whole reply
+no_literals : {B : Type 0} {count : ℕ} {rising : Bool} (w : Result (ℕ × List ℕ)) → done (literals count rising) ≡ summed (w >>= λ p. nothing unsatisfiable p.0 p.1) → B
+no_literals (refused n d) e = never (sym e)
+no_literals {B} {count} {rising} (done p) e = go p.1 e
+  where
+    go : (u : List ℕ) → done (literals count rising) ≡ summed (nothing unsatisfiable p.0 u) → B
+    go [] e = absurd (let z : ◌≡◌ {A = ℕ} 0 1 = cc in omega arith)
+    go (b ∷ u) e = never (sym e)
+
 module _ (at : ℕ) (t : List ℕ) where
+  pub none_in : (N : ℕ) (s : List ℕ) (m : Result Reply) (r : Option Heard) → done (heard_said r) ≡ summed (none_at at t) → HeardIn N s m r
+  none_in N s m None e = tt
+  none_in N s m (Some heard) e = no_literals (word_at (ascii "UNSATISFIABLE\n") at t) e
+
   pub none_wrong : {n d : ℕ} → word_at (ascii "UNSATISFIABLE\n") at t ≡ refused n d → refused n d ≡ summed (none_at at t)
   none_wrong h = sym (ap summed (ap (λ m. m >>= λ p. nothing unsatisfiable p.0 p.1) h))
 
