@@ -1,12 +1,5 @@
 -- The test of a value's bounds, and values that have passed it. Assumes nothing.
-use mathlib.Core.Path.{◌≡◌, sym, ap, ◌∙◌}
-use mathlib.Core.Bool.{Bool, true, false, not, not-not}
-use mathlib.Core.List.{List, [], map-id}
-use Prim.Native.Nat.{ℕ, ◌+◌, ◌<◌}
-use native.Mathlib.Nat.{zero-add}
-use native.Mathlib.Omega.{arith}
-use lib.ListN.{length, get_or, drop}
-use lib.IntN.{ℤ, pos}
+use Rattle.std.proofs.Common.{◌≡◌, sym, ap, ◌∙◌, Bool, true, false, List, [], map-id, ℕ, ◌+◌, ◌<◌, zero-add, arith, length, get_or, drop, ℤ, pos}
 use Rattle.definitions.specs.Tools.{within, count_up}
 use Rattle.definitions.specs.Board.{Board, variables}
 use Rattle.definitions.specs.Meaning.{assigned, in_bounds}
@@ -15,10 +8,6 @@ use Rattle.laws.specs.Lists.{length-count_up, counted-at}
 use Rattle.laws.specs.Search.{seek, seek_fails, seek_goes}
 use Rattle.slots.specs.declared.Bounds.{Bounds}
 use Rattle.slots.specs.Variables.{BoundsOf}
-
--- what `if !r` leaves of r
-pub denied : {r t : Bool} → not r ≡ t → r ≡ not t
-denied {r} n = sym (not-not r) ∙ ap not n
 
 pub variables-count : (B : Board) → length (variables B) ≡ length B.bounds
 unfolding variables
@@ -36,13 +25,13 @@ module _ (B : Board) (values : List ℤ) (x : ℕ) (b : Bounds) (h : x < length 
   there : x < length (variables B)
   there = omega (arith, variables-count B)
 
-  module _ (r : Bool) (e : r ≡ within b.lower b.upper (get_or values x (pos 0))) where
-    tested : {t : Bool} → not r ≡ t → test (get_or (variables B) x 0) ≡ not t
+  module _ {t : Bool} (e : t ≡ within b.lower b.upper (get_or values x (pos 0))) where
+    tested : test (get_or (variables B) x 0) ≡ t
     unfolding in_bounds assigned
-    tested n = rw (variable-at B x h, ← k.lower, ← k.upper) (sym e ∙ denied n)
+    tested = rw (variable-at B x h, ← k.lower, ← k.upper) (sym e)
 
-    pub outside : not r ≡ true → seek 14 test x (drop x (variables B)) ≡ refused 14 x
-    outside n = seek_fails 14 test 0 (variables B) x there (tested n)
+  pub outside : false ≡ within b.lower b.upper (get_or values x (pos 0)) → seek 14 test x (drop x (variables B)) ≡ refused 14 x
+  outside e = seek_fails 14 test 0 (variables B) x there (tested e)
 
-    pub inside : not r ≡ false → seek 14 test x (drop x (variables B)) ≡ seek 14 test (x + 1) (drop (x + 1) (variables B))
-    inside n = seek_goes 14 test 0 (variables B) x there (tested n)
+  pub inside : true ≡ within b.lower b.upper (get_or values x (pos 0)) → seek 14 test x (drop x (variables B)) ≡ seek 14 test (x + 1) (drop (x + 1) (variables B))
+  inside e = seek_goes 14 test 0 (variables B) x there (tested e)

@@ -1,11 +1,5 @@
 -- Refusals 12, 14 and 13 put together: values that passed 14 are small, and the rules are the record's tail. Assumes nothing.
-use mathlib.Core.Path.{◌≡◌}
-use mathlib.Core.List.{List, [], map}
-use Prim.Native.Nat.{ℕ, ◌≤◌, ◌<◌}
-use native.Mathlib.Omega.{arith}
-use lib.ListN.{length, get_or}
-use lib.Dec.{T}
-use lib.IntN.{ℤ, pos, nat_abs}
+use Rattle.std.proofs.Common.{◌≡◌, List, [], map, ℕ, ◌≤◌, ◌<◌, arith, length, get_or, T, ℤ, pos, nat_abs}
 use Rattle.definitions.specs.Tools.{any}
 use Rattle.definitions.specs.Board.{Board, bounds_of, variables}
 use Rattle.definitions.specs.Result.{Result, done, ◌>>◌, each}

@@ -1,13 +1,5 @@
 -- Judge in the parts that the code has: the record, the lengths (refusal 11), the other checks. Assumes nothing.
-use mathlib.Core.Path.{◌≡◌, refl, ◌∙◌}
-use mathlib.Core.Logic.{◌≢◌}
-use mathlib.Core.Bool.{Bool, true, false}
-use mathlib.Core.List.{List, map}
-use Prim.Native.Nat.{ℕ}
-use lib.ListN.{length}
-use lib.Dec.{eqb}
-use borrow.Author.Tests.{eqb-true, eq-eqb, ne_eqb}
-use lib.IntN.{ℤ}
+use Rattle.std.proofs.Common.{◌≡◌, refl, ◌∙◌, ◌≢◌, Bool, true, false, List, map, ℕ, length, eqb, eqb-true, eq-eqb, ne_eqb, ℤ}
 use Rattle.definitions.specs.Tools.{any}
 use Rattle.definitions.specs.Board.{Board, variables}
 use Rattle.definitions.specs.Result.{Result, done, refused, ◌>>◌, need, each}

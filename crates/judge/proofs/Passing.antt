@@ -1,14 +1,6 @@
 -- Past literals and pieces that were read before, and whether they hold. Assumes nothing.
-use mathlib.Core.Path.{◌≡◌, sym, ap, ◌∙◌}
-use mathlib.Core.Bool.{Bool, true, false, ◌||◌, or-false}
-use mathlib.Core.List.{List, [], ◌∷◌}
-use Prim.Native.Nat.{ℕ, ◌+◌, ◌-◌, ◌≤◌, ◌<◌}
-use native.Mathlib.Nat.{add-zero}
-use native.Mathlib.Numerals.{add-one}
-use native.Mathlib.Omega.{arith}
-use lib.ListN.{length}
-use lib.IntN.{ℤ}
-use Rattle.std.specs.Prelude.{if◌then◌else◌}
+use Rattle.std.proofs.Common.{◌≡◌, sym, ap, ◌∙◌, Bool, true, false, ◌||◌, List, [], ◌∷◌, ℕ, ◌+◌, ◌-◌, ◌≤◌, ◌<◌, add-zero, add-one, arith, length, ℤ, if◌then◌else◌}
+use mathlib.Core.Bool.{or-false}
 use Rattle.definitions.specs.Tools.{any}
 use Rattle.definitions.specs.Result.{done, refused}
 use Rattle.definitions.specs.Reading.{times, read_literal}
@@ -17,7 +9,8 @@ use Rattle.laws.specs.Again.{There, literal_read, parts-length, literals_at, Fir
 use Rattle.laws.specs.Pieces as laws
 use Rattle.laws.specs.Pieces.{clauses_recorded, recorded_all}
 use Rattle.laws.specs.Search.{seek}
-use Rattle.reader.specs.declared.Reread.{Reread}
+use Rattle.definitions.specs.declared.Got.{Got}
+use Rattle.reader.specs.declared.Literal.{Literal}
 use Rattle.reader.specs.Said.{literal_of}
 use Rattle.reader.specs.Literals.{Rereads, KnownLiteral, known_literal}
 use Rattle.rules.specs.declared.Cursor.{Cursor}
@@ -38,14 +31,14 @@ module _ {values : List ℤ} {booleans t : List ℕ} {n at : ℕ} (h : 0 < n) (l
   pub there : There t at
   there = (literal_read t at l.ctx _ first.read).there
 
-  module _ {r : Reread} (d : Rereads t at r) where
-    pub known : KnownLiteral t (length values) (length booleans) r.literal
+  module _ {r : Got Literal} (d : Rereads t at r) where
+    pub known : KnownLiteral t (length values) (length booleans) r.value
     known = rw (l.suited.ints, l.suited.bools) (known_literal l.ctx t at first.read d)
 
     pub others : Suiting values booleans (λ ctx. times (n - 1) (read_literal ctx) t r.next ≡ done (literals_at t (n - 1) r.next))
     others = record { ctx = l.ctx; suited = l.suited; such = rw d.next first.rest }
 
-    pub first_holds : (a : Assignment) {b : Bool} → b ≡ holds a (literal_of t r.literal) → any (holds a) (literals_at t n at).value ≡ (b || any (holds a) (literals_at t (n - 1) r.next).value)
+    pub first_holds : (a : Assignment) {b : Bool} → b ≡ holds a (literal_of t r.value) → any (holds a) (literals_at t n at).value ≡ (b || any (holds a) (literals_at t (n - 1) r.next).value)
     first_holds a e = rw (first.joined, d.next, e, d.literal)
 
 -- ---- the first clause that fails: a piece's own, or one of those after it

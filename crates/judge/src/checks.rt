@@ -11,27 +11,27 @@ ghost use Rattle.judge.specs.Checks.{Long, fitting, solving};
 
 use crate::clauses::first_failing;
 use crate::values::first_outside;
-use definitions::{Refusal, Verdict};
-use lent::{Found, first_bad_byte};
+use definitions::Refusal;
+use lent::first_bad_byte;
 use opening::Header;
 
 // Refusal 11 for the values and for the Booleans.
-pub fn lengths(header: Header, values: &[i32], booleans: &[u8]) -> Verdict
+pub fn lengths(header: Header, values: &[i32], booleans: &[u8]) -> Result<(), Refusal>
     ensures { said_verdict result ≡ fitting header values.now booleans.now }
 {
     let ints = header.ints;
     let bools = header.bools;
     if values.len() != ints {
-        return Verdict::Refused(Refusal::LentWrong { wanted: ints });
+        return Err(Refusal::LentWrong { wanted: ints });
     }
     if booleans.len() != bools {
-        return Verdict::Refused(Refusal::LentWrong { wanted: bools });
+        return Err(Refusal::LentWrong { wanted: bools });
     }
-    Verdict::Accepted
+    Ok(())
 }
 
 // The rules are the record's tail.
-fn first_broken(bytes: &[u8], header: Header, values: &[i32], booleans: &[u8]) -> Found
+fn first_broken(bytes: &[u8], header: Header, values: &[i32], booleans: &[u8]) -> Option<usize>
     requires { Long bytes.now header values.now booleans.now × Near values.now }
     ensures { said_found 13 result ≡ each 13 0 (map (any (holds (assigned values.now booleans.now))) (board_of bytes.now).clauses) }
 {
@@ -40,18 +40,18 @@ fn first_broken(bytes: &[u8], header: Header, values: &[i32], booleans: &[u8]) -
 }
 
 // Refusals 12, 14 and 13: no sum is formed before every value is known to be within its bounds.
-pub fn solved(bytes: &[u8], header: Header, values: &[i32], booleans: &[u8]) -> Verdict
+pub fn solved(bytes: &[u8], header: Header, values: &[i32], booleans: &[u8]) -> Result<(), Refusal>
     requires { Long bytes.now header values.now booleans.now }
     ensures { said_verdict result ≡ solving (board_of bytes.now) values.now booleans.now }
 {
-    match first_bad_byte(booleans) {
-        Found::At(index) => Verdict::Refused(Refusal::ByteWrong { index: index }),
-        Found::Nothing => match first_outside(bytes, values) {
-            Found::At(index) => Verdict::Refused(Refusal::ValueOutside { index: index }),
-            Found::Nothing => match first_broken(bytes, header, values, booleans) {
-                Found::At(number) => Verdict::Refused(Refusal::ClauseFails { number: number }),
-                Found::Nothing => Verdict::Accepted,
-            },
-        },
+    if let Some(index) = first_bad_byte(booleans) {
+        return Err(Refusal::ByteWrong { index });
     }
+    if let Some(index) = first_outside(bytes, values) {
+        return Err(Refusal::ValueOutside { index });
+    }
+    if let Some(number) = first_broken(bytes, header, values, booleans) {
+        return Err(Refusal::ClauseFails { number });
+    }
+    Ok(())
 }

@@ -11,9 +11,8 @@ ghost use Rattle.judge.specs.Suited.{Suiting};
 ghost use Rattle.judge.specs.Clauses.{begun, holds_in};
 
 use crate::literals::{compares, holds};
-use lent::Found;
 use reader::rereading::literal_again;
-use rules::{Ahead, Piece, next_piece, start};
+use rules::{Piece, next_piece, start};
 
 // Whether one of n literals holds.
 fn any_holds(rules: &[u8], values: &[i32], booleans: &[u8], n: usize, at: usize) -> bool
@@ -21,15 +20,12 @@ fn any_holds(rules: &[u8], values: &[i32], booleans: &[u8], n: usize, at: usize)
     ensures { result ≡ any (holds (assigned values.now booleans.now)) (literals_at rules.now n at).value }
 {
     let mut place = at;
-    let mut left = n;
-    while 0 < left {
+    for _ in 0..n {
         let read = literal_again(rules, place);
-        let literal = read.literal;
-        if holds(rules, values, booleans, literal) {
+        if holds(rules, values, booleans, read.value) {
             return true;
         }
         place = read.next;
-        left -= 1;
     }
     false
 }
@@ -43,14 +39,10 @@ fn piece_holds(rules: &[u8], values: &[i32], booleans: &[u8], piece: Piece) -> b
         Piece::Line {
             place,
             literals,
-            selector: _,
+            ..
         } => any_holds(rules, values, booleans, literals, place),
         Piece::Lone { place, constant } => compares(rules, values, place, constant),
-        Piece::Led {
-            selector: _,
-            place: _,
-            constant: _,
-        } => true,
+        Piece::Led { .. } => true,
     }
 }
 
@@ -59,37 +51,23 @@ fn clauses_in(piece: Piece) -> usize
     ensures { result ≡ begun piece }
 {
     match piece {
-        Piece::Line {
-            place: _,
-            literals: _,
-            selector: _,
-        } => 1,
-        Piece::Lone {
-            place: _,
-            constant: _,
-        } => 1,
-        Piece::Led {
-            selector: _,
-            place: _,
-            constant: _,
-        } => 0,
+        Piece::Line { .. } | Piece::Lone { .. } => 1,
+        Piece::Led { .. } => 0,
     }
 }
 
-pub fn first_failing(rules: &[u8], values: &[i32], booleans: &[u8], clauses: usize) -> Found
+pub fn first_failing(rules: &[u8], values: &[i32], booleans: &[u8], clauses: usize) -> Option<usize>
     requires { Suiting values.now booleans.now (λ ctx. Sound ctx rules.now (at_start clauses)) }
     ensures { said_found 13 result ≡ each 13 0 (map (any (holds (assigned values.now booleans.now))) (clauses_at rules.now clauses 0).value) }
 {
-    let mut number: usize = 0;
+    let mut number = 0;
     let mut cursor = start(clauses);
-    loop {
-        let Ahead::Met(piece, next) = next_piece(rules, cursor) else {
-            return Found::Nothing;
-        };
+    while let Some((piece, next)) = next_piece(rules, cursor) {
         if !piece_holds(rules, values, booleans, piece) {
-            return Found::At(number);
+            return Some(number);
         }
         number += clauses_in(piece);
         cursor = next;
     }
+    None
 }

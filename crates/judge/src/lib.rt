@@ -4,8 +4,8 @@
 ghost use Rattle.judge.specs.Outcome.{Allowed};
 
 use crate::checks::{lengths, solved};
-use definitions::Verdict;
-use measure::{Measured, measure};
+use definitions::Refusal;
+use measure::measure;
 
 pub mod checks; // checks.rt: refusals 11, 12, 14 and 13
 pub mod clauses; // clauses.rt: the first clause that does not hold (refusal 13)
@@ -13,14 +13,10 @@ pub mod literals; // literals.rt: comparisons and literals at the values
 pub mod values; // values.rt: the first value outside its bounds (refusal 14)
 
 // Accepts exactly a solution; nothing is written.
-pub fn judge(bytes: &[u8], values: &[i32], booleans: &[u8]) -> Verdict
+pub fn judge(bytes: &[u8], values: &[i32], booleans: &[u8]) -> Result<(), Refusal>
     ensures { Allowed bytes.now values.now booleans.now result }
 {
-    match measure(bytes) {
-        Measured::Accepted(header, _) => match lengths(header, values, booleans) {
-            Verdict::Accepted => solved(bytes, header, values, booleans),
-            Verdict::Refused(r) => Verdict::Refused(r),
-        },
-        Measured::Refused(r) => Verdict::Refused(r),
-    }
+    let header = measure(bytes)?.header;
+    lengths(header, values, booleans)?;
+    solved(bytes, header, values, booleans)
 }

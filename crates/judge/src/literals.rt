@@ -18,8 +18,7 @@ fn value_of(values: &[i32], term: Term) -> i32
     requires { Near values.now × GoodTerm (length values.now) (term_read term) }
     ensures { result ≡ product values.now (term_read term) }
 {
-    let x = term.variable;
-    term.coefficient * values[x]
+    term.coefficient * values[term.variable]
 }
 
 // The comparison whose term count stands at a place.
@@ -28,13 +27,10 @@ pub fn compares(rules: &[u8], values: &[i32], place: usize, constant: i32) -> bo
     ensures { result ≡ compares (assigned values.now []) (comparison_at rules.now place constant) }
 {
     let read = terms_at(rules, place);
-    let n = read.n;
     let terms = read.terms;
-    let mut sum: i32 = 0;
-    let mut i = n;
-    while 0 < i {
-        i -= 1;
-        sum += value_of(values, terms[i]);
+    let mut sum = 0;
+    for term in &terms[..read.n] {
+        sum += value_of(values, *term);
     }
     sum <= constant
 }

@@ -1,0 +1,19 @@
+-- `judge::literals::value_of` meets its contract: nothing overflows.
+use Rattle.std.proofs.Common.{to_z-of_z}
+use Rattle.slots.specs.Terms.{term_read, coefficient_fits}
+use Rattle.judge.proofs.Sums.{value_fits, product_fits}
+use Rattle.judge.proofs.literals.value_of.Goals as goal
+
+pub overflow_mul-result : goal.overflow_mul-result
+overflow_mul-result c =
+    let s = c in
+    let t = s.args.term in
+    let v = s.args.values.now in
+    rw (to_z-of_z (coefficient_fits _ t s.requires.1), to_z-of_z (value_fits v s.requires.0 t.variable)) (product_fits v s.requires.0 (term_read t) s.requires.1)
+
+pub returns : goal.returns
+returns c =
+    let s = c in
+    let t = s.args.term in
+    let v = s.args.values.now in
+    rw (to_z-of_z (coefficient_fits _ t s.requires.1), to_z-of_z (value_fits v s.requires.0 t.variable), to_z-of_z (product_fits v s.requires.0 (term_read t) s.requires.1))
