@@ -1,25 +1,11 @@
 -- Closing's checks one after another, and where each of its answers comes from. Assumes nothing.
-use mathlib.Core.Path.{◌≡◌, refl, sym}
-use mathlib.Core.Bool.{Bool, true, false}
-use mathlib.Core.List.{List}
-use Prim.Native.Nat.{ℕ, ◌≤◌, ◌<◌}
-use lib.Dec.{ltb}
-use lib.ListN.{length}
-use borrow.Author.Tests.{ltb-true, lt-ltb, le-ltb}
+use Rattle.std.proofs.Common.{◌≡◌, refl, sym, Bool, true, false, List, ℕ, ◌<◌, ltb, length, ltb-true}
 use Rattle.definitions.specs.Board.{Board, bounds_of}
 use Rattle.definitions.specs.Result.{Result, done, refused, need, ◌>>◌}
 use Rattle.definitions.specs.Operations.{accepted, bits}
 use Rattle.definitions.specs.Closing.{Earliest, unfinished, after, closing_outcome}
 use Rattle.laws.specs.Readings.{never}
 use Rattle.closing.specs.Checks.{lent_allowed}
-
--- ---- 22
-module _ (ints x : ℕ) where
-  pub is_unknown : ints ≤ x → refused 22 x ≡ need 22 x (ltb x ints)
-  is_unknown h = rw (le-ltb x ints h)
-
-  pub is_known : x < ints → done tt ≡ need 22 x (ltb x ints)
-  is_known h = rw (lt-ltb x ints h)
 
 -- ---- 22, then 12
 pub lent_is : (ints x : ℕ) (replies : List ℕ) {p q : Result (Unit {0})} → need 22 x (ltb x ints) ≡ p → bits replies ≡ q → (p >> q) ≡ lent_allowed ints x replies

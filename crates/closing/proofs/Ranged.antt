@@ -1,11 +1,5 @@
 -- A range between bounds: its numbers fit, and what a reply leaves of it. Assumes nothing.
-use mathlib.Core.Path.{◌≡◌, refl, sym}
-use mathlib.Core.Logic.{◌≢◌}
-use Prim.Native.Nat.{ℕ, ◌≤◌}
-use native.Mathlib.Omega.{arith}
-use lib.IntN.{ℤ, pos, nat_abs, ◌+ℤ◌}
-use mir.Syntax.{w32}
-use mir.Val.{SFits}
+use Rattle.std.proofs.Common.{◌≡◌, refl, sym, ◌≢◌, ℕ, ◌≤◌, arith, ℤ, pos, nat_abs, ◌+ℤ◌, w32, SFits}
 use Rattle.definitions.specs.Tools.{floor}
 use Rattle.definitions.specs.Closing.{halfway}
 use Rattle.laws.specs.Whole.{whole, add_law, abs_le, abs_fits, sfits}

@@ -1,10 +1,9 @@
 -- What is known of a range, and of the answer so far, while replies narrow it.
-use Rattle.std.specs.Prelude.{◌≡◌, List, ℕ, ◌≤◌, length, drop, ℤ, pos, ◌+ℤ◌, ◌≤ℤ◌}
+use Rattle.std.specs.Prelude.{◌≡◌, List, ℕ, drop, ℤ, pos, ◌+ℤ◌, ◌≤ℤ◌}
 use Rattle.definitions.specs.Tools.{neg}
 use Rattle.definitions.specs.Board as board
-use Rattle.definitions.specs.Result.{done}
 use Rattle.definitions.specs.Closing.{Earliest, found, none, unfinished, narrowed, after}
-use Rattle.definitions.specs.Answers.{said_hour}
+use Rattle.definitions.specs.Answers.{hour_said}
 use Rattle.definitions.specs.declared.Hour.{Hour}
 use Rattle.slots.specs.declared.Bounds.{Bounds}
 use Rattle.slots.specs.Variables.{bounds_read}
@@ -27,13 +26,7 @@ pub record Left (range : Bounds) (h : ℤ) (reply : ℕ) (r : Bounds) : Type 0 w
   pub small : Small r
   pub cuts : bounds_read r ≡ narrowed (bounds_read range) h reply
 
--- an answer that is no refusal, as the definition has it
-abbrev pub standing : Hour → Earliest
-standing (Hour.Found v) = found v
-standing Hour.None = none
-standing (Hour.Unfinished low high question) = unfinished (record { lo = low; hi = high }) question
-standing (Hour.Refused r) = none
-
+-- an answer whose question lies within its range
 abbrev pub Sound : Earliest → Type 0
 Sound (found v) = Unit {0}
 Sound none = Unit {0}
@@ -41,7 +34,5 @@ Sound (unfinished r h) = Asked r h
 
 -- after i replies: the others lead from here to where all of them lead from the start
 pub record Going (replies : List ℕ) (start hour : Hour) (i : ℕ) : Type 0 where
-  pub is : said_hour hour ≡ done (standing hour)
-  pub sound : Sound (standing hour)
-  pub inside : i ≤ length replies
-  pub answers : after (standing hour) (drop i replies) ≡ after (standing start) replies
+  pub sound : Sound (hour_said hour)
+  pub answers : after (hour_said hour) (drop i replies) ≡ after (hour_said start) replies

@@ -5,29 +5,24 @@ ghost use Rattle.definitions.specs.Answers.{said_verdict};
 ghost use Rattle.lent.specs.Said.{said_found};
 ghost use Rattle.closing.specs.Checks.{lent_allowed};
 
-use definitions::{Refusal, Verdict};
-use lent::{Found, first_bad_byte};
+use definitions::Refusal;
+use lent::first_bad_byte;
 
 // The variable's number, where the record has no such variable (refusal 22).
-fn unknown_variable(ints: usize, variable: usize) -> Found
+fn unknown_variable(ints: usize, variable: usize) -> Option<usize>
     ensures { said_found 22 result ≡ need 22 variable (ltb variable ints) }
 {
-    if ints <= variable {
-        return Found::At(variable);
-    }
-    Found::Nothing
+    (ints <= variable).then_some(variable)
 }
 
-pub fn checked(ints: usize, variable: usize, replies: &[u8]) -> Verdict
+pub fn checked(ints: usize, variable: usize, replies: &[u8]) -> Result<(), Refusal>
     ensures { said_verdict result ≡ lent_allowed ints variable replies.now }
 {
-    let first = unknown_variable(ints, variable);
-    let second = first_bad_byte(replies);
-    match first {
-        Found::At(number) => Verdict::Refused(Refusal::NoVariable { number: number }),
-        Found::Nothing => match second {
-            Found::At(index) => Verdict::Refused(Refusal::ByteWrong { index: index }),
-            Found::Nothing => Verdict::Accepted,
-        },
+    if let Some(number) = unknown_variable(ints, variable) {
+        return Err(Refusal::NoVariable { number });
     }
+    if let Some(index) = first_bad_byte(replies) {
+        return Err(Refusal::ByteWrong { index });
+    }
+    Ok(())
 }

@@ -5,22 +5,18 @@ ghost use Rattle.closing.specs.Outcome.{Allowed};
 
 use crate::checks::checked;
 use crate::search::searched;
-use definitions::{Hour, Verdict};
-use measure::{Measured, measure};
+use definitions::{Hour, Refusal};
+use measure::measure;
 use slots::variables::bounds_of;
 
 pub mod checks; // checks.rt: refusals 22 and 12
 pub mod search; // search.rt: the range and the replies, refusal 23
 
 // The answer to the replies so far; nothing is written, and nothing is kept from an earlier call.
-pub fn closing(bytes: &[u8], variable: usize, replies: &[u8]) -> Hour
+pub fn closing(bytes: &[u8], variable: usize, replies: &[u8]) -> Result<Hour, Refusal>
     ensures { Allowed bytes.now variable replies.now result }
 {
-    match measure(bytes) {
-        Measured::Accepted(header, _) => match checked(header.ints, variable, replies) {
-            Verdict::Accepted => searched(bounds_of(bytes, variable), replies),
-            Verdict::Refused(r) => Hour::Refused(r),
-        },
-        Measured::Refused(r) => Hour::Refused(r),
-    }
+    let header = measure(bytes)?.header;
+    checked(header.ints, variable, replies)?;
+    searched(bounds_of(bytes, variable), replies)
 }

@@ -1,8 +1,7 @@
 // The range of a variable, narrowed by one reply after another.
 ghost use Rattle.std.specs.Prelude.{◌≡◌};
-ghost use Rattle.definitions.specs.Answers.{said_hour};
+ghost use Rattle.definitions.specs.Answers.{hour_said, said_hour};
 ghost use Rattle.definitions.specs.Closing.{after, halfway, tells, unfinished};
-ghost use Rattle.definitions.specs.Result.{done};
 ghost use Rattle.laws.specs.Admitted.{GoodBounds};
 ghost use Rattle.slots.specs.Variables.{bounds_read};
 ghost use Rattle.closing.specs.Ranges.{Asked, Left, Small};
@@ -39,7 +38,7 @@ fn narrowed(range: Bounds, h: i32, reply: u8) -> Bounds
 // What a range tells: the next question, the value, or that there is none.
 fn told(range: Bounds) -> Hour
     requires { Small range }
-    ensures { said_hour result ≡ done (tells (bounds_read range)) }
+    ensures { hour_said result ≡ tells (bounds_read range) }
 {
     if range.lower < range.upper {
         return Hour::Unfinished {
@@ -55,7 +54,7 @@ fn told(range: Bounds) -> Hour
 }
 
 // The answer to all replies; the first question is at the upper bound.
-pub fn searched(range: Bounds, replies: &[u8]) -> Hour
+pub fn searched(range: Bounds, replies: &[u8]) -> Result<Hour, Refusal>
     requires { GoodBounds (bounds_read range) }
     ensures { said_hour result ≡ after (unfinished (bounds_read range) range.upper) replies.now }
 {
@@ -64,15 +63,14 @@ pub fn searched(range: Bounds, replies: &[u8]) -> Hour
         high: range.upper,
         question: range.upper,
     };
-    let mut i: usize = 0;
-    while i < replies.len() {
+    for (i, reply) in replies.iter().enumerate() {
         let Hour::Unfinished {
             low,
             high,
             question,
         } = hour
         else {
-            return Hour::Refused(Refusal::RepliesLeft {
+            return Err(Refusal::RepliesLeft {
                 count: replies.len() - i,
             });
         };
@@ -80,8 +78,7 @@ pub fn searched(range: Bounds, replies: &[u8]) -> Hour
             lower: low,
             upper: high,
         };
-        hour = told(narrowed(left, question, replies[i]));
-        i += 1;
+        hour = told(narrowed(left, question, *reply));
     }
-    hour
+    Ok(hour)
 }
