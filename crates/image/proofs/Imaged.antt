@@ -14,6 +14,7 @@ use Rattle.laws.specs.Boards.{board_of}
 use Rattle.opening.specs.declared.Header.{Header}
 use Rattle.opening.specs.Said.{map_done, header_of}
 use Rattle.definitions.specs.declared.Sizes.{Sizes}
+use Rattle.measure.specs.declared.Measured.{Measured}
 use Rattle.measure.specs.Said.{measured_of}
 use Rattle.measure.specs.Told.{Measures, measured}
 use Rattle.judge.specs.Checks.{Long, fitting, solving}
@@ -76,13 +77,13 @@ in_bounds_lem B values booleans =
     second (bits booleans) (each 14 0 (map (in_bounds B a) (variables B))) (each 13 0 (map (any (holds a)) B.clauses))
 
 -- what `measure` and the checks have answered lets the model be written
-pub writable : (s : List ℕ) (header : Header) (sizes : Sizes) (values : List ℤ) (booleans model : List ℕ)
-    → done (header, sizes) ≡ map_done measured_of (accepted s) → done tt ≡ imaging (board_of s) values booleans (length model) → Writable s header values booleans model
-writable s header sizes values booleans model m e =
-    let h = measured s (sym m) in
+pub writable : (s : List ℕ) (m : Measured) (values : List ℤ) (booleans model : List ℕ)
+    → done m ≡ map_done measured_of (accepted s) → done tt ≡ imaging (board_of s) values booleans (length model) → Writable s m.header values booleans model
+writable s m values booleans model d e =
+    let h = measured s (sym d) in
     let p = passed (board_of s) values booleans (length model) (sym e) in
-    let l = lists_long s header sizes h values booleans (rw h.opened.header p.lists) in
-    record { lists = l; near = near s header values booleans l (in_bounds_lem (board_of s) values booleans p.solution); room = p.model }
+    let l = lists_long s m.header m.sizes h values booleans (rw h.opened.header p.lists) in
+    record { lists = l; near = near s m.header values booleans l (in_bounds_lem (board_of s) values booleans p.solution); room = p.model }
 
 -- ---- the outcome
 module _ (s : List ℕ) (values : List ℤ) (booleans model : List ℕ) where
