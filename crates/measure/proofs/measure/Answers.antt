@@ -1,14 +1,13 @@
 -- `measure::measure` meets its contract.
 use Rattle.std.proofs.Common.{sym, arith}
-use Rattle.std.proofs.lemmas.Result.{err_from_is_err_and}
+use Rattle.reader.proofs.Steps.{passed_on}
 use Rattle.opening.specs.Told.{opened}
 use Rattle.measure.proofs.Answers.{measured, too_long, unopened}
 use Rattle.measure.proofs.measure.Goals as goal
 
 pub returns-in_err-header : goal.returns-in_err-header
 returns-in_err-header c =
-    let p = err_from_is_err_and c.from_residual.result c.from_residual.ensures.1 in
-    rw (p.1, p.2) (unopened _ _ _ (sym c.in_err-header.ensures))
+    rw (passed_on _ c.from_residual.ensures.1) (unopened _ _ _ (sym c.in_err-header.ensures))
 
 pub totals_of-sizes-requires : goal.totals_of-sizes-requires
 totals_of-sizes-requires c = opened _ (sym c.in_ok-header.ensures)
