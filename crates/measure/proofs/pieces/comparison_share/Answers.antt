@@ -9,26 +9,12 @@ use Rattle.walk.specs.Comparisons.{below-least, from-least}
 use Rattle.measure.proofs.Shares.{share_below, share_reached, share_fits}
 use Rattle.measure.proofs.pieces.comparison_share.Goals as goal
 
-pub ready-c-requires : goal.ready-c-requires
-ready-c-requires c =
-    (c.requires.0, λ x h. omega arith, rw (to_z-of_z c.ranges.constant) c.requires.1)
-
-pub over_least-t-requires : goal.over_least-t-requires
-over_least-t-requires c = c.ready-c.ensures.fair
-
 pub returns-then-t-lt1 : goal.returns-then-t-lt1
 returns-then-t-lt1 c =
     let f = c.ranges.constant in
     let l : SFits w32 c.over_least-t.result = record { sfits = c.over_least-t.type_inv } in
     let r = rw (to_z-of_z f) at c.ready-c.ensures in
     share_below _ (opens_admitted _ c.requires.0) _ c.requires.1.good _ r (below-least c.ready-c.result (omega (whole, back l, c.over_least-t.ensures))) _
-
-pub tuples_over-tuples-requires : goal.tuples_over-tuples-requires
-tuples_over-tuples-requires c =
-    let f = c.ranges.constant in
-    let l : SFits w32 c.over_least-t.result = record { sfits = c.over_least-t.type_inv } in
-    let r = rw (to_z-of_z f) at c.ready-c.ensures in
-    (r.fair, rw (to_z-of_z l) c.over_least-t.ensures, omega (whole, back l, c.over_least-t.ensures))
 
 pub overflow_mul-result : goal.overflow_mul-result
 overflow_mul-result c =

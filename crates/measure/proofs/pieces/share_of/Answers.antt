@@ -1,7 +1,6 @@
 -- `measure::pieces::share_of` meets its contract.
 use mathlib.Core.Path.{refl}
 use mathlib.Core.List.{[], ◌∷◌}
-use native.Mathlib.Omega.{arith}
 use mir.Facts.{to_z-of_z}
 use Rattle.definitions.specs.Encoding.{selector, minus}
 use Rattle.laws.specs.Fits.{good-constant}
@@ -11,16 +10,6 @@ use Rattle.measure.proofs.pieces.share_of.Goals as goal
 pub overflow_add-result : goal.overflow_add-result
 overflow_add-result c =
     line_fits _ _ _ _ _ (rw c.in-Line.is at c.requires.2)
-
-pub comparison_share-requires : goal.comparison_share-requires
-comparison_share-requires c =
-    let s = rw c.in-Lone.is at c.requires.1 in
-    (c.requires.0, rw (to_z-of_z (good-constant s.good)) s, omega arith)
-
-pub comparison_share-requires-in-Led : goal.comparison_share-requires-in-Led
-comparison_share-requires-in-Led c =
-    let s = rw c.in-Led.is at c.requires.1 in
-    (c.requires.0, rw (to_z-of_z (good-constant s.good)) s, omega arith)
 
 pub returns-in-Line : goal.returns-in-Line
 returns-in-Line c =

@@ -1,11 +1,8 @@
 -- `measure::sums::kinds_of` meets its contract.
 use native.Mathlib.Omega.{arith}
-use Rattle.opening.specs.Headers.{ints_is, bools_is, recorded}
-use Rattle.measure.proofs.Numbers.{first_is, axioms_fit, kinds_are}
+use Rattle.opening.specs.Headers.{recorded}
+use Rattle.measure.proofs.Numbers.{first_is, kinds_are}
 use Rattle.measure.proofs.sums.kinds_of.Goals as goal
-
-pub first_number-requires : goal.first_number-requires
-first_number-requires c = let o = c.requires in (o.opens, bools_is o, omega (arith, ints_is o))
 
 pub overflow_sub-widths : goal.overflow_sub-widths
 overflow_sub-widths c =
@@ -14,14 +11,6 @@ overflow_sub-widths c =
 pub overflow_sub-widths-2 : goal.overflow_sub-widths-2
 overflow_sub-widths-2 c =
     omega (arith, first_is _ (recorded c.requires) _ c.requires.header _ c.tail_share-share.ensures _ c.first_number.ensures)
-
-pub overflow_add-result : goal.overflow_add-result
-overflow_add-result c =
-    omega (arith, axioms_fit _ (recorded c.requires) _ c.requires.header _ c.tail_share-share.ensures _ c.first_number.ensures)
-
-pub overflow_add-result-2 : goal.overflow_add-result-2
-overflow_add-result-2 c =
-    omega (arith, axioms_fit _ (recorded c.requires) _ c.requires.header _ c.tail_share-share.ensures _ c.first_number.ensures)
 
 pub returns : goal.returns
 returns c =

@@ -22,9 +22,6 @@ module _ (p : In-Some) where
 pub loop-piece-init : goal.loop-piece-init
 loop-piece-init c = let p = c.requires in rw c.start-cursor.ensures (starts p.0 p.1, none_added _ _ (all-coming p.0 p.1))
 
-pub next_piece-requires : goal.next_piece-requires
-next_piece-requires c = (_, c.loop-piece.invariant.0)
-
 pub share_of-requires : goal.share_of-requires
 share_of-requires c =
     let p = (goal.at.share_of-requires c).In-Some in

@@ -1,7 +1,6 @@
 -- `measure::sums::tail_share` meets its contract.
 use native.Mathlib.Omega.{arith}
-use Rattle.opening.specs.Headers.{clauses_is, rules_inside}
-use Rattle.measure.proofs.Numbers.{known}
+use Rattle.opening.specs.Headers.{rules_inside}
 use Rattle.measure.proofs.sums.tail_share.Goals as goal
 
 pub slice_bounds-rules_share-count : goal.slice_bounds-rules_share-count
@@ -9,6 +8,3 @@ slice_bounds-rules_share-count c = rules_inside c.requires
 
 pub slice_bounds-rules_share-start : goal.slice_bounds-rules_share-start
 slice_bounds-rules_share-start c = omega (arith, rules_inside c.requires)
-
-pub rules_share-requires : goal.rules_share-requires
-rules_share-requires c = let o = c.requires in (known o, clauses_is o)
