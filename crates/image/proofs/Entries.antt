@@ -1,9 +1,7 @@
 -- A turn of a loop that writes the entries of a list one by one. Assumes nothing.
-use mathlib.Core.Path.{◌≡◌, ap, ap₂, ◌∙◌}
-use mathlib.Core.List.{List}
-use Prim.Native.Nat.{ℕ, ◌+◌, ◌≤◌, ◌<◌}
-use lib.ListN.{length, get_or, take, set}
-use lib.Seq.{take_all}
+use Rattle.std.proofs.Common.{Bool, true, false, refl, ◌≡◌, ap, ap₂, ◌∙◌, List, ℕ, ◌+◌, ◌≤◌, ◌<◌, length, get_or, take, set, take_all}
+use mir.Val.{bool_byte}
+use Rattle.image.specs.Parts.{bit}
 use Rattle.laws.specs.Written.{written, written-take}
 
 module _ (q o m : List ℕ) (i : ℕ) (e : m ≡ written (take i q) o) where
@@ -12,3 +10,8 @@ module _ (q o m : List ℕ) (i : ℕ) (e : m ≡ written (take i q) o) where
 
   pub all_put : length q ≤ i → m ≡ written q o
   all_put h = e ∙ ap (λ l. written l o) (take_all i q h)
+
+-- a truth value's byte
+pub byte_is : (b : Bool) → bool_byte b ≡ bit b
+byte_is true = refl
+byte_is false = refl

@@ -1,37 +1,30 @@
 -- From Image's checks to its outcome. Assumes nothing.
-use mathlib.Core.Path.{◌≡◌, refl, sym, ap, ◌∙◌}
-use mathlib.Core.Logic.{◌≢◌}
-use mathlib.Core.Bool.{Bool, true, false, true≢false}
-use mathlib.Core.List.{List, [], map}
-use Prim.Native.Nat.{ℕ}
-use lib.ListN.{length}
-use lib.Dec.{eqb}
-use lib.IntN.{ℤ}
-use borrow.Author.Tests.{eqb-true, eq-eqb, ne_eqb}
+use Rattle.std.proofs.Common.{◌≡◌, refl, sym, ap, ◌∙◌, ◌≢◌, Bool, true, false, Ok, Err, List, [], map, ℕ, length, eqb, ℤ, eqb-true, eq-eqb, ne_eqb}
 use Rattle.definitions.specs.Tools.{any}
 use Rattle.definitions.specs.Board.{Board, variables}
 use Rattle.definitions.specs.declared.Refusal.{Refusal}
-use Rattle.definitions.specs.declared.Verdict.{Verdict}
 use Rattle.definitions.specs.Result.{Result, done, refused, ◌>>◌, need, each}
 use Rattle.definitions.specs.Result as result
 use Rattle.definitions.specs.Encoding.{N}
 use Rattle.definitions.specs.Meaning.{assigned, in_bounds, holds, plain_model}
 use Rattle.definitions.specs.Operations.{Outcome, accepted, lending, long, bits, image_outcome}
-use Rattle.definitions.specs.Answers.{said_verdict, refusal}
+use Rattle.definitions.specs.Answers.{refusal}
 use Rattle.laws.specs.Readings.{never}
 use Rattle.laws.specs.Boards.{board_of}
 use Rattle.opening.specs.declared.Header.{Header}
-use Rattle.opening.specs.Said.{header_of}
-use Rattle.measure.specs.declared.Totals.{Totals}
-use Rattle.measure.specs.Told.{Measures}
+use Rattle.opening.specs.Said.{map_done, header_of}
+use Rattle.definitions.specs.declared.Sizes.{Sizes}
+use Rattle.measure.specs.declared.Measured.{Measured}
+use Rattle.measure.specs.Said.{measured_of}
+use Rattle.measure.specs.Told.{Measures, measured}
 use Rattle.judge.specs.Checks.{Long, fitting, solving}
 use Rattle.judge.proofs.Judged.{judged_is, not-judged, long_enough}
 use Rattle.judge.proofs.Checked.{near}
-use Rattle.image.specs.Checks.{imaging, is_done, Writable}
+use Rattle.image.specs.Checks.{imaging, Writable}
 use Rattle.image.specs.Outcome.{Allowed}
 
 -- ---- the checks, as the code makes them
-module _ (s : List ℕ) (header : Header) (totals : Totals) (h : Measures s header totals) (values : List ℤ) (booleans : List ℕ) where
+module _ (s : List ℕ) (header : Header) (sizes : Sizes) (h : Measures s header sizes) (values : List ℤ) (booleans : List ℕ) where
   abbrev B : Board
   B = board_of s
 
@@ -39,7 +32,7 @@ module _ (s : List ℕ) (header : Header) (totals : Totals) (h : Measures s head
   lists_long e = long_enough s header values booleans h.opened e
 
   module _ (lent : ℕ) where
-    n_is : totals.n ≡ N B
+    n_is : sizes.n ≡ N B
     n_is = ap (λ t. t.n) h.totals
 
     pub lists_wrong : {n d : ℕ} → fitting header values booleans ≡ refused n d → refused n d ≡ imaging B values booleans lent
@@ -47,11 +40,11 @@ module _ (s : List ℕ) (header : Header) (totals : Totals) (h : Measures s head
     lists_wrong e = rw (← h.opened.header, e)
 
     module _ (e : fitting header values booleans ≡ done tt) where
-      pub model_wrong : lent ≢ totals.n → refused 11 totals.n ≡ imaging B values booleans lent
+      pub model_wrong : lent ≢ sizes.n → refused 11 sizes.n ≡ imaging B values booleans lent
       unfolding imaging
       model_wrong n = ap (refused 11) n_is ∙ rw (← h.opened.header, e, ne_eqb lent (N B) (λ q. n (q ∙ sym n_is)))
 
-      pub lists_right : lent ≡ totals.n → solving B values booleans ≡ imaging B values booleans lent
+      pub lists_right : lent ≡ sizes.n → solving B values booleans ≡ imaging B values booleans lent
       unfolding imaging
       lists_right q = rw (← h.opened.header, e, eq-eqb lent (N B) (q ∙ n_is))
 
@@ -83,15 +76,18 @@ in_bounds_lem B values booleans =
     let a = assigned values booleans in
     second (bits booleans) (each 14 0 (map (in_bounds B a) (variables B))) (each 13 0 (map (any (holds a)) B.clauses))
 
-pub to_write : (s : List ℕ) (header : Header) (totals : Totals) → Measures s header totals → (values : List ℤ) (booleans model : List ℕ)
-    → Passed (board_of s) values booleans (length model) → Writable s header values booleans model
-to_write s header totals h values booleans model p =
-    let l = lists_long s header totals h values booleans (rw h.opened.header p.lists) in
-    record { lists = l; near = near s header values booleans l (in_bounds_lem (board_of s) values booleans p.solution); room = p.model }
+-- what `measure` and the checks have answered lets the model be written
+pub writable : (s : List ℕ) (m : Measured) (values : List ℤ) (booleans model : List ℕ)
+    → done m ≡ map_done measured_of (accepted s) → done tt ≡ imaging (board_of s) values booleans (length model) → Writable s m.header values booleans model
+writable s m values booleans model d e =
+    let h = measured s (sym d) in
+    let p = passed (board_of s) values booleans (length model) (sym e) in
+    let l = lists_long s m.header m.sizes h values booleans (rw h.opened.header p.lists) in
+    record { lists = l; near = near s m.header values booleans l (in_bounds_lem (board_of s) values booleans p.solution); room = p.model }
 
 -- ---- the outcome
 module _ (s : List ℕ) (values : List ℤ) (booleans model : List ℕ) where
-  pub image_not : (r : Refusal) → accepted s ≡ refusal r → Allowed s values booleans model (Verdict.Refused r) model
+  pub image_not : (r : Refusal) → accepted s ≡ refusal r → Allowed s values booleans model (Err r) model
   unfolding image_outcome
   image_not r e = rw (not-judged s values booleans (λ B. long (N B) model) e) (refl, refl)
 
@@ -107,15 +103,8 @@ module _ (s : List ℕ) (values : List ℤ) (booleans model : List ℕ) where
     unfolding image_outcome imaging
     image_is = rw (judged_is s values booleans (λ B. long (N B) model) B e)
 
-    pub image_refused : (v : Verdict) → said_verdict v ≡ checks → is_done (said_verdict v) ≡ false → Allowed s values booleans model v model
-    image_refused Verdict.Accepted f t = absurd (true≢false t)
-    image_refused (Verdict.Refused r) f t = rw (image_is, ← f) (refl, refl)
+    pub image_refused : (r : Refusal) → refusal r ≡ checks → Allowed s values booleans model (Err r) model
+    image_refused r f = rw (image_is, ← f) (refl, refl)
 
-    pub image_passed : (v : Verdict) → said_verdict v ≡ checks → is_done (said_verdict v) ≡ true → Passed B values booleans (length model)
-    image_passed Verdict.Accepted f t = passed B values booleans (length model) (sym f)
-    image_passed (Verdict.Refused r) f t = absurd (true≢false (sym t))
-
-    pub image_written : (v : Verdict) → said_verdict v ≡ checks → is_done (said_verdict v) ≡ true
-        → (left : List ℕ) → left ≡ plain_model B (assigned values booleans) → Allowed s values booleans model v left
-    image_written Verdict.Accepted f t left g = rw (image_is, ← f) (refl, g)
-    image_written (Verdict.Refused r) f t left g = absurd (true≢false (sym t))
+    pub image_written : done tt ≡ checks → (left : List ℕ) → left ≡ plain_model B (assigned values booleans) → Allowed s values booleans model (Ok tt) left
+    image_written f left g = rw (image_is, ← f) (refl, g)

@@ -1,10 +1,7 @@
 -- The model's parts, one after another, are the plain model, and fill it. Assumes nothing.
-use mathlib.Core.Path.{◌≡◌, refl, sym, ap, ap₂, ◌∙◌}
-use mathlib.Core.List.{List, [], ◌++◌, map, flatten, append_assoc}
-use Prim.Native.Nat.{ℕ, ◌+◌, ◌-◌, ◌≤◌}
-use native.Mathlib.Omega.{arith}
-use lib.ListN.{length, length-map, length-append}
-use lib.IntN.{ℤ}
+use Rattle.std.proofs.Common.{◌≡◌, refl, sym, ap, ap₂, ◌∙◌, List, [], ◌++◌, map, append_assoc, ℕ, ◌+◌, ◌-◌, ◌≤◌, arith, length, length-append, ℤ}
+use mathlib.Core.List.{flatten}
+use lib.ListN.{length-map}
 use Rattle.definitions.specs.Tools.{count_up}
 use Rattle.definitions.specs.Board.{Board, variables}
 use Rattle.definitions.specs.Encoding.{selections, atoms}

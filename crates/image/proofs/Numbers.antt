@@ -1,11 +1,6 @@
 -- The numbers from lower - 1 on, as they are computed: nothing overflows. Assumes nothing.
-use mathlib.Core.Path.{◌≡◌, ap₂, ◌∙◌}
-use Prim.Native.Nat.{ℕ, ◌≤◌, ◌<◌}
-use native.Mathlib.Omega.{arith}
-use lib.IntN.{ℤ, pos, nat_abs, ◌+ℤ◌, ◌-ℤ◌}
-use mir.Syntax.{w32}
-use mir.Val.{SFits, to_z, of_z}
-use mir.Facts.{to_z-of_z, to_z_pos}
+use Rattle.std.proofs.Common.{◌≡◌, ap₂, ◌∙◌, ℕ, ◌≤◌, ◌<◌, arith, ℤ, pos, nat_abs, ◌+ℤ◌, ◌-ℤ◌, w32, SFits, to_z, of_z, to_z-of_z}
+use mir.Facts.{to_z_pos}
 use Rattle.laws.specs.Whole.{abs_add, abs_sub, abs_fits}
 
 module _ (lower : ℤ) (h : nat_abs lower ≤ 4096) where

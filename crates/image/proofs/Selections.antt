@@ -1,9 +1,6 @@
 -- A pass over the rules that writes a byte for each comparison under a selector. Assumes nothing.
-use mathlib.Core.Path.{◌≡◌, sym, ap, ◌∙◌}
-use mathlib.Core.List.{List, [], ◌∷◌, ◌++◌}
-use Prim.Native.Nat.{ℕ}
-use lib.ListN.{length, length-map}
-use lib.IntN.{ℤ}
+use Rattle.std.proofs.Common.{◌≡◌, refl, sym, ap, ◌∙◌, List, [], ◌∷◌, ◌++◌, ℕ, length, ℤ}
+use lib.ListN.{length-map}
 use Rattle.definitions.specs.Reading.{Context}
 use Rattle.definitions.specs.Encoding.{selections}
 use Rattle.definitions.specs.Meaning.{Assignment, compares}
@@ -43,6 +40,12 @@ module _ (a : Assignment) (t : List ℕ) where
   bytes_met (Piece.Line place n j) m = ap (λ ps. selector_bytes a (led_in ps)) m.comes
   bytes_met (Piece.Lone place constant) m = ap (λ ps. selector_bytes a (led_in ps)) m.comes
   bytes_met (Piece.Led j place constant) m = ap (λ ps. selector_bytes a (led_in ps)) m.comes
+
+  -- only a comparison under its selector has one
+  pub bytes_none : (p : Piece) → ((j place : ℕ) (constant : ℤ) → p ≡ Piece.Led j place constant → ⊥) → bytes_of p ≡ []
+  bytes_none (Piece.Line place n j) h = refl
+  bytes_none (Piece.Lone place constant) h = refl
+  bytes_none (Piece.Led j place constant) h = absurd (h j place constant refl)
 
   pub none_coming : (c : Cursor) → coming_at t c ≡ [] → coming c ≡ []
   unfolding led_in

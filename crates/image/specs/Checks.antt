@@ -1,7 +1,7 @@
 -- Image's checks of the lists that it is lent, and what is known once they have passed.
-use Rattle.std.specs.Prelude.{◌≡◌, Bool, true, false, List, ℕ, length, ℤ, eqb}
+use Rattle.std.specs.Prelude.{◌≡◌, List, ℕ, length, ℤ, eqb}
 use Rattle.definitions.specs.Board.{Board}
-use Rattle.definitions.specs.Result.{Result, done, refused, ◌>>◌, need}
+use Rattle.definitions.specs.Result.{Result, ◌>>◌, need}
 use Rattle.definitions.specs.Encoding.{N}
 use Rattle.laws.specs.Boards.{board_of}
 use Rattle.opening.specs.declared.Header.{Header}
@@ -13,10 +13,6 @@ use Rattle.judge.specs.Checks.{Long, fitting, solving}
 unfoldable pub imaging : Board → List ℤ → List ℕ → ℕ → Result (Unit {0})
 imaging B values booleans lent =
     (fitting (header_of B) values booleans >> need 11 (N B) (eqb lent (N B))) >> solving B values booleans
-
-abbrev pub is_done : {A : Type 0} → Result A → Bool
-is_done (done a) = true
-is_done (refused n d) = false
 
 -- an accepted record, lists as long as it wants, values no greater than bounds are
 pub record Writable (s : List ℕ) (header : Header) (values : List ℤ) (booleans model : List ℕ) : Type 0 where

@@ -6,15 +6,15 @@ ghost use Rattle.definitions.specs.Meaning.{assigned, plain_model};
 ghost use Rattle.definitions.specs.Answers.{said_verdict};
 ghost use Rattle.laws.specs.Boards.{board_of};
 ghost use Rattle.measure.specs.Told.{Measures};
-ghost use Rattle.image.specs.Checks.{imaging, is_done, Writable};
+ghost use Rattle.image.specs.Checks.{imaging, Writable};
 ghost use Rattle.image.specs.Outcome.{Allowed};
 
 use crate::parts::put_booleans;
 use crate::selectors::put_selectors;
 use crate::variables::put_variables;
-use definitions::{Refusal, Verdict};
+use definitions::Refusal;
 use judge::checks::{lengths, solved};
-use measure::{Measured, Totals, measure};
+use measure::{Measured, measure};
 use opening::Header;
 
 pub mod parts; // parts.rt: the bytes of Booleans and of order variables
@@ -24,34 +24,20 @@ pub mod variables; // variables.rt: the order variables of all variables
 // Refusal 11 for the values, the Booleans and the model, of which only its length is looked at; then 12, 14 and 13.
 fn checked(
     bytes: &[u8],
-    header: Header,
-    totals: Totals,
+    measured: Measured,
     values: &[i32],
     booleans: &[u8],
     lent: usize,
-) -> Verdict
-    requires { Measures bytes.now header totals }
+) -> Result<(), Refusal>
+    requires { Measures bytes.now measured.header measured.sizes }
     ensures { said_verdict result ≡ imaging (board_of bytes.now) values.now booleans.now lent }
 {
-    match lengths(header, values, booleans) {
-        Verdict::Accepted => {
-            if lent != totals.n {
-                Verdict::Refused(Refusal::LentWrong { wanted: totals.n })
-            } else {
-                solved(bytes, header, values, booleans)
-            }
-        }
-        Verdict::Refused(r) => Verdict::Refused(r),
+    let wanted = measured.sizes.n;
+    lengths(measured.header, values, booleans)?;
+    if lent != wanted {
+        return Err(Refusal::LentWrong { wanted });
     }
-}
-
-fn is_accepted(verdict: Verdict) -> bool
-    ensures { result ≡ is_done (said_verdict verdict) }
-{
-    match verdict {
-        Verdict::Accepted => true,
-        Verdict::Refused(_) => false,
-    }
+    solved(bytes, measured.header, values, booleans)
 }
 
 // Booleans, order variables, selectors, each into the part of the model that follows the bytes already written.
@@ -65,18 +51,11 @@ fn put_model(bytes: &[u8], header: Header, values: &[i32], booleans: &[u8], mode
 }
 
 // Writes the whole model; a refusal leaves it as it was.
-pub fn image(bytes: &[u8], values: &[i32], booleans: &[u8], model: &mut [u8]) -> Verdict
+pub fn image(bytes: &[u8], values: &[i32], booleans: &[u8], model: &mut [u8]) -> Result<(), Refusal>
     ensures { Allowed bytes.now values.now booleans.now model.old result model.new }
 {
-    match measure(bytes) {
-        Measured::Accepted(header, totals) => {
-            let verdict = checked(bytes, header, totals, values, booleans, model.len());
-            if !is_accepted(verdict) {
-                return verdict;
-            }
-            put_model(bytes, header, values, booleans, model);
-            verdict
-        }
-        Measured::Refused(r) => Verdict::Refused(r),
-    }
+    let measured = measure(bytes)?;
+    checked(bytes, measured, values, booleans, model.len())?;
+    put_model(bytes, measured.header, values, booleans, model);
+    Ok(())
 }

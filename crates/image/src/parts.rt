@@ -1,24 +1,16 @@
 // The plain model's bytes: of the Boolean variables, and of an integer variable's order variables.
 ghost use Rattle.std.specs.Prelude.{◌≡◌, ◌≤◌, nat_abs, length};
 ghost use Rattle.laws.specs.Written.{written};
-ghost use Rattle.image.specs.Parts.{bit, boolean_bytes, order_from};
-
-pub fn bit(b: bool) -> u8
-    ensures { result ≡ bit b }
-{
-    if b { 1 } else { 0 }
-}
+ghost use Rattle.image.specs.Parts.{boolean_bytes, order_from};
 
 pub fn put_booleans(booleans: &[u8], model: &mut [u8]) -> usize
     requires { length booleans.now ≤ length model.old }
     ensures { (result ≡ length booleans.now) × (model.new ≡ written (boolean_bytes booleans.now) model.old) }
 {
-    let mut i: usize = 0;
-    while i < booleans.len() {
-        model[i] = bit(booleans[i] == 1);
-        i += 1;
+    for (i, boolean) in booleans.iter().enumerate() {
+        model[i] = u8::from(*boolean == 1);
     }
-    i
+    booleans.len()
 }
 
 // For so many c from lower - 1 on, whether the value is at most c.
@@ -27,10 +19,8 @@ pub fn put_orders(value: i32, lower: i32, width: usize, model: &mut [u8]) -> usi
     ensures { (result ≡ width) × (model.new ≡ written (order_from value lower width) model.old) }
 {
     let first = lower - 1;
-    let mut i: usize = 0;
-    while i < width {
-        model[i] = bit(value <= first + i as i32);
-        i += 1;
+    for i in 0..width {
+        model[i] = u8::from(value <= first + i as i32);
     }
-    i
+    width
 }

@@ -10,47 +10,30 @@ ghost use Rattle.rules.specs.Cursors.{at_start};
 ghost use Rattle.image.specs.Parts.{selector_bytes};
 ghost use Rattle.image.specs.Selectors.{led_at, Passing};
 
-use crate::parts::bit;
 use judge::literals::compares;
 use opening::Header;
-use rules::{Ahead, Piece, next_piece, start};
+use rules::{Piece, next_piece, start};
 
 // Of the pieces of the rules, a comparison under its selector has a byte.
 fn put_led(rules: &[u8], clauses: usize, values: &[i32], model: &mut [u8]) -> usize
     requires { Passing rules.now values.now (at_start clauses) × Near values.now × (length (led_at rules.now (at_start clauses)) ≤ length model.old) }
     ensures { (result ≡ length (led_at rules.now (at_start clauses))) × (model.new ≡ written (selector_bytes (assigned values.now []) (led_at rules.now (at_start clauses))) model.old) }
 {
-    let mut at: usize = 0;
+    let mut at = 0;
     let mut cursor = start(clauses);
-    loop {
-        let Ahead::Met(piece, next) = next_piece(rules, cursor) else {
-            return at;
-        };
-        match piece {
-            Piece::Led {
-                selector: _,
-                place,
-                constant,
-            } => {
-                model[at] = bit(compares(rules, values, place, constant));
-                at += 1;
-                cursor = next;
-            }
-            Piece::Line {
-                place: _,
-                literals: _,
-                selector: _,
-            } => {
-                cursor = next;
-            }
-            Piece::Lone {
-                place: _,
-                constant: _,
-            } => {
-                cursor = next;
-            }
+    while let Some((piece, next)) = next_piece(rules, cursor) {
+        if let Piece::Led {
+            place,
+            constant,
+            ..
+        } = piece
+        {
+            model[at] = u8::from(compares(rules, values, place, constant));
+            at += 1;
         }
+        cursor = next;
     }
+    at
 }
 
 // The rules are the record's tail.

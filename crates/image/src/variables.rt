@@ -12,13 +12,11 @@ pub fn put_variables(bytes: &[u8], values: &[i32], model: &mut [u8]) -> usize
     requires { Opens bytes.now × (length values.now ≡ length (board_of bytes.now).bounds) × (length (orders_from (board_of bytes.now) (assigned values.now []) 0) ≤ length model.old) }
     ensures { (result ≡ length (orders_from (board_of bytes.now) (assigned values.now []) 0)) × (model.new ≡ written (orders_from (board_of bytes.now) (assigned values.now []) 0) model.old) }
 {
-    let mut x: usize = 0;
-    let mut at: usize = 0;
-    while x < values.len() {
+    let mut at = 0;
+    for (x, value) in values.iter().enumerate() {
         let bounds = bounds_of(bytes, x);
         let width = width_of(bounds) as usize;
-        at += put_orders(values[x], bounds.lower, width, &mut model[at..]);
-        x += 1;
+        at += put_orders(*value, bounds.lower, width, &mut model[at..]);
     }
     at
 }

@@ -28,11 +28,11 @@ module _ {A B : Type 0} where
   passed (done a) f e = record { got = a; read = refl; rest = e }
   passed (refused n d) f e = never e
 
--- a fault that `?` passes on
-pub passed_on : {A : Type 0} (r : code.Result A Fault) {f : Fault} → IsErrAnd r (λ e. e ≡ f) → r ≡ code.Err f
+-- an error that `?` passes on
+pub passed_on : {A E : Type 0} (r : code.Result A E) {f : E} → IsErrAnd r (λ e. e ≡ f) → r ≡ code.Err f
 passed_on r h = let p = err_from_is_err_and r h in p.1 ∙ ap code.Err p.2
 
--- and where it becomes a refusal
+-- and a fault that becomes a refusal
 pub turned : {A B : Type 0} (meaning : A → B) (r : code.Result A Refusal) (f : Fault) → IsErrAnd r (λ e. said e ≡ (number f.why, f.place)) → answered meaning r ≡ fault f
 turned meaning r f h = let p = err_from_is_err_and r h in rw (p.1, p.2)
 

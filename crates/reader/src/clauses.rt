@@ -1,6 +1,6 @@
 // Literals, and clauses: a count and so many literals.
-ghost use Rattle.std.specs.Prelude.{◌≡◌, ◌+◌, ◌≤◌};
-ghost use Rattle.definitions.specs.Reading.{times, count, of_kind, read_literal, read_clause};
+ghost use Rattle.std.specs.Prelude.{◌≡◌, ◌+◌};
+ghost use Rattle.definitions.specs.Reading.{times, count, boolean, read_literal, read_clause};
 ghost use Rattle.reader.specs.Said.{context_of, said_got, said_step, said_literal, Placed};
 ghost use Rattle.reader.specs.Parts.{past};
 
@@ -9,13 +9,23 @@ use super::comparisons::comparison_at;
 use super::{Context, Fault, Literal, Why};
 use definitions::Got;
 
-// Kind 0 is the Boolean, kind 1 its negation.
-fn boolean_at(rules: &[u8], known: Context, kind: u32, at: usize) -> Result<Got<Literal>, Fault>
-    requires { kind ≤ 1 }
-    ensures { (said_literal rules.now result ≡ of_kind (context_of known) kind rules.now at) × Placed at result }
+// The number of a Boolean variable.
+fn boolean_at(rules: &[u8], known: Context, at: usize) -> Result<Got<u32>, Fault>
+    ensures { said_got result ≡ boolean (context_of known) rules.now at }
 {
-    let read = number_at(rules, at, 2, 1, known.bools, Why::Literal)?;
-    let value = match kind {
+    number_at(rules, at, 2, 1, known.bools, Why::Literal)
+}
+
+// Kind 0 is the Boolean, kind 1 its negation, kind 2 a comparison.
+pub fn literal_at(rules: &[u8], known: Context, at: usize) -> Result<Got<Literal>, Fault>
+    ensures { (said_literal rules.now result ≡ read_literal (context_of known) rules.now at) × Placed (at + 1) result }
+{
+    let kind = number_at(rules, at, 1, 0, 2, Why::Literal)?;
+    if 1 < kind.value {
+        return comparison_at(rules, known, kind.next);
+    }
+    let read = boolean_at(rules, known, kind.next)?;
+    let value = match kind.value {
         0 => Literal::Boolean(read.value),
         _ => Literal::Negated(read.value),
     };
@@ -23,16 +33,6 @@ fn boolean_at(rules: &[u8], known: Context, kind: u32, at: usize) -> Result<Got<
         value,
         next: read.next,
     })
-}
-
-pub fn literal_at(rules: &[u8], known: Context, at: usize) -> Result<Got<Literal>, Fault>
-    ensures { (said_literal rules.now result ≡ read_literal (context_of known) rules.now at) × Placed (at + 1) result }
-{
-    let kind = number_at(rules, at, 1, 0, 2, Why::Literal)?;
-    if kind.value < 2 {
-        return boolean_at(rules, known, kind.value, kind.next);
-    }
-    comparison_at(rules, known, kind.next)
 }
 
 fn past_literals(rules: &[u8], known: Context, n: u32, at: usize) -> Result<usize, Fault>

@@ -11,26 +11,23 @@ pub fn literal_again(rules: &[u8], at: usize) -> Got<Literal>
     requires { There rules.now at }
     ensures { Rereads rules.now at result }
 {
-    let kind = unchecked(rules, at, 1);
-    if kind == 0 {
-        return Got {
+    match unchecked(rules, at, 1) {
+        0 => Got {
             value: Literal::Boolean(unchecked(rules, at + 1, 2)),
             next: at + 3,
-        };
-    }
-    if kind == 1 {
-        return Got {
+        },
+        1 => Got {
             value: Literal::Negated(unchecked(rules, at + 1, 2)),
             next: at + 3,
-        };
-    }
-    let place = at + 1;
-    let end = place + 1 + 3 * unchecked(rules, place, 1) as usize;
-    Got {
-        value: Literal::Comparison {
-            place: place,
-            constant: unchecked_signed(rules, end, 4),
         },
-        next: end + 4,
+        _ => {
+            let place = at + 1;
+            let end = place + 1 + 3 * unchecked(rules, place, 1) as usize;
+            let constant = unchecked_signed(rules, end, 4);
+            Got {
+                value: Literal::Comparison { place, constant },
+                next: end + 4,
+            }
+        }
     }
 }

@@ -9,8 +9,6 @@ use Rattle.definitions.specs.Texts.{blank, most}
 use Rattle.definitions.specs.TextReading.{digit, Number, whole, begun, grown}
 use Rattle.laws.specs.Stepping.{num}
 use Rattle.replies.specs.Parts.{word_at, count_from, count_at, number_from, number_at, Found, ends, holds, found_from}
-use Rattle.replies.specs.declared.Count.{Count}
-use Rattle.replies.specs.Said.{CountIn}
 
 pub via : {A : Type 0} {x y z : A} → x ≡ y → x ≡ z → y ≡ z
 via p q = sym p ∙ q
@@ -152,7 +150,3 @@ made_by f (refused n d) e = never e
 pub made_not : {A B : Type 0} (f : A → B) (m : Result A) {n d : ℕ} → (m >>= λ a. done (f a)) ≡ refused n d → m ≡ refused n d
 made_not f (done a) e = never (sym e)
 made_not f (refused n d) {n = n'} e = let r = refusal_is e in ap (λ x. refused x d) r.0 ∙ ap (refused n') r.1
-
-pub count_sooner : (from : ℕ) (t : List ℕ) (r : Count) → CountIn (from + 1) t r → CountIn from t r
-count_sooner from t (Count.Value v next) h = (omega (arith, h.0), h.1)
-count_sooner from t (Count.Bad d) h = tt

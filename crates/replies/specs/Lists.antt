@@ -164,9 +164,9 @@ pub record Writes (N M from numbers clauses at : ℕ) (t : List ℕ) (old now : 
   pub list : now ≡ written counts.ns old
 
 module _ (N M from : ℕ) (t : List ℕ) (old : List ℤ) where
-  pub writes_none : from ≤ length t → Writes N M from 0 0 from t old old
+  pub writes_none : Writes N M from 0 0 from t old old
   unfolding counts_none
-  writes_none h = record { counts = counts_none N M from t h; list = written_none old }
+  writes_none = record { counts = counts_none N M from t; list = written_none old }
 
   module _ (f : Fits N M from t old) {numbers clauses at : ℕ} {now : List ℤ} (w : Writes N M from numbers clauses at t old now) where
     abbrev so_far : List ℤ
@@ -195,11 +195,11 @@ module _ (N M from : ℕ) (t : List ℕ) (old : List ℤ) where
           let on : list_from (at_number (text N M) all) next (drop next t) ≡ done f.read = sym (next_is N M so_far at (drop at t) w.counts.ended h) ∙ goes in
           omega (arith, reads-long N M (length all) (drop next t) (at_number (text N M) all) next (free all (omega arith)) f.read on, f.fits, length-append so_far (value ∷ []), w.counts.long)
 
-      pub writes_more : (after : ℕ) (stored : ℤ) → stored ≡ value → at < next → next ≤ length t → after ≡ (if eqb size 0 then suc clauses else clauses)
+      pub writes_more : (after : ℕ) (stored : ℤ) → stored ≡ value → at < next → after ≡ (if eqb size 0 then suc clauses else clauses)
           → Writes N M from (numbers + 1) after next t old (set now numbers stored)
       unfolding counts_more
-      writes_more after stored s l m e = record {
-        counts = counts_more N M from t w.counts start minus size next after h l m e;
+      writes_more after stored s l e = record {
+        counts = counts_more N M from t w.counts start minus size next after h l e;
         list = ap (set now numbers) s ∙ ap (λ z. set z numbers value) w.list ∙ written_snoc so_far old value numbers w.counts.long writes_room;
       }
 

@@ -1,5 +1,5 @@
 -- Laws of a reply part by part: its numbers one by one, and what they make of the whole. Assumes nothing.
-use Rattle.std.specs.Prelude.{◌≡◌, refl, Bool, true, false, ◌&&◌, ℕ, suc, ◌+◌, ◌≤◌, ◌<◌, ltb, drop, get_or, ℤ, nat_abs, if◌then◌else◌}
+use Rattle.std.specs.Prelude.{◌≡◌, refl, Option, Some, None, Bool, true, false, ◌&&◌, ℕ, suc, ◌+◌, ◌≤◌, ◌<◌, ltb, drop, get_or, ℤ, nat_abs, if◌then◌else◌}
 use Rattle.std.proofs.Math.Path.{sym, ap}
 use Rattle.std.proofs.Common.{◌∙◌, inl, inr, add-zero, add-one, drop-cons, eq-eqb, ne_eqb, eqb-true, ltb-true, ltb-false}
 use mathlib.Core.List.{List, [], ◌∷◌, ◌++◌}
@@ -15,10 +15,10 @@ use Rattle.definitions.specs.TextReading.{Number, number_read, whole, begun, gro
 use Rattle.definitions.specs.TextOperations.{often}
 use Rattle.laws.specs.Stepping.{num, cases}
 use Rattle.demands.specs.Reached.{value-size}
-use Rattle.replies.specs.declared.Value.{Value}
+use Rattle.replies.specs.declared.Literal.{Literal}
 use Rattle.replies.specs.declared.Heard.{Heard}
 use Rattle.replies.specs.Parts.{word_at, number_from, number_at, reply_from, nothing, Taken, last, more, after_number, number_on, value_at, wanted, lines, in_order, Summary, without, literals, summed, none_at, model_at, literals_of, literals_from, HasModel}
-use Rattle.replies.specs.Said.{ValueIn, said_heard, HeardIn}
+use Rattle.replies.specs.Said.{ValueIn, heard_said, HeardIn}
 use Rattle.replies.specs.Bytes.{nothing_left, first_of, second_of}
 use Rattle.replies.specs.Texts.{from_step, word_parts}
 
@@ -68,10 +68,9 @@ module _ (N at : ℕ) (t : List ℕ) where
 pub number_none : (N : ℕ) (t : List ℕ) (at : ℕ) → length t ≤ at → number_on N at (drop at t) ≡ refused 18 at
 number_none N t at h = rw (nothing_left t at h)
 
-pub value_sooner : (from at : ℕ) (t : List ℕ) (r : Value) → from ≤ at → ValueIn at t r → ValueIn from t r
-value_sooner from at t (Value.Literal minus size line next) l h = (omega (arith, h.0), h.1)
-value_sooner from at t Value.Last l h = tt
-value_sooner from at t (Value.Bad d) l h = tt
+pub value_sooner : (from at : ℕ) (t : List ℕ) (r : Option Literal) → from ≤ at → ValueIn at t r → ValueIn from t r
+value_sooner from at t (Some literal) l h = (omega (arith, h.0), h.1)
+value_sooner from at t None l h = tt
 
 -- ---- all of them
 over-parts : (r : Reply) (at : ℕ) (t : List ℕ) → reply_from (over r) at t ≡ nothing r at t
@@ -169,16 +168,15 @@ order_snoc k (n ∷ ns) z =
 -- what is read so far of a reply's literals
 pub record Passed (N from : ℕ) (line : Bool) (at : ℕ) (t : List ℕ) : Type 0 where
   pub ns : List ℤ
-  pub inside : at ≤ length t
   pub goes : reply_from (wanted N ns line) at (drop at t) ≡ reply_from (lines N) from (drop from t)
 
 module _ (N from : ℕ) (t : List ℕ) where
-  unfoldable pub passed_none : from ≤ length t → Passed N from true from t
-  passed_none h = record { ns = []; inside = h; goes = refl }
+  unfoldable pub passed_none : Passed N from true from t
+  passed_none = record { ns = []; goes = refl }
 
   module _ {line : Bool} {at : ℕ} (k : Passed N from line at t) where
-    unfoldable pub passed_more : {z : ℤ} {begins : Bool} {next : ℕ} → value_at N line at (drop at t) ≡ done (more z begins next (drop next t)) → next ≤ length t → Passed N from begins next t
-    passed_more {z} f m = record { ns = k.ns ++ (z ∷ []); inside = m; goes = sym (taken_is N k.ns line at (drop at t) f) ∙ k.goes }
+    unfoldable pub passed_more : {z : ℤ} {begins : Bool} {next : ℕ} → value_at N line at (drop at t) ≡ done (more z begins next (drop next t)) → Passed N from begins next t
+    passed_more {z} f = record { ns = k.ns ++ (z ∷ []); goes = sym (taken_is N k.ns line at (drop at t) f) ∙ k.goes }
 
     pub passed_all : value_at N line at (drop at t) ≡ done last → reply_from (lines N) from (drop from t) ≡ done (model k.ns)
     passed_all f = sym k.goes ∙ taken_is N k.ns line at (drop at t) f
@@ -194,21 +192,21 @@ pub record Literals (N from : ℕ) (line : Bool) (count : ℕ) (rising : Bool) (
   pub short : count ≤ at
 
 module _ (N from : ℕ) (t : List ℕ) where
-  pub literals_none : from ≤ length t → Literals N from true 0 true from t
+  pub literals_none : Literals N from true 0 true from t
   unfolding passed_none
-  literals_none h = record { passed = passed_none N from t h; long = refl; order = refl; short = omega arith }
+  literals_none = record { passed = passed_none N from t; long = refl; order = refl; short = omega arith }
 
   module _ {line : Bool} {count : ℕ} {rising : Bool} {at : ℕ} (k : Literals N from line count rising at t) where
     pub literals-more : (minus : Bool) (size : ℕ) (begins : Bool) (next : ℕ) (rises : Bool)
-        → value_at N line at (drop at t) ≡ done (more (number_read (num 0 minus size)) begins next (drop next t)) → at < next → next ≤ length t
+        → value_at N line at (drop at t) ≡ done (more (number_read (num 0 minus size)) begins next (drop next t)) → at < next
         → rises ≡ (rising && eqb size (count + 1)) → Literals N from begins (count + 1) rises next t
     unfolding passed_more
-    literals-more minus size begins next rises f l m r =
+    literals-more minus size begins next rises f l r =
         let z = number_read (num 0 minus size) in
         let ns = k.passed.ns in
         let e : 1 + length ns ≡ count + 1 = omega (arith, k.long) in
         record {
-          passed = passed_more N from t k.passed f m;
+          passed = passed_more N from t k.passed f;
           long = omega (arith, length-append ns (z ∷ []), k.long);
           order = order_snoc 1 ns z
               ∙ ap (λ a. a && eqb (nat_abs z) (1 + length ns)) k.order
@@ -233,15 +231,15 @@ pub record Passing {A : Type 0} (f : List ℤ → A) (N from : ℕ) (line : Bool
   pub held : now ≡ f passed.ns
 
 module _ {A : Type 0} (f : List ℤ → A) (N from : ℕ) (t : List ℕ) where
-  pub passing_none : {now : A} → from ≤ length t → now ≡ f [] → Passing f N from true from t now
+  pub passing_none : {now : A} → now ≡ f [] → Passing f N from true from t now
   unfolding passed_none
-  passing_none h e = record { passed = passed_none N from t h; held = e }
+  passing_none e = record { passed = passed_none N from t; held = e }
 
   module _ {line : Bool} {at : ℕ} {now : A} (k : Passing f N from line at t now) where
-    pub passing-more : {z : ℤ} {begins : Bool} {next : ℕ} {after : A} → value_at N line at (drop at t) ≡ done (more z begins next (drop next t)) → next ≤ length t
+    pub passing-more : {z : ℤ} {begins : Bool} {next : ℕ} {after : A} → value_at N line at (drop at t) ≡ done (more z begins next (drop next t))
         → ((ns : List ℤ) → now ≡ f ns → after ≡ f (ns ++ (z ∷ []))) → Passing f N from begins next t after
     unfolding passed_more
-    passing-more h m e = record { passed = passed_more N from t k.passed h m; held = e k.passed.ns k.held }
+    passing-more h e = record { passed = passed_more N from t k.passed h; held = e k.passed.ns k.held }
 
     pub passing-all : value_at N line at (drop at t) ≡ done last → now ≡ f (literals_from N from t)
     passing-all h = k.held ∙ ap (λ m. f (literals_of m)) (sym (passed_all N from t k.passed h))
@@ -259,10 +257,9 @@ no_literals {B} {count} {rising} (done p) e = go p.1 e
     go (b ∷ u) e = never (sym e)
 
 module _ (at : ℕ) (t : List ℕ) where
-  pub none_in : (N : ℕ) (s : List ℕ) (m : Result Reply) (r : Heard) → said_heard r ≡ summed (none_at at t) → HeardIn N s m r
-  none_in N s m Heard.Nothing e = tt
-  none_in N s m (Heard.Literals from count rising) e = no_literals (word_at (ascii "UNSATISFIABLE\n") at t) e
-  none_in N s m (Heard.Bad d) e = tt
+  pub none_in : (N : ℕ) (s : List ℕ) (m : Result Reply) (r : Option Heard) → done (heard_said r) ≡ summed (none_at at t) → HeardIn N s m r
+  none_in N s m None e = tt
+  none_in N s m (Some heard) e = no_literals (word_at (ascii "UNSATISFIABLE\n") at t) e
 
   pub none_wrong : {n d : ℕ} → word_at (ascii "UNSATISFIABLE\n") at t ≡ refused n d → refused n d ≡ summed (none_at at t)
   none_wrong h = sym (ap summed (ap (λ m. m >>= λ p. nothing unsatisfiable p.0 p.1) h))
@@ -340,10 +337,14 @@ module _ (N : ℕ) (t : List ℕ) where
         let is : drop next t ≡ 85 ∷ drop (suc next) t = drop-cons t next 0 l ∙ ap (λ b. b ∷ drop (suc next) t) e in
         ap summed (ap (none_at next) is ∙ sym (judged_none N next (drop (suc next) t)) ∙ ap (judged N next) (sym is) ∙ sym reply-on)
 
-    pub reply-model : next < length t → (get_or t next 0 ≡ 85 → ⊥) → model_at N next (drop next t) ≡ read_reply N t
-    reply-model l e =
-        let is = drop-cons t next 0 l in
-        ap (model_at N next) is ∙ sym (judged-model N next (get_or t next 0) (drop (suc next) t) e) ∙ ap (judged N next) (sym is) ∙ sym reply-on
+    pub reply-model : (next < length t → get_or t next 0 ≡ 85 → ⊥) → model_at N next (drop next t) ≡ read_reply N t
+    reply-model e = elim (cases (ltb next (length t))) [
+      | inl k ↦ (let l = ltb-true next (length t) k in
+          let is = drop-cons t next 0 l in
+          ap (model_at N next) is ∙ sym (judged-model N next (get_or t next 0) (drop (suc next) t) (e l)) ∙ ap (judged N next) (sym is) ∙ sym reply-on)
+      | inr k ↦ (let is = nothing_left t next (ltb-false next (length t) k) in
+          ap (model_at N next) is ∙ ap (refused 18) (sym (add-zero next)) ∙ ap (judged N next) (sym is) ∙ sym reply-on)
+    ]
 
 -- ---- literals of k, k + 1, .. in order: each variable of them stands there once
 often-before : (k v : ℕ) (ns : List ℤ) → in_order k ns ≡ true → v < k → often v ns ≡ 0

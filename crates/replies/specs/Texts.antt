@@ -9,9 +9,7 @@ use Rattle.definitions.specs.Texts.{blank, zeros, most}
 use Rattle.definitions.specs.TextReading.{digit, Number, number_read, whole, begun, grown, Count, count_N, count_M, text, State, word, count, count_on, at_number, in_number, awaits, counted, step, fed, Read, end_text, read_text}
 use Rattle.laws.specs.Stepping.{num, cases}
 use Rattle.demands.specs.Reached.{zeros-append}
-use Rattle.replies.specs.declared.Count.{Count as CountAnswer}
 use Rattle.replies.specs.Parts.{word_at, count_from, count_at, number_from, Found, ends, holds, found_from, word_count, end_at, rest_at, line_at, started, from, list_from, sizes, sized}
-use Rattle.replies.specs.Said.{CountIn}
 
 -- ---- from a state on, to an end: one byte on, and past bytes that are awaited
 module _ {A : Type 0} (end : ℕ → State → Result A) where
@@ -114,17 +112,16 @@ pub record Counts (N M from numbers count_M at : ℕ) (t : List ℕ) : Type 0 wh
   pub ended : zeros ns ≡ count_M
   pub few : count_M ≤ numbers
   pub short : numbers ≤ at
-  pub inside : at ≤ length t
   pub goes : list_from (at_number (text N M) ns) at (drop at t) ≡ list_from (started N M) from (drop from t)
 
 module _ (N M from : ℕ) (t : List ℕ) where
-  unfoldable pub counts_none : from ≤ length t → Counts N M from 0 0 from t
-  counts_none h = record { ns = []; long = refl; ended = refl; few = omega arith; short = omega arith; inside = h; goes = refl }
+  unfoldable pub counts_none : Counts N M from 0 0 from t
+  counts_none = record { ns = []; long = refl; ended = refl; few = omega arith; short = omega arith; goes = refl }
 
   module _ {numbers count_M at : ℕ} (k : Counts N M from numbers count_M at t) where
-    unfoldable pub counts_more : (start : ℕ) (minus : Bool) (size next after : ℕ) → found_from N (ltb count_M M) at (drop at t) ≡ done (holds (num start minus size) next (drop next t)) → at < next → next ≤ length t
+    unfoldable pub counts_more : (start : ℕ) (minus : Bool) (size next after : ℕ) → found_from N (ltb count_M M) at (drop at t) ≡ done (holds (num start minus size) next (drop next t)) → at < next
         → after ≡ (if eqb size 0 then suc count_M else count_M) → Counts N M from (numbers + 1) after next t
-    counts_more start minus size next after f l m e =
+    counts_more start minus size next after f l e =
         let p = num start minus size in
         let z = zeros_snoc k.ns minus size in
         let w : zeros (k.ns ++ (number_read p ∷ [])) ≡ after = z ∙ rw k.ended (sym e) in
@@ -134,7 +131,6 @@ module _ (N M from : ℕ) (t : List ℕ) where
           ended = w;
           few = omega (arith, e, at-most (eqb size 0) count_M, k.few);
           short = omega (arith, k.short);
-          inside = m;
           goes = sym (next_is N M k.ns at (drop at t) k.ended f) ∙ k.goes;
         }
 
@@ -238,10 +234,6 @@ module _ (w : List ℕ) (at : ℕ) (t : List ℕ) where
 
   pub word_count_bad : {n d : ℕ} → word_at w at t ≡ refused n d → word_count w at t ≡ refused n d
   word_count_bad h = ap (λ m. m >>= λ p. count_at p.0 p.1) h
-
-pub count_anywhere : (from : ℕ) (t : List ℕ) (r : CountAnswer) → CountIn from t r → CountIn 0 t r
-count_anywhere from t (CountAnswer.Value v next) h = (omega arith, h.1)
-count_anywhere from t (CountAnswer.Bad d) h = tt
 
 module _ (N M at : ℕ) (t : List ℕ) where
   pub end_is : {next : ℕ} {u : List ℕ} → word_at (ascii "\n") at t ≡ done (next, u) → end_at N M at t ≡ done (N, M, next, u)

@@ -1,79 +1,59 @@
 // The numbers of a clause list.
-ghost use Rattle.std.specs.Prelude.{◌≡◌, suc, ◌≤◌, ◌<◌, length, drop, if◌then◌else◌};
+ghost use Rattle.std.specs.Prelude.{◌≡◌, suc, ◌<◌, drop, IfOk, if◌then◌else◌};
 ghost use Rattle.definitions.specs.Tools.{eqb};
 ghost use Rattle.replies.specs.Parts.{found_from, started, list_from, sized};
 ghost use Rattle.replies.specs.Said.{said_next, NextIn, said_counted};
 
 use super::bytes::is_blank;
-use super::faults::of_numeral;
 use super::parts::number_at;
-use super::{Counted, Next, Numeral};
+use super::{Bad, Head, Next};
 
 // The next number, or the end. Where there is no room for a number, its first byte is refused.
-pub fn next_number(text: &[u8], n: u32, room: bool, from: usize) -> Next
-    requires { from ≤ length text.now }
-    ensures { (said_next text.now result ≡ found_from n room from (drop from text.now)) × NextIn from text.now result }
+pub fn next_number(text: &[u8], n: u32, room: bool, from: usize) -> Result<Next, Bad>
+    ensures says { said_next text.now result ≡ found_from n room from (drop from text.now) }
+    ensures place { IfOk result (NextIn from text.now) }
 {
+    // by hand, since a place is answered also where `from` is past the end
     let mut at = from;
-    while at < text.len() {
-        if !is_blank(text[at]) {
-            if !room {
-                return Next::Bad(at);
-            }
-            let read = number_at(text, n, at);
-            let Numeral::Number { minus, size, next } = read else {
-                return Next::Bad(of_numeral(read));
-            };
-            return Next::Number {
-                start: at,
-                minus,
-                size,
-                next,
-            };
-        }
+    while at < text.len() && is_blank(text[at]) {
         at += 1;
     }
-    Next::End(at)
+    if text.len() <= at {
+        return Ok(Next::End(at));
+    }
+    if !room {
+        return Err(Bad { place: at });
+    }
+    let got = number_at(text, n, at)?;
+    Ok(Next::Number(got))
 }
 
 pub fn clauses_after(clauses: usize, size: u32) -> usize
     requires { clauses < 18446744073709551615 }
     ensures { result ≡ (if eqb size 0 then suc clauses else clauses) }
 {
-    if size == 0 {
-        return clauses + 1;
-    }
-    clauses
+    if size == 0 { clauses + 1 } else { clauses }
 }
 
-// How many numbers there are, if there are m clauses and all is well.
-pub fn count_numbers(text: &[u8], n: u32, m: u32, from: usize) -> Counted
-    requires { from ≤ length text.now }
-    ensures { said_counted n m result ≡ sized (list_from (started n m) from (drop from text.now)) }
+// How many numbers follow the first line, if there are M clauses and all is well.
+pub fn count_numbers(text: &[u8], head: Head) -> Result<usize, Bad>
+    ensures { said_counted head result ≡ sized (list_from (started head.n head.m) head.next (drop head.next text.now)) }
 {
-    let mut at = from;
-    let mut numbers: usize = 0;
-    let mut clauses: usize = 0;
+    let mut at = head.next;
+    let mut numbers = 0;
+    let mut clauses = 0;
     loop {
-        match next_number(text, n, clauses < m as usize, at) {
-            Next::Number {
-                start: _,
-                minus: _,
-                size,
-                next,
-            } => {
+        match next_number(text, head.n, clauses < head.m as usize, at)? {
+            Next::Number(got) => {
                 numbers += 1;
-                clauses = clauses_after(clauses, size);
-                at = next;
+                clauses = clauses_after(clauses, got.value.size);
+                at = got.next;
             }
             Next::End(end) => {
-                if clauses == m as usize {
-                    return Counted::Numbers(numbers);
+                if clauses == head.m as usize {
+                    return Ok(numbers);
                 }
-                return Counted::Bad(end);
-            }
-            Next::Bad(d) => {
-                return Counted::Bad(d);
+                return Err(Bad { place: end });
             }
         }
     }

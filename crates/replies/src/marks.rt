@@ -1,12 +1,11 @@
 // The least variable that does not stand in a reply exactly once, sought by windows of marks.
-ghost use Rattle.std.specs.Prelude.{◌≡◌, ◌+◌, ◌-◌, ◌≤◌, min, length};
+ghost use Rattle.std.specs.Prelude.{◌≡◌, ◌+◌, ◌-◌, ◌≤◌, length};
 ghost use Rattle.lent.specs.Said.{said_found};
 ghost use Rattle.replies.specs.Parts.{literals_from, HasModel};
 ghost use Rattle.replies.specs.Marks.{Cleared, changed, raised, marks_of, ones_from, once_from, sought_from};
 
-use super::Value;
+use super::Listed;
 use super::values::value_at;
-use lent::Found;
 
 // Marks are of the variables from `first` on, and go no higher than 2.
 fn mark(marks: &mut [u8], first: usize, variable: usize)
@@ -28,50 +27,36 @@ fn mark(marks: &mut [u8], first: usize, variable: usize)
 
 // How often each variable of a window stands in the reply, up to twice.
 fn mark_values(text: &[u8], n: u32, from: usize, first: usize, marks: &mut [u8])
-    requires { HasModel n from text.now × Cleared marks.old }
+    requires good { HasModel n from text.now }
+    requires cleared { Cleared marks.old }
     ensures { marks.new ≡ marks_of first (length marks.old) (literals_from n from text.now) }
 {
     let mut at = from;
     let mut line = true;
-    loop {
-        match value_at(text, n, line, at) {
-            Value::Literal {
-                minus: _,
-                size,
-                line: begins,
-                next,
-            } => {
-                mark(marks, first, size as usize);
-                line = begins;
-                at = next;
-            }
-            Value::Last => {
-                return;
-            }
-            Value::Bad(_) => {
-                return;
-            }
-        }
+    while let Ok(Some(literal)) = value_at(text, n, line, at) {
+        mark(marks, first, literal.number.size as usize);
+        line = literal.line;
+        at = literal.next;
     }
 }
 
-fn first_not_one(marks: &[u8], first: usize) -> Found
+fn first_not_one(marks: &[u8], first: usize) -> Option<usize>
     requires { first + length marks.now ≤ 18446744073709551615 }
     ensures { said_found 19 result ≡ ones_from first marks.now }
 {
-    let mut i: usize = 0;
-    while i < marks.len() {
-        if marks[i] != 1 {
-            return Found::At(first + i);
+    for (i, mark) in marks.iter().enumerate() {
+        if *mark != 1 {
+            return Some(first + i);
         }
-        i += 1;
     }
-    Found::Nothing
+    None
 }
 
 // Of so many variables from `first` on, the least that does not stand in the reply exactly once.
-fn not_once_in(text: &[u8], n: u32, from: usize, first: usize, many: usize) -> Found
-    requires { HasModel n from text.now × (many ≤ 32768) × (first + many ≤ 18446744073709551615) }
+fn not_once_in(text: &[u8], n: u32, from: usize, first: usize, many: usize) -> Option<usize>
+    requires good { HasModel n from text.now }
+    requires few { many ≤ 32768 }
+    requires inside { first + many ≤ 18446744073709551615 }
     ensures { said_found 19 result ≡ once_from first many (literals_from n from text.now) }
 {
     let mut marks = [0u8; 32768];
@@ -79,46 +64,32 @@ fn not_once_in(text: &[u8], n: u32, from: usize, first: usize, many: usize) -> F
     first_not_one(&marks[..many], first)
 }
 
-fn window(left: usize) -> usize
-    ensures { result ≡ min left 32768 }
-{
-    if left < 32768 {
-        return left;
-    }
-    32768
-}
-
 // Each window takes a pass over the reply. Of a reply's literals and one variable more some is not there once, so that
 // few passes are made however great n is.
-pub fn least_not_once(text: &[u8], n: u32, from: usize, first: usize) -> Found
-    requires { HasModel n from text.now × (first ≤ n + 1) }
+pub fn least_not_once(text: &[u8], n: u32, from: usize, first: usize) -> Option<usize>
+    requires good { HasModel n from text.now }
+    requires inside { first ≤ n + 1 }
     ensures { said_found 19 result ≡ once_from first ((n + 1) - first) (literals_from n from text.now) }
 {
     let end = n as usize + 1;
+    // by hand, since the last window is shorter
     let mut at = first;
     while at < end {
-        let many = window(end - at);
-        match not_once_in(text, n, from, at, many) {
-            Found::At(variable) => {
-                return Found::At(variable);
-            }
-            Found::Nothing => {
-                at += many;
-            }
+        let many = (end - at).min(32768);
+        if let Some(variable) = not_once_in(text, n, from, at, many) {
+            return Some(variable);
         }
+        at += many;
     }
-    Found::Nothing
+    None
 }
 
 // Literals of 1, 2, .. in this order leave only those past the last to be sought.
-pub fn sought_from(n: u32, count: usize, rising: bool) -> usize
-    ensures { result ≡ sought_from n count rising }
+pub fn sought_from(n: u32, listed: Listed) -> usize
+    ensures { result ≡ sought_from n listed.count listed.rising }
 {
-    if !rising {
+    if !listed.rising {
         return 1;
     }
-    if (n as usize) < count {
-        return n as usize + 1;
-    }
-    count + 1
+    listed.count.min(n as usize) + 1
 }

@@ -1,60 +1,43 @@
 // A whole reply.
-ghost use Rattle.std.specs.Prelude.{◌≡◌, ◌≤◌, length, drop};
+ghost use Rattle.std.specs.Prelude.{◌≡◌, ◌≤◌, length, drop, IfOk};
 ghost use Rattle.definitions.specs.TextReading.{read_reply};
 ghost use Rattle.replies.specs.Parts.{summed, none_at, model_at};
-ghost use Rattle.replies.specs.Said.{said_heard, HeardIn};
+ghost use Rattle.replies.specs.Said.{said_nothing, said_model, ModelIn, said_heard, HeardIn};
 
-use super::faults::{of_listed, of_word};
 use super::parts::word_at;
 use super::values::count_values;
-use super::{Heard, Listed, Word};
+use super::{Bad, Heard};
 
-fn no_model(text: &[u8], from: usize) -> Heard
-    requires { from ≤ length text.now }
-    ensures { said_heard result ≡ summed (none_at from (drop from text.now)) }
+fn no_model(text: &[u8], from: usize) -> Result<(), Bad>
+    ensures { said_nothing result ≡ summed (none_at from (drop from text.now)) }
 {
-    let read = word_at(text, b"UNSATISFIABLE\n", from);
-    let Word::Past(next) = read else {
-        return Heard::Bad(of_word(read));
-    };
-    if text.len() <= next {
-        return Heard::Nothing;
+    let next = word_at(text, b"UNSATISFIABLE\n", from)?;
+    if next < text.len() {
+        return Err(Bad { place: next });
     }
-    Heard::Bad(next)
+    Ok(())
 }
 
-fn a_model(text: &[u8], n: u32, from: usize) -> Heard
-    requires { from ≤ length text.now }
-    ensures { (said_heard result ≡ summed (model_at n from (drop from text.now))) × HeardIn n text.now (model_at n from (drop from text.now)) result }
+fn a_model(text: &[u8], n: u32, at: usize) -> Result<Heard, Bad>
+    requires { at ≤ length text.now }
+    ensures says { said_model result ≡ summed (model_at n at (drop at text.now)) }
+    ensures lines { IfOk result (ModelIn n text.now (model_at n at (drop at text.now))) }
 {
-    let word = word_at(text, b"SATISFIABLE\n", from);
-    let Word::Past(next) = word else {
-        return Heard::Bad(of_word(word));
-    };
-    let listed = count_values(text, n, next);
-    let Listed::Literals { count, rising } = listed else {
-        return Heard::Bad(of_listed(listed));
-    };
-    Heard::Literals {
-        from: next,
-        count,
-        rising,
-    }
+    let from = word_at(text, b"SATISFIABLE\n", at)?;
+    let listed = count_values(text, n, from)?;
+    Ok(Heard { from, listed })
 }
 
-// 'None', or the count of literals and whether they are in order, or the detail of 18.
-pub fn check_reply(text: &[u8], n: u32) -> Heard
-    ensures { (said_heard result ≡ summed (read_reply n text.now)) × HeardIn n text.now (read_reply n text.now) result }
+// No model, or the count of literals and whether they are in order, or the detail of 18.
+pub fn check_reply(text: &[u8], n: u32) -> Result<Option<Heard>, Bad>
+    ensures says { said_heard result ≡ summed (read_reply n text.now) }
+    ensures lines { IfOk result (HeardIn n text.now (read_reply n text.now)) }
 {
-    let read = word_at(text, b"s ", 0);
-    let Word::Past(next) = read else {
-        return Heard::Bad(of_word(read));
-    };
-    if text.len() <= next {
-        return Heard::Bad(next);
+    let next = word_at(text, b"s ", 0)?;
+    if next < text.len() && text[next] == b'U' {
+        no_model(text, next)?;
+        return Ok(None);
     }
-    if text[next] == 85 {
-        return no_model(text, next);
-    }
-    a_model(text, n, next)
+    let heard = a_model(text, n, next)?;
+    Ok(Some(heard))
 }

@@ -12,10 +12,6 @@ pub returns-then-value-numbers : goal.returns-then-value-numbers
 returns-then-value-numbers c =
     twos_low c.args.width _ c.requires.0 c.requires.1 (omega arith)
 
-pub overflow_sub-result : goal.overflow_sub-result
-overflow_sub-result c =
-    rw (c.power-numbers.ensures, twos-high _ _ c.requires.0 c.requires.1 (omega arith)) (sfits_widen tt (twos_fits _ _ c.requires.0 c.requires.1))
-
 pub overflow_cast-result-4 : goal.overflow_cast-result-4
 overflow_cast-result-4 c =
     let f = twos_fits _ _ c.requires.0 c.requires.1 in

@@ -1,5 +1,5 @@
 -- One byte more: what is computed on the way fits, and gives the number with that byte.
-use Rattle.std.proofs.Common.{◌≡◌, arith, sym}
+use Rattle.std.proofs.Common.{arith, sym}
 use Rattle.fields.proofs.Laws.{big_none, big-more, big_room, part-length, part_read}
 use Rattle.fields.proofs.unchecked.Goals as goal
 
@@ -20,9 +20,3 @@ pub loop-byte-preserved : goal.loop-byte-preserved
 loop-byte-preserved c =
     let a = c.args in
     omega (arith, part_read a.bytes.now a.at a.width c.requires.1 c.loop-byte-test.true, big-more a.bytes.now a.at c.loop-byte.byte-index)
-
-pub returns : goal.returns
-returns c =
-    let a = c.args in
-    let e : c.loop-byte.byte-index ≡ a.width = omega (arith, part-length a.bytes.now a.at a.width c.requires.1) in
-    rw (← e) c.loop-byte.invariant

@@ -5,21 +5,10 @@ use Prim.Native.Nat.{◌+◌}
 use lib.IntN.{pos, nat_abs}
 use Rattle.measure.specs.Places.{over}
 use lib.Signed.{◌≤ℤ◌, yes_non_neg, pos-nat_abs}
-use mir.Facts.{to_z-of_z, Fits-nat_abs}
+use mir.Facts.{to_z-of_z}
 use Rattle.laws.specs.Whole.{whole}
 use Rattle.measure.proofs.Tuples.{over_near, over_is}
 use Rattle.measure.proofs.count.over.Goals as goal
-
-pub overflow_cast-result : goal.overflow_cast-result
-overflow_cast-result c =
-    let f = c.ranges.t in
-    let s : pos 0 ≤ℤ c.args.t = omega (whole, c.requires.1, c.requires.2) in
-    simp to_z-of_z (yes_non_neg s, Fits-nat_abs tt f)
-
-pub overflow_add-result : goal.overflow_add-result
-overflow_add-result c =
-    let f = c.ranges.t in
-    simp to_z-of_z (omega (arith, ap nat_abs c.requires.1, over_near c.args.c c.requires.0 c.requires.2))
 
 pub returns : goal.returns
 returns c =

@@ -1,12 +1,8 @@
 -- `measure::count::tuples_over` meets its contract.
 use mathlib.Core.Path.{sym, ◌∙◌}
 use native.Mathlib.Omega.{arith}
-use mir.Facts.{to_z-of_z}
 use Rattle.measure.proofs.Tuples.{wide_some, over_some, tuples_are}
 use Rattle.measure.proofs.count.tuples_over.Goals as goal
-
-pub over-requires : goal.over-requires
-over-requires c = (c.requires.0, rw (to_z-of_z c.ranges.t) c.requires.1, c.requires.2)
 
 pub triples-requires : goal.triples-requires
 triples-requires c =
