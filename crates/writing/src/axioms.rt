@@ -4,13 +4,15 @@ ghost use Rattle.laws.specs.Limits.{numbers_limit};
 ghost use Rattle.laws.specs.Written.{written};
 ghost use Rattle.writing.specs.Axioms.{steps_from, axiom_numbers};
 
-// From each order variable to the next: if x is at most c - 1, it is at most c.
+// From each order variable to the next: if x is at most c - 1, it is at most c. The steps are counted from 0, and not from `first`:
+// several are then written at once.
 fn put_steps(first: u32, steps: u32, list: &mut [i32]) -> usize
     requires { (first + steps < numbers_limit) × (length (steps_from first steps) ≤ length list.old) }
     ensures { (result ≡ length (steps_from first steps)) × (list.new ≡ written (steps_from first steps) list.old) }
 {
     let mut at: usize = 0;
-    for number in first..first + steps {
+    for i in 0..steps {
+        let number = first + i;
         list[at] = -(number as i32);
         list[at + 1] = (number + 1) as i32;
         list[at + 2] = 0;
