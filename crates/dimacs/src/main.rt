@@ -15,6 +15,7 @@ fn readable(rt: &HostRuntime) -> bool {
 }
 
 // Reads until the buffer is full, the input ends or a read fails, and returns how many bytes are read, at the buffer's start.
+// A `while`, since each read says by itself how far it came.
 fn read_full(input: &mut impl Read, buffer: &mut [u8]) -> usize
     ensures { IsPrefixLen result buffer.new }
 {

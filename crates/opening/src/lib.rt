@@ -58,7 +58,7 @@ pub fn open<'a>(bytes: &'a [u8]) -> Result<Record<'a>, Refusal>
     Ok(Record::new(bytes, header))
 }
 
-// What the readers of clauses have to know of the record.
+// What the readers of clauses have to know of the record. It is no From: it asks that the counts are small.
 pub fn context_of(header: Header) -> Context
     requires { (header.ints ≤ 1024) × (header.bools ≤ 4096) }
     ensures { context_of result ≡ context_in header }

@@ -1,10 +1,10 @@
 -- Decimal digits put into a buffer from the last to the first. Assumes nothing.
-use Rattle.std.specs.Prelude.{◌≡◌, refl, List, [], ◌∷◌, ◌++◌, ℕ, ◌+◌, ◌-◌, ◌/◌, ◌%◌, ◌^◌, ◌≤◌, ◌<◌, get_or, take}
+use Rattle.std.specs.Prelude.{◌≡◌, refl, List, [], ◌∷◌, ◌++◌, ℕ, ◌+◌, ◌-◌, ◌/◌, ◌%◌, ◌^◌, ◌≤◌, ◌<◌, get_or, take, true, false, ltb, if◌then◌else◌}
 use Rattle.std.proofs.Common.{sym, ◌∙◌, append_assoc, append-nil, add-one, arith, length-append, length-set, take-append-drop, take-suc, length-take-le}
 use Rattle.std.proofs.Math.Path.{ap}
 use Rattle.std.proofs.Math.ListN.{length, set, drop}
 use Rattle.std.proofs.lemmas.List.{set_at}
-use Rattle.definitions.specs.Dimacs.{decimal}
+use Rattle.definitions.specs.Dimacs.{decimal, digits}
 use Rattle.laws.specs.Decimals.{decimal-one, decimal-more, shorter}
 use Rattle.laws.specs.Written.{written}
 
@@ -37,6 +37,13 @@ set_last old rest k v h =
     ∙ ap (λ l. set l k v) (append_assoc (take k old) (get_or old k 0 ∷ []) rest)
     ∙ set_at (take k old) (get_or old k 0) rest v k (length-take-le k old (omega arith))
 
+pub some_digit : (n : ℕ) → 1 ≤ length (decimal n)
+unfolding digits
+some_digit n = elim (ltb n 10) as (λ b. 1 ≤ length (if b then (48 + n) ∷ [] else digits 18 (n / 10) ++ ((48 + n % 10) ∷ []))) [
+  | true ↦ omega arith
+  | false ↦ omega (arith, length-append (digits 18 (n / 10)) ((48 + n % 10) ∷ []))
+]
+
 module _ {n : ℕ} {old out : List ℕ} {left at : ℕ} (b : Backwards n old out left at) where
   pub at_in : at ≤ length out
   at_in = omega (arith, b.sized, b.fit, b.long, ap length b.whole, length-append (decimal left) b.done)
@@ -58,6 +65,17 @@ module _ {n : ℕ} {old out : List ℕ} {left at : ℕ} (b : Backwards n old out
         long = length-set out (at - 1) v ∙ b.long;
         fits = omega (arith, b.fits);
       }
+
+  -- `at` tells whether more than the first digit is left
+  pub more_left : 1 < at → 10 ≤ left
+  more_left h =
+      let one : left < 10 → length (decimal left) ≡ 1 = λ k. ap length (decimal-one left k) in
+      grind arith
+
+  pub one_left : at ≤ 1 → left < 10
+  one_left h =
+      let more : 10 ≤ left → length (decimal left) ≡ length (decimal (left / 10)) + 1 = shorter left b.fits in
+      grind (arith, some_digit (left / 10))
 
   pub first-digit : left < 10 → set out 0 (48 + left) ≡ written (decimal n) old
   unfolding written

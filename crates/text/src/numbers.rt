@@ -14,13 +14,11 @@ pub fn put_decimal(n: u64, out: &mut [u8]) -> usize
 {
     let length = digits(n);
     let mut left = n;
-    let mut at = length;
-    while 10 <= left {
-        at -= 1;
-        out[at] = 48 + (left % 10) as u8;
+    for at in (1..length).rev() {
+        out[at] = b'0' + (left % 10) as u8;
         left /= 10;
     }
-    out[0] = 48 + left as u8;
+    out[0] = b'0' + left as u8;
     length
 }
 
