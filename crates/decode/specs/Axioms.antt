@@ -1,5 +1,5 @@
 -- The axioms by the numbers of their order variables, which rise one by one. Assumes nothing.
-use Rattle.std.specs.Prelude.{◌≡◌, refl, Bool, true, false, ◌||◌, length, ℤ, ◌+ℤ◌, ◌-ℤ◌, ◌≤ℤ◌}
+use Rattle.std.specs.Prelude.{◌≡◌, refl, Bool, true, false, ◌||◌, length, ℤ, ◌+ℤ◌, ◌-ℤ◌, ◌≤ℤ◌, Err}
 use Rattle.std.proofs.Math.Path.{sym, ap, ap₂}
 use Rattle.std.proofs.Common.{◌∙◌}
 use Rattle.std.proofs.Math.Bool.{not, or-false}
@@ -18,7 +18,6 @@ use Rattle.laws.specs.Fits.{M_fits}
 use Rattle.laws.specs.Axioms.{axioms_from, axioms-more, before-value, at_value, lowest-number, highest_number}
 use Rattle.laws.specs.Layout.{width-range}
 use Rattle.laws.specs.Ranges.{range-shift}
-use Rattle.decode.specs.declared.Checked.{Checked}
 use Rattle.decode.specs.Truth.{true_clause, tests}
 use Rattle.decode.specs.Goes.{Sought, Goes, goes_one, goes_stop}
 
@@ -62,7 +61,7 @@ module _ (model : List ℕ) where
       pub axiom_holds : k ≤ width → axiom_test k ≡ true → Goes 0 all (n + 1) (axiom_tests (k + 1) ++ others)
       axiom_holds l = goes_one g (axiom_test k) _ (axiom_first l)
 
-      pub axiom_fails : k ≤ width → axiom_test k ≡ false → Sought 0 all (Checked.Fails n)
+      pub axiom_fails : k ≤ width → axiom_test k ≡ false → Sought 0 all (Err n)
       axiom_fails l = goes_stop g (axiom_test k) _ (axiom_first l)
 
       -- one of them is left, so its number is one of all

@@ -1,18 +1,17 @@
 -- A search for the first test that fails (refusal 13), part by part. Assumes nothing.
-use Rattle.std.specs.Prelude.{◌≡◌, refl, Bool, true, false, List, [], ◌∷◌, ◌++◌, map, ℕ, suc, ◌+◌, length}
+use Rattle.std.specs.Prelude.{◌≡◌, refl, Bool, true, false, List, [], ◌∷◌, ◌++◌, map, ℕ, suc, ◌+◌, length, Result, Ok, Err}
 use Rattle.std.proofs.Common.{sym, ap, ◌∙◌, map-id, add-one, arith, length-append}
 use Rattle.definitions.specs.Tools.{All}
 use Rattle.definitions.specs.Result.{done, refused, ◌>>◌, each}
 use Rattle.laws.specs.Search.{seek-append}
-use Rattle.decode.specs.declared.Checked.{Checked}
 
--- what is found among tests that are counted from i
-abbrev pub Sought : ℕ → List Bool → Checked → Type 0
-Sought i ts (Checked.Fails n) = refused 13 n ≡ each 13 i ts
-Sought i ts (Checked.Hold n) = (done tt ≡ each 13 i ts) × (n ≡ i + length ts)
+-- what is found among tests that are counted from i: the number after them, or of the first that fails
+abbrev pub Sought : ℕ → List Bool → Result ℕ ℕ → Type 0
+Sought i ts (Err n) = refused 13 n ≡ each 13 i ts
+Sought i ts (Ok n) = (done tt ≡ each 13 i ts) × (n ≡ i + length ts)
 
 -- where all of them hold
-pub sought-all : {A : Type 0} (test : A → Bool) (i : ℕ) (l : List A) → All (λ a. test a ≡ true) l → Sought i (map test l) (Checked.Hold (i + length l))
+pub sought-all : {A : Type 0} (test : A → Bool) (i : ℕ) (l : List A) → All (λ a. test a ≡ true) l → Sought i (map test l) (Ok (i + length l))
 sought-all test i [] h = (refl, refl)
 sought-all test i (a ∷ l) h = let k = sought-all test (suc i) l h.1 in rw h.0 (k.0, omega (arith, k.1))
 
@@ -25,7 +24,7 @@ pub goes_start : (i : ℕ) (all : List Bool) → Goes i all i all
 goes_start i all = record { same = refl; count = refl }
 
 module _ {i : ℕ} {all : List Bool} {n : ℕ} {rest : List Bool} (g : Goes i all n rest) where
-  pub goes_end : rest ≡ [] → Sought i all (Checked.Hold n)
+  pub goes_end : rest ≡ [] → Sought i all (Ok n)
   goes_end e = (rw e at g.same, omega (arith, g.count, ap length e))
 
   -- a test
@@ -33,18 +32,18 @@ module _ {i : ℕ} {all : List Bool} {n : ℕ} {rest : List Bool} (g : Goes i al
     pub goes_one : b ≡ true → Goes i all (n + 1) others
     goes_one h = record { same = rw add-one (rw (e, h) at g.same); count = omega (arith, g.count, ap length e) }
 
-    pub goes_stop : b ≡ false → Sought i all (Checked.Fails n)
+    pub goes_stop : b ≡ false → Sought i all (Err n)
     goes_stop h = rw (e, h) at g.same
 
   -- several tests, and what was found among them
-  module _ (part others : List Bool) (e : rest ≡ part ++ others) (r : Checked) (q : Sought n part r) where
+  module _ (part others : List Bool) (e : rest ≡ part ++ others) (r : Result ℕ ℕ) (q : Sought n part r) where
     parted : (each 13 n part >> each 13 (n + length part) others) ≡ each 13 i all
     parted = sym (simp map-id at (seek-append 13 (λ b. b) n part others)) ∙ (rw e at g.same)
 
-    pub goes_part : {k : ℕ} → r ≡ Checked.Hold k → Goes i all k others
+    pub goes_part : {k : ℕ} → r ≡ Ok k → Goes i all k others
     goes_part {k} f =
-        let h : Sought n part (Checked.Hold k) = rw f at q in
+        let h : Sought n part (Ok k) = rw f at q in
         record { same = rw h.1 (rw (← h.0) at parted); count = omega (arith, g.count, h.1, ap length e, length-append part others) }
 
-    pub goes_fails : {k : ℕ} → r ≡ Checked.Fails k → Sought i all (Checked.Fails k)
-    goes_fails {k} f = let h : Sought n part (Checked.Fails k) = rw f at q in rw (← h) at parted
+    pub goes_fails : {k : ℕ} → r ≡ Err k → Sought i all (Err k)
+    goes_fails {k} f = let h : Sought n part (Err k) = rw f at q in rw (← h) at parted

@@ -15,7 +15,7 @@ use Rattle.laws.specs.Pieces.{line_from}
 use Rattle.laws.specs.Layout.{number-range}
 use Rattle.laws.specs.Mentions.{atom_of, Mentions}
 use Rattle.reader.specs.declared.Literal.{Literal}
-use Rattle.reader.specs.declared.Reread.{Reread}
+use Rattle.definitions.specs.declared.Got.{Got}
 use Rattle.reader.specs.Said.{literal_of}
 use Rattle.reader.specs.Literals.{Rereads}
 use Rattle.decode.specs.Truth.{selector_number, true_clause}
@@ -85,23 +85,23 @@ module _ {B : Board} {model t : List ℕ} {all : Bool} {j n place : ℕ} (h : Re
     one_left = (literal_read t place (context_of B) _ first-left.read).there
 
     -- it was read again
-    module _ {r : Reread} (a : Rereads t place r) where
-      line_is : line_from j (literals_at t n place).value ≡ in_line j r.literal ∷ line_from (selector_after r.literal j) (literals_at t (n - 1) r.next).value
-      line_is = rw (first-left.joined, a.next, ← a.literal) (line_first t j r.literal _)
+    module _ {r : Got Literal} (a : Rereads t place r) where
+      line_is : line_from j (literals_at t n place).value ≡ in_line j r.value ∷ line_from (selector_after r.value j) (literals_at t (n - 1) r.next).value
+      line_is = rw (first-left.joined, a.next, ← a.literal) (line_first t j r.value _)
 
       pub literal_numbered : length model ≡ N B
-          → (1 ≤ number_in (selector_number B j) r.literal) × (number_in (selector_number B j) r.literal ≤ length model) × (number_in j r.literal ≤ length model)
+          → (1 ≤ number_in (selector_number B j) r.value) × (number_in (selector_number B j) r.value ≤ length model) × (number_in j r.value ≤ length model)
       literal_numbered e =
-          let m = number-range B (atom_of (in_line j r.literal)) (rw line_is at h.mentioned).0 in
-          let n = its_number B j r.literal in
-          (omega (arith, n, m.0), omega (arith, n, m.1, e), omega (arith, n, m.1, e, number-before (first B (length B.bounds)) j r.literal))
+          let m = number-range B (atom_of (in_line j r.value)) (rw line_is at h.mentioned).0 in
+          let n = its_number B j r.value in
+          (omega (arith, n, m.0), omega (arith, n, m.1, e), omega (arith, n, m.1, e, number-before (first B (length B.bounds)) j r.value))
 
-      pub literal_true : signed model (selector_number B j) r.literal ≡ true → true ≡ all
-      literal_true q = rw (line_is, its_truth B model j r.literal, q) at h.same
+      pub literal_true : signed model (selector_number B j) r.value ≡ true → true ≡ all
+      literal_true q = rw (line_is, its_truth B model j r.value, q) at h.same
 
-      pub literal_false : signed model (selector_number B j) r.literal ≡ false → Reading B model t all (selector_after r.literal j) (n - 1) r.next
+      pub literal_false : signed model (selector_number B j) r.value ≡ false → Reading B model t all (selector_after r.value j) (n - 1) r.next
       literal_false q = record {
         readable = rw a.next first-left.rest;
-        same = rw (line_is, its_truth B model j r.literal, q) at h.same;
+        same = rw (line_is, its_truth B model j r.value, q) at h.same;
         mentioned = (rw line_is at h.mentioned).1;
       }

@@ -1,5 +1,5 @@
 -- The search over the rules, piece by piece and in each piece tuple by tuple. Assumes nothing.
-use Rattle.std.specs.Prelude.{◌≡◌, refl, Bool, true, false, ℕ, ◌+◌, ◌^◌, ◌≤◌, ◌<◌, length, ℤ}
+use Rattle.std.specs.Prelude.{◌≡◌, refl, Bool, true, false, ℕ, ◌+◌, ◌^◌, ◌≤◌, ◌<◌, length, ℤ, Option, Some, None, Result, Ok, Err}
 use Rattle.std.proofs.Common.{sym, ◌∙◌, add-zero, arith, length-append}
 use Rattle.std.proofs.Math.Path.{ap}
 use mathlib.Core.List.{List, [], ◌∷◌, ◌++◌, map, flatten, map-append, append_assoc}
@@ -20,10 +20,8 @@ use Rattle.rules.specs.Cursors.{at_start, coming_at, Sound}
 use Rattle.rules.specs.Known.{Known, starts, all-coming}
 use Rattle.walk.specs.declared.Comparison.{Comparison}
 use Rattle.walk.specs.declared.Walk.{Walk}
-use Rattle.walk.specs.declared.At.{At}
 use Rattle.walk.specs.Comparisons.{Walking, to_come, literals_of, none_left}
 use Rattle.walk.specs.Rows.{row_clauses, After, row_some}
-use Rattle.decode.specs.declared.Checked.{Checked}
 use Rattle.decode.specs.Truth.{true_tail, true_clause, tests}
 use Rattle.decode.specs.Goes.{Sought, sought-all, Goes, goes_start, goes_end, goes_part, goes_fails}
 use Rattle.decode.specs.Sums.{Shown}
@@ -44,7 +42,7 @@ module _ (B : Board) (model t : List ℕ) where
     pub readable : Sound (context_of B) t c
 
   -- in a piece that is not shown to hold, and whose lead does not, the tuples at `at` are left, and then the pieces at the cursor
-  pub record Walks (i n : ℕ) (q : Comparison) (at : At) (c : Cursor) : Type 0 where
+  pub record Walks (i n : ℕ) (q : Comparison) (at : Option Walk) (c : Cursor) : Type 0 where
     pub goes : Goes i (rule_tests B model) n (map (true_tail model) (to_come q at) ++ tests_at B model t c)
     pub walking : Walking q at
     pub numbered : All (All (Mentions.InList (length model))) (to_come q at)
@@ -77,10 +75,10 @@ module _ {B : Board} {model t : List ℕ} {i n : ℕ} {c : Cursor} (h : Passing 
           omega (arith, passed_most r q, how_many_lem, h.goes.count, ap length begins_with, length-append (tests B model own) (tests_at B model t c'), length-map own (true_clause B model))
 
     -- where it is shown to hold, none of its clauses is walked
-    pub walks_start : (r : Bool) (q : Comparison) (m : ℕ) (at : At) → length model ≡ N B → Shown B model p r → Tails B p q
+    pub walks_start : (r : Bool) (q : Comparison) (m : ℕ) (at : Option Walk) → length model ≡ N B → Shown B model p r → Tails B p q
         → m ≡ passed_by r q → Walking q at × (to_come q at ≡ walked_by r q) → Walks B model t i (n + m) q at c'
     walks_start true q m at l f d k w =
-        let g = goes_part h.goes (tests B model own) (tests_at B model t c') begins_with (Checked.Hold (n + length own)) (sought-all (true_clause B model) n own (f.held refl)) refl in
+        let g = goes_part h.goes (tests B model own) (tests_at B model t c') begins_with (Ok (n + length own)) (sought-all (true_clause B model) n own (f.held refl)) refl in
         record { goes = rw (k, w.1, ← how_many_lem true q f d) g; walking = w.0; numbered = rw w.1 tt }
     walks_start false q m at l f d k w =
         let tails = tails_tests B model p q d sound_next.0 ∙ ap (λ b. map (clause_test model b) (literals_of q)) (f.left refl) in record {
@@ -89,19 +87,19 @@ module _ {B : Board} {model t : List ℕ} {i n : ℕ} {c : Cursor} (h : Passing 
           numbered = rw w.1 (tails_numbered B model p q d sound_next.0 l);
         }
 
-module _ {B : Board} {model t : List ℕ} {i n : ℕ} {q : Comparison} {at : At} {c : Cursor} (h : Walks B model t i n q at c) where
-  pub walks_end : at ≡ At.End → All (Mentions.Sound B) (coming_at t c) → Sound (context_of B) t c → Passing B model t i n c
+module _ {B : Board} {model t : List ℕ} {i n : ℕ} {q : Comparison} {at : Option Walk} {c : Cursor} (h : Walks B model t i n q at c) where
+  pub walks_end : at ≡ None → All (Mentions.Sound B) (coming_at t c) → Sound (context_of B) t c → Passing B model t i n c
   walks_end e a s = record { goes = rw (e, none_left q) at h.goes; sound = a; readable = s }
 
-  module _ {w : Walk} (e : at ≡ At.Tuple w) where
-    pub walks_at : Walking q (At.Tuple w)
+  module _ {w : Walk} (e : at ≡ Some w) where
+    pub walks_at : Walking q (Some w)
     walks_at = rw e at h.walking
 
     -- the clauses of the present row
     abbrev row : List (List ℤ)
     row = row_clauses q w
 
-    module _ (r : At) (o : After q w r) where
+    module _ (r : Option Walk) (o : After q w r) where
       onward : Walking q r × (to_come q at ≡ row ++ to_come q r)
       onward = rw e o
 
@@ -126,11 +124,11 @@ module _ {B : Board} {model t : List ℕ} {i n : ℕ} {q : Comparison} {at : At}
           omega (arith, h.goes.count, ap length split, length-append (map (true_tail model) row) (map (true_tail model) (to_come q r) ++ tests_at B model t c), length-map row (true_tail model))
 
       -- what was found in the row
-      module _ {a : Checked} (s : Sought n (map (true_tail model) row) a) where
-        pub walks_next : {k : ℕ} → a ≡ Checked.Hold k → Walks B model t i k q r c
+      module _ {a : Result ℕ ℕ} (s : Sought n (map (true_tail model) row) a) where
+        pub walks_next : {k : ℕ} → a ≡ Ok k → Walks B model t i k q r c
         walks_next f = record { goes = goes_part h.goes _ _ split a s f; walking = onward.0; numbered = numbered_both.1 }
 
-        pub walks_stop : {k : ℕ} → a ≡ Checked.Fails k → refused 13 k ≡ each 13 i (rule_tests B model)
+        pub walks_stop : {k : ℕ} → a ≡ Err k → refused 13 k ≡ each 13 i (rule_tests B model)
         walks_stop f = goes_fails h.goes (map (true_tail model) row) (map (true_tail model) (to_come q r) ++ tests_at B model t c) split a s f
 
 -- where the pass begins

@@ -1,5 +1,5 @@
 -- The tests of a run's clauses. Assumes nothing.
-use Rattle.std.specs.Prelude.{◌≡◌, refl, true, false, ◌||◌, List, ◌∷◌, [], ◌++◌, map, ℤ}
+use Rattle.std.specs.Prelude.{◌≡◌, refl, true, false, ◌||◌, List, ◌∷◌, [], ◌++◌, map, ℤ, Ok}
 use Rattle.std.proofs.Common.{ap, ◌∙◌, arith}
 use Prim.Native.Nat.{ℕ, zero, suc, ◌+◌, ◌<◌}
 use Rattle.std.proofs.Math.ListN.{length}
@@ -10,7 +10,6 @@ use Rattle.laws.specs.Mentions.{InList}
 use Rattle.walk.specs.declared.Run.{Run}
 use Rattle.walk.specs.declared.Spot.{Spot}
 use Rattle.walk.specs.Rows.{front_of, raised, lowered, row_from, in_run}
-use Rattle.decode.specs.declared.Checked.{Checked}
 use Rattle.decode.specs.Truth.{true_number, true_tail}
 use Rattle.decode.specs.Goes.{Sought}
 
@@ -23,11 +22,11 @@ module _ (run : Run) where
   fixed = front_of run.front
 
   -- one holds: so does each clause
-  pub run-held : (model : List ℕ) → true_tail model fixed ≡ true → (i : ℕ) → Sought i (map (true_tail model) (in_run run)) (Checked.Hold (i + run.count))
+  pub run-held : (model : List ℕ) → true_tail model fixed ≡ true → (i : ℕ) → Sought i (map (true_tail model) (in_run run)) (Ok (i + run.count))
   unfolding in_run row_from
   run-held model h i = go i run.y run.z run.count
     where
-      go : (i : ℕ) (y z : Spot) (n : ℕ) → Sought i (map (true_tail model) (row_from fixed y z n)) (Checked.Hold (i + n))
+      go : (i : ℕ) (y z : Spot) (n : ℕ) → Sought i (map (true_tail model) (row_from fixed y z n)) (Ok (i + n))
       go i y z zero = (refl, refl)
       go i y z (suc n) =
           let k = go (suc i) (raised y) (lowered z) n in

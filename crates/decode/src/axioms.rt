@@ -8,7 +8,6 @@ ghost use Rattle.decode.specs.Goes.{Sought};
 ghost use Rattle.decode.specs.Axioms.{rises, axiom_test};
 ghost use Rattle.decode.specs.Truth.{tests};
 
-use crate::Checked;
 use lent::is_on;
 use opening::Header;
 use slots::variables::{bounds_of, width_of};
@@ -18,10 +17,7 @@ fn holds_from(model: &[u8], v: usize) -> bool
     requires { (1 ≤ v) × (v < length model.now) }
     ensures { result ≡ rises model.now v }
 {
-    if is_on(model, v) {
-        return is_on(model, v + 1);
-    }
-    true
+    !is_on(model, v) || is_on(model, v + 1)
 }
 
 // The axiom k, counted from 0, of a variable that has `width` order variables, the first of them `first`.
@@ -29,38 +25,33 @@ fn axiom_holds(model: &[u8], first: usize, width: usize, k: usize) -> bool
     requires { (1 ≤ first) × (2 ≤ width) × (first + width ≤ length model.now + 1) × (length model.now < 2147483648) × (k ≤ width) }
     ensures { result ≡ axiom_test model.now first width k }
 {
-    if k == 0 {
-        return !is_on(model, first);
+    match k {
+        0 => !is_on(model, first),
+        1 => is_on(model, first + width - 1),
+        _ => holds_from(model, first + k - 2),
     }
-    if k == 1 {
-        return is_on(model, first + width - 1);
-    }
-    holds_from(model, first + k - 2)
 }
 
 // Variable by variable, and for each variable axiom by axiom; it stops at the first that does not hold.
-pub fn search_axioms(bytes: &[u8], model: &[u8], header: Header) -> Checked
+pub fn search_axioms(bytes: &[u8], model: &[u8], header: Header) -> Result<usize, usize>
     requires { Given bytes.now model.now header }
     ensures { Sought 0 (tests (board_of bytes.now) model.now (flatten (axioms (board_of bytes.now)))) result }
 {
-    let mut x: usize = 0;
+    let mut x = 0;
     let mut first = header.bools + 1;
-    let mut number: usize = 0;
-    let checked = 'search: loop {
+    let mut number = 0;
+    'search: loop {
         if header.ints <= x {
-            break 'search Checked::Hold(number);
+            break 'search Ok(number);
         }
         let width = width_of(bounds_of(bytes, x)) as usize;
-        let mut k: usize = 0;
-        while k <= width {
+        for k in 0..width + 1 {
             if !axiom_holds(model, first, width, k) {
-                break 'search Checked::Fails(number);
+                break 'search Err(number);
             }
-            k += 1;
             number += 1;
         }
         x += 1;
         first += width;
-    };
-    checked
+    }
 }

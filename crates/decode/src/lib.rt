@@ -13,17 +13,10 @@ ghost use Rattle.decode.specs.Outcome.{Allowed, Leaves};
 
 use crate::search::search_clauses;
 use crate::values::{write_booleans, write_values};
-use definitions::{Refusal, Verdict};
-use lent::{Found, first_bad_byte};
+use definitions::Refusal;
+use lent::first_bad_byte;
 use measure::{Measured, measure};
 use opening::Header;
-
-// The first clause that does not hold, or that all do, and the number of the clause after them.
-#[derive(Clone, Copy)]
-pub enum Checked {
-    Fails(usize),
-    Hold(usize),
-}
 
 pub mod axioms; // axioms.rt: the search over the axioms
 pub mod lines; // lines.rt: the clause of a record clause's Booleans and selectors
@@ -34,59 +27,58 @@ pub mod truth; // truth.rt: whether a literal holds in a model
 pub mod values; // values.rt: what is read back
 
 // Checks 12 and 13 of a model of the right length.
-fn check_model(bytes: &[u8], model: &[u8], header: Header) -> Verdict
+fn check_model(bytes: &[u8], model: &[u8], header: Header) -> Result<(), Refusal>
     requires { Given bytes.now model.now header }
     ensures { said_verdict result ≡ model_checks (board_of bytes.now) model.now }
 {
-    match first_bad_byte(model) {
-        Found::At(index) => Verdict::Refused(Refusal::ByteWrong { index: index }),
-        Found::Nothing => match search_clauses(bytes, model, header) {
-            Found::At(number) => Verdict::Refused(Refusal::ClauseFails { number: number }),
-            Found::Nothing => Verdict::Accepted,
-        },
+    if let Some(index) = first_bad_byte(model) {
+        return Err(Refusal::ByteWrong { index });
     }
+    if let Some(number) = search_clauses(bytes, model, header) {
+        return Err(Refusal::ClauseFails { number });
+    }
+    Ok(())
 }
 
 // What follows once the record is accepted and has n SAT variables: all checks come before anything is written.
 fn read_back(
     bytes: &[u8],
     model: &[u8],
-    header: Header,
-    n: usize,
+    measured: Measured,
     values: &mut [i32],
     booleans: &mut [u8],
-) -> Verdict
-    requires { Opened bytes.now header × (n ≡ N (board_of bytes.now)) }
-    ensures { Leaves (lending (values.old, booleans.old) (read_back bytes.now header n model.now values.old booleans.old)) result values.new booleans.new }
+) -> Result<(), Refusal>
+    requires { Opened bytes.now measured.header × (measured.sizes.n ≡ N (board_of bytes.now)) }
+    ensures { Leaves (lending (values.old, booleans.old) (read_back bytes.now measured.header measured.sizes.n model.now values.old booleans.old)) result values.new booleans.new }
 {
+    let header = measured.header;
+    let n = measured.sizes.n;
     if model.len() != n {
-        return Verdict::Refused(Refusal::LentWrong { wanted: n });
+        return Err(Refusal::LentWrong { wanted: n });
     }
     let ints = header.ints;
     if values.len() != ints {
-        return Verdict::Refused(Refusal::LentWrong { wanted: ints });
+        return Err(Refusal::LentWrong { wanted: ints });
     }
     let bools = header.bools;
     if booleans.len() != bools {
-        return Verdict::Refused(Refusal::LentWrong { wanted: bools });
+        return Err(Refusal::LentWrong { wanted: bools });
     }
-    let checked = check_model(bytes, model, header);
-    let Verdict::Accepted = checked else {
-        return checked;
-    };
+    check_model(bytes, model, header)?;
     write_values(bytes, model, header, values);
     write_booleans(model, booleans);
-    Verdict::Accepted
+    Ok(())
 }
 
 // 01, Decode: a refusal leaves both lists as they were.
-pub fn decode(bytes: &[u8], model: &[u8], values: &mut [i32], booleans: &mut [u8]) -> Verdict
+pub fn decode(
+    bytes: &[u8],
+    model: &[u8],
+    values: &mut [i32],
+    booleans: &mut [u8],
+) -> Result<(), Refusal>
     ensures { Allowed bytes.now model.now values.old booleans.old result values.new booleans.new }
 {
-    match measure(bytes) {
-        Measured::Accepted(header, totals) => {
-            read_back(bytes, model, header, totals.n, values, booleans)
-        }
-        Measured::Refused(r) => Verdict::Refused(r),
-    }
+    let measured = measure(bytes)?;
+    read_back(bytes, model, measured, values, booleans)
 }

@@ -27,10 +27,7 @@ fn literal_holds(model: &[u8], literal: Literal, selectors: usize, j: usize) -> 
     match literal {
         Literal::Boolean(b) => is_on(model, b as usize),
         Literal::Negated(b) => !is_on(model, b as usize),
-        Literal::Comparison {
-            place: _,
-            constant: _,
-        } => is_on(model, selectors + j),
+        Literal::Comparison { .. } => is_on(model, selectors + j),
     }
 }
 
@@ -40,12 +37,8 @@ fn selector_after(literal: Literal, j: usize) -> usize
     ensures { result ≡ selector_after literal j }
 {
     match literal {
-        Literal::Boolean(_) => j,
-        Literal::Negated(_) => j,
-        Literal::Comparison {
-            place: _,
-            constant: _,
-        } => j + 1,
+        Literal::Boolean(_) | Literal::Negated(_) => j,
+        Literal::Comparison { .. } => j + 1,
     }
 }
 
@@ -66,16 +59,14 @@ pub fn line_holds(
     let selectors = first_in(firsts, header.ints) as usize;
     let mut j = selector;
     let mut place = at;
-    let mut left = n;
-    while 0 < left {
+    for _ in 0..n {
         let read = literal_again(rules, place);
-        let literal = read.literal;
+        let literal = read.value;
         if literal_holds(model, literal, selectors, j) {
             return true;
         }
         j = selector_after(literal, j);
         place = read.next;
-        left -= 1;
     }
     false
 }

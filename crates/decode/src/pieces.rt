@@ -20,7 +20,7 @@ use rules::Piece;
 use slots::comparisons::ready;
 use slots::variables::first_in;
 use walk::tuples::{first_tuple, least};
-use walk::{At, Comparison, Slot};
+use walk::{Comparison, Slot, Walk};
 
 // Whether the piece's lead holds: of a line, some literal; of a comparison, its negated selector.
 fn lead_holds(
@@ -42,15 +42,8 @@ fn lead_holds(
         } => line_holds(
             bytes, firsts, rules, model, header, literals, place, selector,
         ),
-        Piece::Lone {
-            place: _,
-            constant: _,
-        } => false,
-        Piece::Led {
-            selector,
-            place: _,
-            constant: _,
-        } => {
+        Piece::Lone { .. } => false,
+        Piece::Led { selector, .. } => {
             let first = first_in(firsts, header.ints) as usize;
             !is_on(model, first + selector)
         }
@@ -75,16 +68,12 @@ pub fn piece_holds(
         return true;
     }
     match piece {
-        Piece::Line {
-            place: _,
-            literals: _,
-            selector: _,
-        } => false,
+        Piece::Line { .. } => false,
         Piece::Lone { place, constant } => compares(rules, values, place, constant),
         Piece::Led {
-            selector: _,
             place,
             constant,
+            ..
         } => compares(rules, values, place, constant),
     }
 }
@@ -123,16 +112,12 @@ pub fn tails_of(bytes: &[u8], firsts: &[u32], rules: &[u8], piece: Piece) -> Com
     ensures { Tails (board_of bytes.now) (said_piece rules.now piece) result }
 {
     match piece {
-        Piece::Line {
-            place: _,
-            literals: _,
-            selector: _,
-        } => single(),
+        Piece::Line { .. } => single(),
         Piece::Lone { place, constant } => tails_at(bytes, firsts, rules, place, constant),
         Piece::Led {
-            selector: _,
             place,
             constant,
+            ..
         } => tails_at(bytes, firsts, rules, place, constant),
     }
 }
@@ -149,12 +134,12 @@ pub fn passed(held: bool, tails: Comparison) -> usize
 }
 
 // Where the walk over the piece's tuples begins: where they are known to hold, at its end.
-pub fn walked(held: bool, tails: Comparison) -> At
+pub fn walked(held: bool, tails: Comparison) -> Option<Walk>
     requires { FairComparison tails }
     ensures { Walking tails result × (to_come tails result ≡ walked_by held tails) }
 {
     if held {
-        return At::End;
+        return None;
     }
     first_tuple(tails)
 }

@@ -11,17 +11,14 @@ ghost use Rattle.decode.specs.Truth.{tests};
 ghost use Rattle.decode.specs.Sums.{Told, ValuesIn};
 ghost use Rattle.decode.specs.Passes.{rule_tests};
 
-use crate::Checked;
 use crate::axioms::search_axioms;
 use crate::pieces::{passed, piece_holds, tails_of, walked};
 use crate::rows::search_row;
 use crate::values::write_values;
-use lent::Found;
 use opening::Header;
-use rules::{Ahead, next_piece, start};
+use rules::{next_piece, start};
 use slots::FIRSTS;
 use slots::variables::put_firsts;
-use walk::At;
 use walk::rows::after_row;
 
 // The most integer variables that a record has.
@@ -37,48 +34,40 @@ fn search_rules(
     model: &[u8],
     header: Header,
     from: usize,
-) -> Found
+) -> Option<usize>
     requires { Given bytes.now model.now header × FirstsOf (board_of bytes.now) firsts.now × Told (board_of bytes.now) model.now × ValuesIn (board_of bytes.now) model.now values.now × Known bytes.now rules.now × (from + length (rule_tests (board_of bytes.now) model.now) < 9223372036854775808) }
     ensures { said_found 13 result ≡ each 13 from (rule_tests (board_of bytes.now) model.now) }
 {
     let mut number = from;
     let mut cursor = start(header.clauses);
-    let found = 'search: loop {
-        let Ahead::Met(piece, behind) = next_piece(rules, cursor) else {
-            break 'search Found::Nothing;
+    'search: loop {
+        let Some((piece, behind)) = next_piece(rules, cursor) else {
+            break 'search None;
         };
         let held = piece_holds(bytes, firsts, values, rules, model, header, piece);
         let tails = tails_of(bytes, firsts, rules, piece);
         number += passed(held, tails);
         let mut here = walked(held, tails);
-        loop {
-            let At::Tuple(tuple) = here else {
-                break;
-            };
+        while let Some(tuple) = here {
             let onward = after_row(tails, tuple);
             match search_row(model, tails, tuple, number) {
-                Checked::Fails(failing) => {
-                    break 'search Found::At(failing);
-                }
-                Checked::Hold(after) => {
-                    number = after;
-                }
+                Err(failing) => break 'search Some(failing),
+                Ok(after) => number = after,
             }
             here = onward;
         }
         cursor = behind;
-    };
-    found
+    }
 }
 
 // The first of all clauses that does not hold: the axioms come first, then the rules, which stand where the variable table ends.
-pub fn search_clauses(bytes: &[u8], model: &[u8], header: Header) -> Found
+pub fn search_clauses(bytes: &[u8], model: &[u8], header: Header) -> Option<usize>
     requires { Given bytes.now model.now header }
     ensures { said_found 13 result ≡ each 13 0 (tests (board_of bytes.now) model.now (clauses (board_of bytes.now))) }
 {
     match search_axioms(bytes, model, header) {
-        Checked::Fails(number) => Found::At(number),
-        Checked::Hold(number) => {
+        Err(failing) => Some(failing),
+        Ok(number) => {
             let place = header.rules;
             let mut firsts = [0u32; FIRSTS];
             put_firsts(bytes, header.bools, header.ints, &mut firsts);

@@ -11,20 +11,19 @@ ghost use Rattle.decode.specs.Values.{value_from};
 
 use lent::is_on;
 use opening::Header;
+use slots::Bounds;
 use slots::variables::{bounds_of, width_of};
 
 // The least value whose order variable is true; the first order variable, of lower - 1, has the number `first`.
-fn value_of(model: &[u8], first: usize, bounds: slots::Bounds) -> i32
+fn value_of(model: &[u8], first: usize, bounds: Bounds) -> i32
     requires { GoodBounds (bounds_read bounds) × (1 ≤ first) × (first + width (bounds_read bounds) ≤ length model.now + 1) × (length model.now < 2147483648) }
     ensures { result ≡ value_from model.now first (bounds_read bounds) }
 {
     let width = width_of(bounds) as usize;
-    let mut k: usize = 0;
-    while k + 2 < width {
+    for k in 0..width - 2 {
         if is_on(model, first + 1 + k) {
             return bounds.lower + k as i32;
         }
-        k += 1;
     }
     // no other is true, so upper's own need not be looked at
     bounds.upper
@@ -35,12 +34,10 @@ pub fn write_values(bytes: &[u8], model: &[u8], header: Header, values: &mut [i3
     requires { Given bytes.now model.now header × (header.ints ≤ length values.old) }
     ensures { values.new ≡ written (values_of (board_of bytes.now) model.now) values.old }
 {
-    let mut x: usize = 0;
     let mut first = header.bools + 1;
-    while x < header.ints {
+    for x in 0..header.ints {
         let bounds = bounds_of(bytes, x);
         values[x] = value_of(model, first, bounds);
-        x += 1;
         first += width_of(bounds) as usize;
     }
 }
@@ -50,9 +47,5 @@ pub fn write_booleans(model: &[u8], booleans: &mut [u8])
     requires { length booleans.old ≤ length model.now }
     ensures { booleans.new ≡ take (length booleans.old) model.now }
 {
-    let mut i: usize = 0;
-    while i < booleans.len() {
-        booleans[i] = model[i];
-        i += 1;
-    }
+    booleans.copy_from_slice(&model[..booleans.len()]);
 }
