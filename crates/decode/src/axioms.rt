@@ -9,7 +9,7 @@ ghost use Rattle.decode.specs.Axioms.{rises, axiom_test};
 ghost use Rattle.decode.specs.Truth.{tests};
 
 use lent::is_on;
-use opening::Header;
+use opening::record::Record;
 use slots::variables::{bounds_of, width_of};
 
 // Of the order variables v and v + 1, the first is not true or the second is.
@@ -33,18 +33,19 @@ fn axiom_holds(model: &[u8], first: usize, width: usize, k: usize) -> bool
 }
 
 // Variable by variable, and for each variable axiom by axiom; it stops at the first that does not hold.
-pub fn search_axioms(bytes: &[u8], model: &[u8], header: Header) -> Result<usize, usize>
-    requires { Given bytes.now model.now header }
-    ensures { Sought 0 (tests (board_of bytes.now) model.now (flatten (axioms (board_of bytes.now)))) result }
+pub fn search_axioms(opened: &Record, model: &[u8]) -> Result<usize, usize>
+    requires { Given opened.now model.now }
+    ensures { Sought 0 (tests (board_of opened.now) model.now (flatten (axioms (board_of opened.now)))) result }
 {
+    let ints = opened.ints();
     let mut x = 0;
-    let mut first = header.bools + 1;
+    let mut first = opened.bools() + 1;
     let mut number = 0;
     'search: loop {
-        if header.ints <= x {
+        if ints <= x {
             break 'search Ok(number);
         }
-        let width = width_of(bounds_of(bytes, x)) as usize;
+        let width = width_of(bounds_of(opened, x)) as usize;
         for k in 0..width + 1 {
             if !axiom_holds(model, first, width, k) {
                 break 'search Err(number);

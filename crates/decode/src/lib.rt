@@ -6,7 +6,6 @@ ghost use Rattle.definitions.specs.Encoding.{N};
 ghost use Rattle.definitions.specs.Answers.{said_verdict};
 ghost use Rattle.definitions.specs.Operations.{lending};
 ghost use Rattle.laws.specs.Boards.{board_of};
-ghost use Rattle.opening.specs.Headers.{Opened};
 ghost use Rattle.decode.specs.Given.{Given};
 ghost use Rattle.decode.specs.Decoded.{model_checks, read_back};
 ghost use Rattle.decode.specs.Outcome.{Allowed, Leaves};
@@ -15,8 +14,8 @@ use crate::search::search_clauses;
 use crate::values::{write_booleans, write_values};
 use definitions::Refusal;
 use lent::first_bad_byte;
-use measure::{Measured, measure};
-use opening::Header;
+use measure::measure;
+use opening::record::Record;
 
 pub mod axioms; // axioms.rt: the search over the axioms
 pub mod lines; // lines.rt: the clause of a record clause's Booleans and selectors
@@ -27,14 +26,14 @@ pub mod truth; // truth.rt: whether a literal holds in a model
 pub mod values; // values.rt: what is read back
 
 // Checks 12 and 13 of a model of the right length.
-fn check_model(bytes: &[u8], model: &[u8], header: Header) -> Result<(), Refusal>
-    requires { Given bytes.now model.now header }
-    ensures { said_verdict result ≡ model_checks (board_of bytes.now) model.now }
+fn check_model(opened: &Record, model: &[u8]) -> Result<(), Refusal>
+    requires { Given opened.now model.now }
+    ensures { said_verdict result ≡ model_checks (board_of opened.now) model.now }
 {
     if let Some(index) = first_bad_byte(model) {
         return Err(Refusal::ByteWrong { index });
     }
-    if let Some(number) = search_clauses(bytes, model, header) {
+    if let Some(number) = search_clauses(opened, model) {
         return Err(Refusal::ClauseFails { number });
     }
     Ok(())
@@ -42,30 +41,28 @@ fn check_model(bytes: &[u8], model: &[u8], header: Header) -> Result<(), Refusal
 
 // What follows once the record is accepted and has n SAT variables: all checks come before anything is written.
 fn read_back(
-    bytes: &[u8],
+    opened: &Record,
+    n: usize,
     model: &[u8],
-    measured: Measured,
     values: &mut [i32],
     booleans: &mut [u8],
 ) -> Result<(), Refusal>
-    requires { Opened bytes.now measured.header × (measured.sizes.n ≡ N (board_of bytes.now)) }
-    ensures { Leaves (lending (values.old, booleans.old) (read_back bytes.now measured.header measured.sizes.n model.now values.old booleans.old)) result values.new booleans.new }
+    requires { n ≡ N (board_of opened.now) }
+    ensures { Leaves (lending (values.old, booleans.old) (read_back (board_of opened.now) model.now values.old booleans.old)) result values.new booleans.new }
 {
-    let header = measured.header;
-    let n = measured.sizes.n;
     if model.len() != n {
         return Err(Refusal::LentWrong { wanted: n });
     }
-    let ints = header.ints;
+    let ints = opened.ints();
     if values.len() != ints {
         return Err(Refusal::LentWrong { wanted: ints });
     }
-    let bools = header.bools;
+    let bools = opened.bools();
     if booleans.len() != bools {
         return Err(Refusal::LentWrong { wanted: bools });
     }
-    check_model(bytes, model, header)?;
-    write_values(bytes, model, header, values);
+    check_model(opened, model)?;
+    write_values(opened, model, values);
     write_booleans(model, booleans);
     Ok(())
 }
@@ -80,5 +77,5 @@ pub fn decode(
     ensures { Allowed bytes.now model.now values.old booleans.old result values.new booleans.new }
 {
     let measured = measure(bytes)?;
-    read_back(bytes, model, measured, values, booleans)
+    read_back(&measured.opened, measured.sizes.n, model, values, booleans)
 }

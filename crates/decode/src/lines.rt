@@ -8,16 +8,15 @@ ghost use Rattle.laws.specs.Boards.{board_of};
 ghost use Rattle.laws.specs.Reread.{context_of};
 ghost use Rattle.laws.specs.Pieces.{line_from};
 ghost use Rattle.laws.specs.Mentions.{Mentions};
-ghost use Rattle.slots.specs.Variables.{FirstsOf};
+ghost use Rattle.opening.specs.Headers.{tail_of};
 ghost use Rattle.decode.specs.Given.{Given};
 ghost use Rattle.decode.specs.Truth.{true_clause};
 ghost use Rattle.decode.specs.Lines.{number_in, signed, selector_after};
 
 use lent::is_on;
-use opening::Header;
 use reader::Literal;
 use reader::rereading::literal_again;
-use slots::variables::first_in;
+use slots::numbered::Numbered;
 
 // Whether a literal of a line holds: a comparison stands there as selector j, and selector 0 has the number `selectors`.
 fn literal_holds(model: &[u8], literal: Literal, selectors: usize, j: usize) -> bool
@@ -43,20 +42,12 @@ fn selector_after(literal: Literal, j: usize) -> usize
 }
 
 // Whether some literal of a line holds: it has n literals, from the place `at` on, and selectors from `selector` on.
-pub fn line_holds(
-    bytes: &[u8],
-    firsts: &[u32],
-    rules: &[u8],
-    model: &[u8],
-    header: Header,
-    n: usize,
-    at: usize,
-    selector: usize,
-) -> bool
-    requires { Given bytes.now model.now header × FirstsOf (board_of bytes.now) firsts.now × (times n (read_literal (context_of (board_of bytes.now))) rules.now at ≡ done (literals_at rules.now n at)) × All (Mentions (board_of bytes.now)) (line_from selector (literals_at rules.now n at).value) }
-    ensures { result ≡ true_clause (board_of bytes.now) model.now (line_from selector (literals_at rules.now n at).value) }
+pub fn line_holds(numbered: &Numbered, model: &[u8], n: usize, at: usize, selector: usize) -> bool
+    requires { Given numbered.now model.now × (times n (read_literal (context_of (board_of numbered.now))) (tail_of numbered.now) at ≡ done (literals_at (tail_of numbered.now) n at)) × All (Mentions (board_of numbered.now)) (line_from selector (literals_at (tail_of numbered.now) n at).value) }
+    ensures { result ≡ true_clause (board_of numbered.now) model.now (line_from selector (literals_at (tail_of numbered.now) n at).value) }
 {
-    let selectors = first_in(firsts, header.ints) as usize;
+    let selectors = numbered.selectors() as usize;
+    let rules = numbered.record().rules();
     let mut j = selector;
     let mut place = at;
     for _ in 0..n {

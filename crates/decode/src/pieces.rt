@@ -1,11 +1,11 @@
 // The clauses of a piece of the rules: each is the piece's lead and, behind it, the literals of a tuple.
 ghost use Rattle.std.specs.Prelude.{◌≡◌, length, pos, ◌≤ℤ◌};
-ghost use Rattle.laws.specs.Boards.{Opens, board_of};
+ghost use Rattle.laws.specs.Boards.{board_of};
 ghost use Rattle.laws.specs.Reread.{comparison_at, context_of, Stands};
 ghost use Rattle.laws.specs.Mentions.{Sound};
 ghost use Rattle.rules.specs.Cursors.{said_piece, Held};
 ghost use Rattle.walk.specs.Comparisons.{FairComparison, Walking, over_least, to_come};
-ghost use Rattle.slots.specs.Variables.{FirstsOf};
+ghost use Rattle.opening.specs.Headers.{tail_of};
 ghost use Rattle.decode.specs.Given.{Given};
 ghost use Rattle.decode.specs.Truth.{true_clause};
 ghost use Rattle.decode.specs.Sums.{Told, ValuesIn, Shown};
@@ -15,36 +15,25 @@ use crate::lines::line_holds;
 use judge::literals::compares;
 use lent::is_on;
 use measure::count::tuples_of;
-use opening::Header;
 use rules::Piece;
-use slots::comparisons::ready;
-use slots::variables::first_in;
+use slots::numbered::Numbered;
 use walk::tuples::{first_tuple, least};
 use walk::{Comparison, Slot, Walk};
 
 // Whether the piece's lead holds: of a line, some literal; of a comparison, its negated selector.
-fn lead_holds(
-    bytes: &[u8],
-    firsts: &[u32],
-    rules: &[u8],
-    model: &[u8],
-    header: Header,
-    piece: Piece,
-) -> bool
-    requires { Given bytes.now model.now header × FirstsOf (board_of bytes.now) firsts.now × Held (context_of (board_of bytes.now)) rules.now piece × Sound (board_of bytes.now) (said_piece rules.now piece) }
-    ensures { result ≡ true_clause (board_of bytes.now) model.now (lead_of (said_piece rules.now piece)) }
+fn lead_holds(numbered: &Numbered, model: &[u8], piece: Piece) -> bool
+    requires { Given numbered.now model.now × Held (context_of (board_of numbered.now)) (tail_of numbered.now) piece × Sound (board_of numbered.now) (said_piece (tail_of numbered.now) piece) }
+    ensures { result ≡ true_clause (board_of numbered.now) model.now (lead_of (said_piece (tail_of numbered.now) piece)) }
 {
     match piece {
         Piece::Line {
             place,
             literals,
             selector,
-        } => line_holds(
-            bytes, firsts, rules, model, header, literals, place, selector,
-        ),
+        } => line_holds(numbered, model, literals, place, selector),
         Piece::Lone { .. } => false,
         Piece::Led { selector, .. } => {
-            let first = first_in(firsts, header.ints) as usize;
+            let first = numbered.selectors() as usize;
             !is_on(model, first + selector)
         }
     }
@@ -52,21 +41,14 @@ fn lead_holds(
 
 // Whether all clauses of the piece hold, told without a look at them: its lead holds, or its comparison does at the values that the
 // model stands for (000, Proposition 1).
-pub fn piece_holds(
-    bytes: &[u8],
-    firsts: &[u32],
-    values: &[i32],
-    rules: &[u8],
-    model: &[u8],
-    header: Header,
-    piece: Piece,
-) -> bool
-    requires { Given bytes.now model.now header × FirstsOf (board_of bytes.now) firsts.now × Told (board_of bytes.now) model.now × ValuesIn (board_of bytes.now) model.now values.now × Held (context_of (board_of bytes.now)) rules.now piece × Sound (board_of bytes.now) (said_piece rules.now piece) }
-    ensures { Shown (board_of bytes.now) model.now (said_piece rules.now piece) result }
+pub fn piece_holds(numbered: &Numbered, values: &[i32], model: &[u8], piece: Piece) -> bool
+    requires { Given numbered.now model.now × Told (board_of numbered.now) model.now × ValuesIn (board_of numbered.now) model.now values.now × Held (context_of (board_of numbered.now)) (tail_of numbered.now) piece × Sound (board_of numbered.now) (said_piece (tail_of numbered.now) piece) }
+    ensures { Shown (board_of numbered.now) model.now (said_piece (tail_of numbered.now) piece) result }
 {
-    if lead_holds(bytes, firsts, rules, model, header, piece) {
+    if lead_holds(numbered, model, piece) {
         return true;
     }
+    let rules = numbered.record().rules();
     match piece {
         Piece::Line { .. } => false,
         Piece::Lone { place, constant } => compares(rules, values, place, constant),
@@ -95,11 +77,11 @@ fn single() -> Comparison
 }
 
 // The comparison at a place, or a single clause where its constant is below the least sum.
-fn tails_at(bytes: &[u8], firsts: &[u32], rules: &[u8], place: usize, constant: i32) -> Comparison
-    requires { Opens bytes.now × FirstsOf (board_of bytes.now) firsts.now × Stands (length (board_of bytes.now).bounds) rules.now place constant }
-    ensures { TailsOf (board_of bytes.now) (comparison_at rules.now place constant) result }
+fn tails_at(numbered: &Numbered, place: usize, constant: i32) -> Comparison
+    requires { Stands (length (board_of numbered.now).bounds) (tail_of numbered.now) place constant }
+    ensures { TailsOf (board_of numbered.now) (comparison_at (tail_of numbered.now) place constant) result }
 {
-    let c = ready(bytes, firsts, rules, place, constant);
+    let c = numbered.ready(place, constant);
     if constant < least(c) {
         return single();
     }
@@ -107,18 +89,18 @@ fn tails_at(bytes: &[u8], firsts: &[u32], rules: &[u8], place: usize, constant: 
 }
 
 // What is walked for the clauses of a piece: each tuple gives what stands behind the lead.
-pub fn tails_of(bytes: &[u8], firsts: &[u32], rules: &[u8], piece: Piece) -> Comparison
-    requires { Opens bytes.now × FirstsOf (board_of bytes.now) firsts.now × Held (context_of (board_of bytes.now)) rules.now piece }
-    ensures { Tails (board_of bytes.now) (said_piece rules.now piece) result }
+pub fn tails_of(numbered: &Numbered, piece: Piece) -> Comparison
+    requires { Held (context_of (board_of numbered.now)) (tail_of numbered.now) piece }
+    ensures { Tails (board_of numbered.now) (said_piece (tail_of numbered.now) piece) result }
 {
     match piece {
         Piece::Line { .. } => single(),
-        Piece::Lone { place, constant } => tails_at(bytes, firsts, rules, place, constant),
+        Piece::Lone { place, constant } => tails_at(numbered, place, constant),
         Piece::Led {
             place,
             constant,
             ..
-        } => tails_at(bytes, firsts, rules, place, constant),
+        } => tails_at(numbered, place, constant),
     }
 }
 

@@ -4,8 +4,6 @@ ghost use Rattle.definitions.specs.Result.{each};
 ghost use Rattle.definitions.specs.Encoding.{clauses};
 ghost use Rattle.laws.specs.Boards.{board_of};
 ghost use Rattle.lent.specs.Said.{said_found};
-ghost use Rattle.rules.specs.Known.{Known};
-ghost use Rattle.slots.specs.Variables.{FirstsOf};
 ghost use Rattle.decode.specs.Given.{Given};
 ghost use Rattle.decode.specs.Truth.{tests};
 ghost use Rattle.decode.specs.Sums.{Told, ValuesIn};
@@ -15,10 +13,9 @@ use crate::axioms::search_axioms;
 use crate::pieces::{passed, piece_holds, tails_of, walked};
 use crate::rows::search_row;
 use crate::values::write_values;
-use opening::Header;
+use opening::record::Record;
 use rules::{next_piece, start};
-use slots::FIRSTS;
-use slots::variables::put_firsts;
+use slots::numbered::Numbered;
 use walk::rows::after_row;
 
 // The most integer variables that a record has.
@@ -26,26 +23,20 @@ const VALUES: usize = 1024;
 
 // The clauses of the rules, which are counted from `from` on: piece by piece, and in a piece that is not known to hold its tuples,
 // row by row. The axioms hold, and `values` are what they tell.
-fn search_rules(
-    bytes: &[u8],
-    firsts: &[u32],
-    values: &[i32],
-    rules: &[u8],
-    model: &[u8],
-    header: Header,
-    from: usize,
-) -> Option<usize>
-    requires { Given bytes.now model.now header × FirstsOf (board_of bytes.now) firsts.now × Told (board_of bytes.now) model.now × ValuesIn (board_of bytes.now) model.now values.now × Known bytes.now rules.now × (from + length (rule_tests (board_of bytes.now) model.now) < 9223372036854775808) }
-    ensures { said_found 13 result ≡ each 13 from (rule_tests (board_of bytes.now) model.now) }
+fn search_rules(numbered: &Numbered, values: &[i32], model: &[u8], from: usize) -> Option<usize>
+    requires { Given numbered.now model.now × Told (board_of numbered.now) model.now × ValuesIn (board_of numbered.now) model.now values.now × (from + length (rule_tests (board_of numbered.now) model.now) < 9223372036854775808) }
+    ensures { said_found 13 result ≡ each 13 from (rule_tests (board_of numbered.now) model.now) }
 {
+    let opened = numbered.record();
+    let rules = opened.rules();
     let mut number = from;
-    let mut cursor = start(header.clauses);
+    let mut cursor = start(opened.clauses());
     'search: loop {
         let Some((piece, behind)) = next_piece(rules, cursor) else {
             break 'search None;
         };
-        let held = piece_holds(bytes, firsts, values, rules, model, header, piece);
-        let tails = tails_of(bytes, firsts, rules, piece);
+        let held = piece_holds(numbered, values, model, piece);
+        let tails = tails_of(numbered, piece);
         number += passed(held, tails);
         let mut here = walked(held, tails);
         while let Some(tuple) = here {
@@ -60,28 +51,17 @@ fn search_rules(
     }
 }
 
-// The first of all clauses that does not hold: the axioms come first, then the rules, which stand where the variable table ends.
-pub fn search_clauses(bytes: &[u8], model: &[u8], header: Header) -> Option<usize>
-    requires { Given bytes.now model.now header }
-    ensures { said_found 13 result ≡ each 13 0 (tests (board_of bytes.now) model.now (clauses (board_of bytes.now))) }
+// The first of all clauses that does not hold: the axioms come first, then the rules.
+pub fn search_clauses(opened: &Record, model: &[u8]) -> Option<usize>
+    requires { Given opened.now model.now }
+    ensures { said_found 13 result ≡ each 13 0 (tests (board_of opened.now) model.now (clauses (board_of opened.now))) }
 {
-    match search_axioms(bytes, model, header) {
+    match search_axioms(opened, model) {
         Err(failing) => Some(failing),
         Ok(number) => {
-            let place = header.rules;
-            let mut firsts = [0u32; FIRSTS];
-            put_firsts(bytes, header.bools, header.ints, &mut firsts);
             let mut values = [0i32; VALUES];
-            write_values(bytes, model, header, &mut values);
-            search_rules(
-                bytes,
-                &firsts,
-                &values,
-                &bytes[place..],
-                model,
-                header,
-                number,
-            )
+            write_values(opened, model, &mut values);
+            search_rules(&Numbered::new(opened), &values, model, number)
         }
     }
 }

@@ -10,7 +10,7 @@ ghost use Rattle.decode.specs.Given.{Given};
 ghost use Rattle.decode.specs.Values.{value_from};
 
 use lent::is_on;
-use opening::Header;
+use opening::record::Record;
 use slots::Bounds;
 use slots::variables::{bounds_of, width_of};
 
@@ -30,13 +30,13 @@ fn value_of(model: &[u8], first: usize, bounds: Bounds) -> i32
 }
 
 // The value of each variable in turn, over the start of a list.
-pub fn write_values(bytes: &[u8], model: &[u8], header: Header, values: &mut [i32])
-    requires { Given bytes.now model.now header × (header.ints ≤ length values.old) }
-    ensures { values.new ≡ written (values_of (board_of bytes.now) model.now) values.old }
+pub fn write_values(opened: &Record, model: &[u8], values: &mut [i32])
+    requires { Given opened.now model.now × (length (board_of opened.now).bounds ≤ length values.old) }
+    ensures { values.new ≡ written (values_of (board_of opened.now) model.now) values.old }
 {
-    let mut first = header.bools + 1;
-    for x in 0..header.ints {
-        let bounds = bounds_of(bytes, x);
+    let mut first = opened.bools() + 1;
+    for x in 0..opened.ints() {
+        let bounds = bounds_of(opened, x);
         values[x] = value_of(model, first, bounds);
         first += width_of(bounds) as usize;
     }

@@ -12,9 +12,10 @@ returns-in_err-measured c =
     rw (p.1, p.2) (decode_refused a.bytes.now a.model.now a.values.now a.booleans.now _ (not_measured a.bytes.now (sym c.in_err-measured.ensures)))
 
 pub read_back-requires : goal.read_back-requires
-read_back-requires c = let m = measured c.args.bytes.now (sym c.in_ok-measured.ensures) in (m.opened, ap (λ t. t.n) m.totals)
+read_back-requires c = let m = measured c.args.bytes.now (sym c.in_ok-measured.ensures) in rw m.bytes (ap (λ t. t.n) m.totals)
 
 pub returns : goal.returns
 returns c =
     let a = c.args in
-    rw (decode_is a.bytes.now a.model.now a.values.now a.booleans.now (measured a.bytes.now (sym c.in_ok-measured.ensures))) c.read_back.ensures
+    let m = measured a.bytes.now (sym c.in_ok-measured.ensures) in
+    rw (decode_is a.bytes.now a.model.now a.values.now a.booleans.now m) (rw m.bytes at c.read_back.ensures)

@@ -7,4 +7,4 @@ use Rattle.laws.specs.Written.{written}
 use Rattle.decode.proofs.values.write_values.Given as goal
 
 abbrev pub invariant-loop-x : goal.invariant-loop-x
-invariant-loop-x l = (l.first ≡ first (board_of l.bytes) l.x) × (l.values ≡ written (take l.x (values_of (board_of l.bytes) l.model)) l.initial.values)
+invariant-loop-x l = (l.first ≡ first (board_of l.opened) l.x) × (l.values ≡ written (take l.x (values_of (board_of l.opened) l.model)) l.initial.values)
