@@ -11,55 +11,43 @@ use Rattle.definitions.specs.Operations.{Outcome, accepted, lending, long, bits,
 use Rattle.definitions.specs.Answers.{refusal}
 use Rattle.laws.specs.Readings.{never}
 use Rattle.laws.specs.Boards.{board_of}
-use Rattle.opening.specs.declared.Header.{Header}
-use Rattle.opening.specs.Said.{map_done, header_of}
-use Rattle.definitions.specs.declared.Sizes.{Sizes}
+use Rattle.opening.specs.Said.{map_done}
 use Rattle.measure.specs.declared.Measured.{Measured}
 use Rattle.measure.specs.Said.{measured_of}
-use Rattle.measure.specs.Told.{Measures, measured}
-use Rattle.judge.specs.Checks.{Long, fitting, solving}
+use Rattle.measure.specs.Told.{measured}
+use Rattle.judge.specs.Checks.{fitting, solving}
 use Rattle.judge.proofs.Judged.{judged_is, not-judged, long_enough}
 use Rattle.judge.proofs.Checked.{near}
 use Rattle.image.specs.Checks.{imaging, Writable}
 use Rattle.image.specs.Outcome.{Allowed}
 
 -- ---- the checks, as the code makes them
-module _ (s : List ℕ) (header : Header) (sizes : Sizes) (h : Measures s header sizes) (values : List ℤ) (booleans : List ℕ) where
-  abbrev B : Board
-  B = board_of s
+module _ (B : Board) (values : List ℤ) (booleans : List ℕ) (lent : ℕ) where
+  pub lists_wrong : {n d : ℕ} → fitting B values booleans ≡ refused n d → refused n d ≡ imaging B values booleans lent
+  unfolding imaging
+  lists_wrong e = rw e
 
-  pub lists_long : fitting header values booleans ≡ done tt → Long s header values booleans
-  lists_long e = long_enough s header values booleans h.opened e
-
-  module _ (lent : ℕ) where
-    n_is : sizes.n ≡ N B
-    n_is = ap (λ t. t.n) h.totals
-
-    pub lists_wrong : {n d : ℕ} → fitting header values booleans ≡ refused n d → refused n d ≡ imaging B values booleans lent
+  module _ (e : fitting B values booleans ≡ done tt) {wanted : ℕ} (w : wanted ≡ N B) where
+    pub model_wrong : lent ≢ wanted → refused 11 wanted ≡ imaging B values booleans lent
     unfolding imaging
-    lists_wrong e = rw (← h.opened.header, e)
+    model_wrong n = ap (refused 11) w ∙ rw (e, ne_eqb lent (N B) (λ q. n (q ∙ sym w)))
 
-    module _ (e : fitting header values booleans ≡ done tt) where
-      pub model_wrong : lent ≢ sizes.n → refused 11 sizes.n ≡ imaging B values booleans lent
-      unfolding imaging
-      model_wrong n = ap (refused 11) n_is ∙ rw (← h.opened.header, e, ne_eqb lent (N B) (λ q. n (q ∙ sym n_is)))
-
-      pub lists_right : lent ≡ sizes.n → solving B values booleans ≡ imaging B values booleans lent
-      unfolding imaging
-      lists_right q = rw (← h.opened.header, e, eq-eqb lent (N B) (q ∙ n_is))
+    pub lists_right : lent ≡ wanted → solving B values booleans ≡ imaging B values booleans lent
+    unfolding imaging
+    lists_right q = rw (e, eq-eqb lent (N B) (q ∙ w))
 
 -- ---- what is known once they have passed
 module _ (B : Board) (values : List ℤ) (booleans : List ℕ) (lent : ℕ) where
   pub record Passed : Type 0 where
-    pub lists : fitting (header_of B) values booleans ≡ done tt
+    pub lists : fitting B values booleans ≡ done tt
     pub model : lent ≡ N B
     pub solution : solving B values booleans ≡ done tt
 
   pub passed : imaging B values booleans lent ≡ done tt → Passed
   unfolding imaging
-  passed = go (fitting (header_of B) values booleans) (eqb lent (N B)) refl refl
+  passed = go (fitting B values booleans) (eqb lent (N B)) refl refl
     where
-      go : (p : Result (Unit {0})) (t : Bool) → fitting (header_of B) values booleans ≡ p → eqb lent (N B) ≡ t
+      go : (p : Result (Unit {0})) (t : Bool) → fitting B values booleans ≡ p → eqb lent (N B) ≡ t
           → ((p >> need 11 (N B) t) >> solving B values booleans) ≡ done tt → Passed
       go (done x) true e f d = record { lists = e; model = eqb-true _ _ f; solution = d }
       go (done x) false e f d = never d
@@ -78,12 +66,12 @@ in_bounds_lem B values booleans =
 
 -- what `measure` and the checks have answered lets the model be written
 pub writable : (s : List ℕ) (m : Measured) (values : List ℤ) (booleans model : List ℕ)
-    → done m ≡ map_done measured_of (accepted s) → done tt ≡ imaging (board_of s) values booleans (length model) → Writable s m.header values booleans model
+    → done m ≡ map_done (measured_of s) (accepted s) → done tt ≡ imaging (board_of m.opened) values booleans (length model) → Writable m.opened values booleans model
 writable s m values booleans model d e =
     let h = measured s (sym d) in
-    let p = passed (board_of s) values booleans (length model) (sym e) in
-    let l = lists_long s m.header m.sizes h values booleans (rw h.opened.header p.lists) in
-    record { lists = l; near = near s m.header values booleans l (in_bounds_lem (board_of s) values booleans p.solution); room = p.model }
+    let p = passed (board_of m.opened) values booleans (length model) (sym e) in
+    let l = long_enough m.opened values booleans (rw h.bytes h.opens) p.lists in
+    record { lists = l; near = near m.opened values booleans l (in_bounds_lem (board_of m.opened) values booleans p.solution); room = p.model }
 
 -- ---- the outcome
 module _ (s : List ℕ) (values : List ℤ) (booleans model : List ℕ) where

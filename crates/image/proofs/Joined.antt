@@ -9,7 +9,6 @@ use Rattle.definitions.specs.Meaning.{assigned, compares, plain_model}
 use Rattle.laws.specs.Boards.{board_of}
 use Rattle.laws.specs.Layout.{N_is}
 use Rattle.laws.specs.Written.{written, rest, back, rest-length, written_all}
-use Rattle.opening.specs.declared.Header.{Header}
 use Rattle.laws.specs.Filling.{Filling, begun, room, room_for, part, last}
 use Rattle.image.specs.Parts.{bit, boolean_bytes, order_bytes, selector_bytes, booleans_length, plain_parts}
 use Rattle.image.specs.Variables.{orders_from}
@@ -35,7 +34,7 @@ parts_are B values booleans e =
     ∙ sym (plain_parts B a)
 
 -- ---- a model that is written part by part
-module _ {s : List ℕ} {header : Header} {values : List ℤ} {booleans old : List ℕ} (g : Writable s header values booleans old) where
+module _ {s : List ℕ} {values : List ℤ} {booleans old : List ℕ} (g : Writable s values booleans old) where
   abbrev B : Board
   B = board_of s
 

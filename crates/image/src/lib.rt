@@ -2,10 +2,10 @@
 #![tactic(auto)]
 
 ghost use Rattle.std.specs.Prelude.{◌≡◌};
+ghost use Rattle.definitions.specs.Encoding.{N};
 ghost use Rattle.definitions.specs.Meaning.{assigned, plain_model};
 ghost use Rattle.definitions.specs.Answers.{said_verdict};
-ghost use Rattle.laws.specs.Boards.{board_of};
-ghost use Rattle.measure.specs.Told.{Measures};
+ghost use Rattle.laws.specs.Boards.{Opens, board_of};
 ghost use Rattle.image.specs.Checks.{imaging, Writable};
 ghost use Rattle.image.specs.Outcome.{Allowed};
 
@@ -15,39 +15,34 @@ use crate::variables::put_variables;
 use definitions::Refusal;
 use judge::checks::{lengths, solved};
 use measure::{Measured, measure};
-use opening::Header;
+use opening::record::Record;
 
 pub mod parts; // parts.rt: the bytes of Booleans and of order variables
 pub mod selectors; // selectors.rt: the bytes of the selectors
 pub mod variables; // variables.rt: the order variables of all variables
 
 // Refusal 11 for the values, the Booleans and the model, of which only its length is looked at; then 12, 14 and 13.
-fn checked(
-    bytes: &[u8],
-    measured: Measured,
-    values: &[i32],
-    booleans: &[u8],
-    lent: usize,
-) -> Result<(), Refusal>
-    requires { Measures bytes.now measured.header measured.sizes }
-    ensures { said_verdict result ≡ imaging (board_of bytes.now) values.now booleans.now lent }
+fn checked(measured: &Measured, values: &[i32], booleans: &[u8], lent: usize) -> Result<(), Refusal>
+    requires { Opens measured.now.opened × (measured.now.sizes.n ≡ N (board_of measured.now.opened)) }
+    ensures { said_verdict result ≡ imaging (board_of measured.now.opened) values.now booleans.now lent }
 {
+    let opened = &measured.opened;
     let wanted = measured.sizes.n;
-    lengths(measured.header, values, booleans)?;
+    lengths(opened, values, booleans)?;
     if lent != wanted {
         return Err(Refusal::LentWrong { wanted });
     }
-    solved(bytes, measured.header, values, booleans)
+    solved(opened, values, booleans)
 }
 
 // Booleans, order variables, selectors, each into the part of the model that follows the bytes already written.
-fn put_model(bytes: &[u8], header: Header, values: &[i32], booleans: &[u8], model: &mut [u8])
-    requires { Writable bytes.now header values.now booleans.now model.old }
-    ensures { model.new ≡ plain_model (board_of bytes.now) (assigned values.now booleans.now) }
+fn put_model(opened: &Record, values: &[i32], booleans: &[u8], model: &mut [u8])
+    requires { Writable opened.now values.now booleans.now model.old }
+    ensures { model.new ≡ plain_model (board_of opened.now) (assigned values.now booleans.now) }
 {
     let orders = put_booleans(booleans, model);
-    let selectors = orders + put_variables(bytes, values, &mut model[orders..]);
-    put_selectors(bytes, header, values, &mut model[selectors..]);
+    let selectors = orders + put_variables(opened, values, &mut model[orders..]);
+    put_selectors(opened, values, &mut model[selectors..]);
 }
 
 // Writes the whole model; a refusal leaves it as it was.
@@ -55,7 +50,7 @@ pub fn image(bytes: &[u8], values: &[i32], booleans: &[u8], model: &mut [u8]) ->
     ensures { Allowed bytes.now values.now booleans.now model.old result model.new }
 {
     let measured = measure(bytes)?;
-    checked(bytes, measured, values, booleans, model.len())?;
-    put_model(bytes, measured.header, values, booleans, model);
+    checked(&measured, values, booleans, model.len())?;
+    put_model(&measured.opened, values, booleans, model);
     Ok(())
 }

@@ -1,19 +1,20 @@
 -- `image::checked` meets its contract: the first refusal met is the one given.
 use Rattle.std.proofs.Common.{sym, ◌∙◌}
 use Rattle.std.proofs.lemmas.Result.{err_from_is_err_and}
-use Rattle.image.proofs.Imaged.{lists_long, lists_wrong, model_wrong, lists_right}
+use Rattle.judge.proofs.Judged.{long_enough}
+use Rattle.image.proofs.Imaged.{lists_wrong, model_wrong, lists_right}
 use Rattle.image.proofs.checked.Goals as goal
 
 pub returns-in_err-lengths : goal.returns-in_err-lengths
 returns-in_err-lengths c =
     let p = err_from_is_err_and c.from_residual.result c.from_residual.ensures.1 in
-    rw (p.1, p.2) (lists_wrong _ _ _ c.requires _ _ _ (sym c.in_err-lengths.ensures))
+    rw (p.1, p.2) (lists_wrong _ _ _ _ (sym c.in_err-lengths.ensures))
 
 pub returns-then-lent-wanted : goal.returns-then-lent-wanted
-returns-then-lent-wanted c = model_wrong _ _ _ c.requires _ _ _ (sym c.in_ok-lengths.ensures) c.if-lent-wanted.true
+returns-then-lent-wanted c = model_wrong _ _ _ _ (sym c.in_ok-lengths.ensures) c.requires.1 c.if-lent-wanted.true
 
 pub solved-requires : goal.solved-requires
-solved-requires c = lists_long _ _ _ c.requires _ _ (sym c.in_ok-lengths.ensures)
+solved-requires c = long_enough _ _ _ c.requires.0 (sym c.in_ok-lengths.ensures)
 
 pub returns : goal.returns
-returns c = c.solved.ensures ∙ lists_right _ _ _ c.requires _ _ _ (sym c.in_ok-lengths.ensures) c.if-lent-wanted.false
+returns c = c.solved.ensures ∙ lists_right _ _ _ _ (sym c.in_ok-lengths.ensures) c.requires.1 c.if-lent-wanted.false

@@ -20,7 +20,7 @@ slice_bounds-put_variables-start c =
 pub put_variables-requires : goal.put_variables-requires
 put_variables-requires c =
     let filled = after_booleans c.requires c.put_booleans-orders.ensures in
-    (c.requires.lists.opened.opens, c.requires.lists.ints, orders_room c.requires filled)
+    (c.requires.lists.ints, orders_room c.requires filled)
 
 pub overflow_add-selectors : goal.overflow_add-selectors
 overflow_add-selectors c =
@@ -45,7 +45,7 @@ pub put_selectors-requires : goal.put_selectors-requires
 put_selectors-requires c =
     let filled = after_booleans c.requires c.put_booleans-orders.ensures in
     let further = after-orders c.requires filled c.put_variables.ensures in
-    (c.requires.lists.opened, c.requires.lists.ints, c.requires.near, selectors_room c.requires further)
+    (c.requires.lists.ints, c.requires.near, selectors_room c.requires further)
 
 pub shape_of-model : goal.shape_of-model
 shape_of-model c =

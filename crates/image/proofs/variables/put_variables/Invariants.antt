@@ -7,4 +7,4 @@ use Rattle.image.specs.Variables.{orders_from}
 use Rattle.image.proofs.variables.put_variables.Given as goal
 
 abbrev pub invariant-loop-x : goal.invariant-loop-x
-invariant-loop-x l = Filling (orders_from (board_of l.bytes) (assigned l.values []) 0) (orders_from (board_of l.bytes) (assigned l.values []) l.x) l.initial.model l.model l.at
+invariant-loop-x l = Filling (orders_from (board_of l.opened) (assigned l.values []) 0) (orders_from (board_of l.opened) (assigned l.values []) l.x) l.initial.model l.model l.at
