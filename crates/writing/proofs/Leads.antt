@@ -92,14 +92,14 @@ module _ (c : Comparison) (lead : Option ℤ) (cur : Option Walk) where
 abbrev pub negated : ℕ → ℤ
 negated i = to_z w32 (of_z w32 (pos 0 -ℤ to_z w32 i))
 
--- n steps: the first, and m more
-pub steps_on : (i n m : ℕ) → n ≡ m + 1 → i + n < numbers_limit → steps_from i n ≡ clause (negated i ∷ to_z w32 (i + 1) ∷ []) ++ steps_from (i + 1) m
+-- n steps: the first, and m more from the number k on
+pub steps_on : (i n m k : ℕ) → n ≡ m + 1 → k ≡ i + 1 → i + n < numbers_limit → steps_from i n ≡ clause (negated i ∷ to_z w32 (i + 1) ∷ []) ++ steps_from k m
 unfolding clause
-steps_on i n m e h =
-    let k : n - 1 ≡ m = omega arith in
+steps_on i n m k e ek h =
+    let fewer : n - 1 ≡ m = omega arith in
     steps_more i n (omega arith)
     ∙ ap₂ (λ u v. u ∷ v ∷ pos 0 ∷ steps_from (i + 1) (n - 1)) (sym (minus_is i (omega arith))) (sym (plus_is (i + 1) (omega arith)))
-    ∙ ap (λ j. negated i ∷ to_z w32 (i + 1) ∷ pos 0 ∷ steps_from (i + 1) j) k
+    ∙ ap₂ (λ a b. negated i ∷ to_z w32 (i + 1) ∷ pos 0 ∷ steps_from a b) (sym ek) fewer
 
 pub axioms_on : (i w : ℕ) → i + w < numbers_limit → axiom_numbers i w ≡ clause (negated i ∷ []) ++ (clause (to_z w32 (i + (w - 1)) ∷ []) ++ steps_from i (w - 1))
 unfolding clause axiom_numbers

@@ -6,10 +6,11 @@ ghost use Rattle.text.specs.Entries.{entries};
 ghost use Rattle.writing.specs.Adds.{Adds, Counts};
 ghost use Rattle.writing.specs.Parts.{IsPart, list_is, text_is};
 
+use std::mem;
 use text::lengths::digits;
 use text::numbers::{magnitude, put_entry};
 
-pub trait Part {
+pub trait Part: Drop {
     // There is room for these numbers from a place on.
     ghost room: { Self → ℕ → List ℤ → Type 0 };
 
@@ -19,6 +20,10 @@ pub trait Part {
     fn add(&mut self, number: i32, at: usize) -> usize
         requires { room self.old at (number ∷ []) }
         ensures { adds (number ∷ []) at self.old result self.new };
+
+    // What was lent, taken out: a long loop holds it by itself, so that it need not be looked up for each number, and puts it back.
+    fn taken(&mut self) -> Self
+        ensures { result ≡ self.old };
 
     ghost is: { IsPart room adds };
 }
@@ -39,6 +44,12 @@ impl Part for AsNumbers<'_> {
     fn add(&mut self, number: i32, at: usize) -> usize {
         self.list[at] = number;
         at + 1
+    }
+
+    fn taken(&mut self) -> Self {
+        AsNumbers {
+            list: mem::take(&mut self.list),
+        }
     }
 }
 
@@ -74,5 +85,11 @@ impl Part for AsText<'_> {
             return next;
         }
         at + put_entry(number, &mut self.out[at..])
+    }
+
+    fn taken(&mut self) -> Self {
+        AsText {
+            out: mem::take(&mut self.out),
+        }
     }
 }

@@ -88,12 +88,14 @@ fn put_units<P: Part>(lead: Option<i32>, run: Run, at: usize, part: &mut P) -> u
     let mut left = run.count;
     let mut p = y.literal;
     let mut q = z.literal;
+    let mut here = part.taken();
     while 0 < left {
-        place = put_clause(lead, front, p, q, place, part);
+        place = put_clause(lead, front, p, q, place, &mut here);
         p += 1;
         q -= 1;
         left -= 1;
     }
+    *part = here;
     place
 }
 

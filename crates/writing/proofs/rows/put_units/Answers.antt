@@ -12,8 +12,8 @@ loop-left-init g c =
     let y : FitsSigned w32 r.y.literal = abs_fits (omega (arith, c.requires.0.rising.near)) in
     let z : FitsSigned w32 r.z.literal = abs_fits (omega (arith, c.requires.0.falling.near)) in
     let e = unit_is r c.requires.0 c.requires.1 in
-    as_words (λ u v. Adding g.P.Part.room g.P.Part.adds (led c.args.lead (in_run r)) (led c.args.lead (in_run (unit_run r.front u v r.count))) c.args.at c.args.part.now c.args.at c.args.part.now × ReadyRun (unit_run r.front u v r.count)) y z
-    (begin g.met.P.Part.is c.args.at c.args.part.now (ap (λ x. led c.args.lead (in_run x)) (sym e)) c.requires.2, subst ReadyRun e c.requires.0)
+    as_words (λ u v. Adding g.P.Part.room g.P.Part.adds (led c.args.lead (in_run r)) (led c.args.lead (in_run (unit_run r.front u v r.count))) c.args.at c.args.part.now c.args.at c.taken-here.result × ReadyRun (unit_run r.front u v r.count)) y z
+    (subst (λ s. Adding g.P.Part.room g.P.Part.adds (led c.args.lead (in_run r)) (led c.args.lead (in_run (unit_run r.front r.y.literal r.z.literal r.count))) c.args.at c.args.part.now c.args.at s) (sym c.taken-here.ensures) (begin g.met.P.Part.is c.args.at c.args.part.now (ap (λ x. led c.args.lead (in_run x)) (sym e)) c.requires.2), subst ReadyRun e c.requires.0)
 
 pub put_clause-place-requires : goal.put_clause-place-requires
 put_clause-place-requires g c =
