@@ -31,8 +31,8 @@ MUTANTS = [
          "            if 0 < selector {\n                return 0;\n            }\n            let number = selectors + selector as u32;")]),
     ("the selector left off a single-term comparison", [
         ("compile/src/pieces.rt",
-         "                Front::Literal(negated),",
-         "                if ready(bytes, firsts, rules, place, constant).n == 1 { Front::Nothing } else { Front::Literal(negated) },")]),
+         "                Some(negated),",
+         "                if ready(bytes, firsts, rules, place, constant).n == 1 { None } else { Some(negated) },")]),
     ("one selector for a whole clause", [
         ("writing/src/lines.rt", "number += selectors_of(literal);", ""),
         ("rules/src/lib.rt", "after(c, next, c.selector + 1)", "after(c, next, c.selector)")]),
@@ -72,11 +72,12 @@ MUTANTS = [
          "    }\n")]),
     ("the model written before the clauses are tested", [
         ("image/src/lib.rt",
-         "            let verdict = checked(",
-         "            if booleans.len() == header.bools && values.len() == header.ints && model.len() == totals.n {\n"
-         "                put_model(bytes, header, values, booleans, model);\n"
-         "            }\n"
-         "            let verdict = checked(")]),
+         "    checked(bytes, measured, values, booleans, model.len())?;",
+         "    let Measured { header, sizes } = measured;\n"
+         "    if booleans.len() == header.bools && values.len() == header.ints && model.len() == sizes.n {\n"
+         "        put_model(bytes, header, values, booleans, model);\n"
+         "    }\n"
+         "    checked(bytes, measured, values, booleans, model.len())?;")]),
     ("hours halved and rounded up", [
         ("closing/src/search.rt",
          "floor_div(range.lower + range.upper, 2)",
@@ -124,8 +125,8 @@ MUTANTS = [
          "        None => {\n            model.fill(0);\n            Ok(Reply::None)\n        }")]),
     ("text written as far as there is room", [
         ("write_text/src/lib.rt",
-         "            if out.len() < length {",
-         "            if out.len() < length {\n                add_text(bytes, header, totals, out);")]),
+         "    if out.len() < length {",
+         "    if out.len() < length {\n        add_text(bytes, measured, out);")]),
 ]
 
 # Which program shows what a crate does wrong.

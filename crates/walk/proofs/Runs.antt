@@ -207,9 +207,6 @@ row-single c f w o h =
 
 -- ---- what the code computes with
 module _ (p : Spot) (n : ℕ) (some : 0 < n) (h : Steady p n) where
-  pub steady_one : Steady p 1
-  steady_one = record { short = h.short; few = h.few; near = omega (arith, h.near) }
-
   pub raised_steady : Steady (raised p) (n - 1)
   raised_steady = elim (dec_le 1 p.r) [
     | yes l ↦ rw (raise_on p l) (record { short = omega (arith, h.short); few = h.few; near = omega (arith, h.near) })
