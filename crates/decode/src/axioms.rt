@@ -32,7 +32,8 @@ fn axiom_holds(model: &[u8], first: usize, width: usize, k: usize) -> bool
     }
 }
 
-// Variable by variable, and for each variable axiom by axiom; it stops at the first that does not hold.
+// Variable by variable, and for each variable axiom by axiom, a walk that 01 has left by its label: the number of the clause after
+// the axioms, or, in place of it, of the first that does not hold.
 pub fn search_axioms(opened: &Record, model: &[u8]) -> Result<usize, usize>
     requires { Given opened.now model.now }
     ensures { Sought 0 (tests (board_of opened.now) model.now (flatten (axioms (board_of opened.now)))) result }

@@ -51,6 +51,7 @@ pub fn piece_holds(numbered: &Numbered, values: &[i32], model: &[u8], piece: Pie
     let rules = numbered.record().rules();
     match piece {
         Piece::Line { .. } => false,
+        // no joined arm: the proof of one that binds a signed number does not close
         Piece::Lone { place, constant } => compares(rules, values, place, constant),
         Piece::Led {
             place,
@@ -95,6 +96,7 @@ pub fn tails_of(numbered: &Numbered, piece: Piece) -> Comparison
 {
     match piece {
         Piece::Line { .. } => single(),
+        // no joined arm here either
         Piece::Lone { place, constant } => tails_at(numbered, place, constant),
         Piece::Led {
             place,

@@ -1,4 +1,5 @@
-// A row of a comparison's clauses, searched for the first that does not hold; they are counted on from `number`.
+// A row of a comparison's clauses, searched for the first that does not hold; they are counted on from `number`. A search gives the
+// number of the clause after those that it has looked at, or, in place of it, of the first that does not hold.
 ghost use Rattle.std.specs.Prelude.{◌≡◌, Some, ◌∷◌, [], map, false, ◌+◌, ◌<◌, length};
 ghost use Rattle.definitions.specs.Tools.{All};
 ghost use Rattle.laws.specs.Mentions.{InList};

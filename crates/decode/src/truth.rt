@@ -8,8 +8,10 @@ pub fn holds(model: &[u8], literal: i32) -> bool
     requires { (1 ≤ nat_abs literal) × (nat_abs literal ≤ length model.now) × (length model.now < 2147483648) }
     ensures { result ≡ true_number model.now literal }
 {
+    let number = literal.unsigned_abs() as usize;
     if literal < 0 {
-        return !is_on(model, (-literal) as usize);
+        !is_on(model, number)
+    } else {
+        is_on(model, number)
     }
-    is_on(model, literal as usize)
 }
