@@ -19,20 +19,21 @@ import tempfile
 MUTANTS = [
     ("the same list each time", [
         ("compile/src/lib.rt",
-         "put_list(bytes, header, list)",
-         r'put_list(b"\x01\0\0\0\x0A\0\x01\0\0\0\0\0\x05\0\x05", Header { version: 1, ints: 1, bools: 0, clauses: 0, table: 11, rules: 15 }, list)')]),
+         "put_list(&measured.opened, list)",
+         r'put_list(&open(b"\x01\0\0\0\x0A\0\x01\0\0\0\0\0\x05\0\x05")?, list)'),
+        ("compile/src/lib.rt", "use opening::record::Record;", "use opening::open;\nuse opening::record::Record;")]),
     ("nothing written, the sizes right", [
         ("compile/src/lib.rt",
-         "let k = put_list(bytes, header, list);",
-         "let mut elsewhere = [0; 16384];\n                let k = put_list(bytes, header, &mut elsewhere);")]),
+         "let k = put_list(&measured.opened, list);",
+         "let mut elsewhere = [0; 16384];\n    let k = put_list(&measured.opened, &mut elsewhere);")]),
     ("the first comparison's clauses, of later ones the line of selectors alone", [
         ("compile/src/pieces.rt",
          "            let number = selectors + selector as u32;",
          "            if 0 < selector {\n                return 0;\n            }\n            let number = selectors + selector as u32;")]),
     ("the selector left off a single-term comparison", [
         ("compile/src/pieces.rt",
-         "                Some(negated),",
-         "                if ready(bytes, firsts, rules, place, constant).n == 1 { None } else { Some(negated) },")]),
+         "Some(negated)",
+         "if numbered.ready(place, constant).n == 1 { None } else { Some(negated) }")]),
     ("one selector for a whole clause", [
         ("writing/src/lines.rt", "number += selectors_of(literal);", ""),
         ("rules/src/lib.rt", "after(c, next, c.selector + 1)", "after(c, next, c.selector)")]),
@@ -40,31 +41,40 @@ MUTANTS = [
         ("writing/src/comparisons.rt", "if t < 1 {", "if false {")]),
     ("place K written too", [
         ("compile/src/lib.rt",
-         "let k = put_list(bytes, header, list);",
-         "let k = put_list(bytes, header, list);\n                if k < list.len() {\n                    list[k] = 0;\n                }")]),
+         "let k = put_list(&measured.opened, list);",
+         "let k = put_list(&measured.opened, list);\n                if k < list.len() {\n                    list[k] = 0;\n                }")]),
     ("the last clause of a row that does not hold", [
-        ("decode/src/rows.rt", "    let mut at = number;", "    let mut at = number;\n    let mut last = number;\n    let mut fails = false;"),
-        ("decode/src/rows.rt", "            return Checked::Fails(at);", "            last = at;\n            fails = true;"),
-        ("decode/src/rows.rt", "    Checked::Hold(at)", "    if fails {\n        return Checked::Fails(last);\n    }\n    Checked::Hold(at)")]),
+        ("decode/src/rows.rt", "    for at in number..end {", "    let mut last = number;\n    let mut fails = false;\n    for at in number..end {"),
+        ("decode/src/rows.rt", "            return Err(at);", "            last = at;\n            fails = true;"),
+        ("decode/src/rows.rt", "    Ok(end)", "    if fails {\n        return Err(last);\n    }\n    Ok(end)")]),
     ("the clauses tested before the bytes", [
-        ("decode/src/lib.rt", "    match first_bad_byte(model) {", "    match search_clauses(bytes, model, header) {"),
-        ("decode/src/lib.rt", "Refusal::ByteWrong { index: index }", "Refusal::ClauseFails { number: index }"),
-        ("decode/src/lib.rt", "        Found::Nothing => match search_clauses(bytes, model, header) {", "        Found::Nothing => match first_bad_byte(model) {"),
-        ("decode/src/lib.rt", "Refusal::ClauseFails { number: number }", "Refusal::ByteWrong { index: number }")]),
-    ("the values written before the clauses are tested", [
-        ("decode/src/lib.rt", "    write_values(bytes, model, header, values);", ""),
         ("decode/src/lib.rt",
-         "    let checked = check_model(bytes, model, header);",
-         "    write_values(bytes, model, header, values);\n    let checked = check_model(bytes, model, header);")]),
+         "    if let Some(index) = first_bad_byte(model) {\n"
+         "        return Err(Refusal::ByteWrong { index });\n"
+         "    }\n"
+         "    if let Some(number) = search_clauses(opened, model) {\n"
+         "        return Err(Refusal::ClauseFails { number });\n"
+         "    }\n",
+         "    if let Some(number) = search_clauses(opened, model) {\n"
+         "        return Err(Refusal::ClauseFails { number });\n"
+         "    }\n"
+         "    if let Some(index) = first_bad_byte(model) {\n"
+         "        return Err(Refusal::ByteWrong { index });\n"
+         "    }\n")]),
+    ("the values written before the clauses are tested", [
+        ("decode/src/lib.rt", "    write_values(opened, model, values);", ""),
+        ("decode/src/lib.rt",
+         "    check_model(opened, model)?;",
+         "    write_values(opened, model, values);\n    check_model(opened, model)?;")]),
     ("a value outside its bounds told before a byte that is not 0 or 1", [
         ("judge/src/checks.rt",
          "    if let Some(index) = first_bad_byte(booleans) {\n"
          "        return Err(Refusal::ByteWrong { index });\n"
          "    }\n"
-         "    if let Some(index) = first_outside(bytes, values) {\n"
+         "    if let Some(index) = first_outside(opened, values) {\n"
          "        return Err(Refusal::ValueOutside { index });\n"
          "    }\n",
-         "    if let Some(index) = first_outside(bytes, values) {\n"
+         "    if let Some(index) = first_outside(opened, values) {\n"
          "        return Err(Refusal::ValueOutside { index });\n"
          "    }\n"
          "    if let Some(index) = first_bad_byte(booleans) {\n"
@@ -72,12 +82,12 @@ MUTANTS = [
          "    }\n")]),
     ("the model written before the clauses are tested", [
         ("image/src/lib.rt",
-         "    checked(bytes, measured, values, booleans, model.len())?;",
-         "    let Measured { header, sizes } = measured;\n"
-         "    if booleans.len() == header.bools && values.len() == header.ints && model.len() == sizes.n {\n"
-         "        put_model(bytes, header, values, booleans, model);\n"
+         "    checked(&measured, values, booleans, model.len())?;",
+         "    let opened = &measured.opened;\n"
+         "    if booleans.len() == opened.bools() && values.len() == opened.ints() && model.len() == measured.sizes.n {\n"
+         "        put_model(opened, values, booleans, model);\n"
          "    }\n"
-         "    checked(bytes, measured, values, booleans, model.len())?;")]),
+         "    checked(&measured, values, booleans, model.len())?;")]),
     ("hours halved and rounded up", [
         ("closing/src/search.rt",
          "floor_div(range.lower + range.upper, 2)",
