@@ -66,13 +66,15 @@ fn put_stepped<P: Part>(lead: Option<i32>, run: Run, at: usize, part: &mut P) ->
 {
     let mut place = at;
     let mut rest = run;
+    let mut here = part.taken();
     while 0 < rest.count {
         let front = rest.front;
         let y = rest.y;
         let z = rest.z;
-        place = put_clause(lead, front, y.literal, z.literal, place, part);
+        place = put_clause(lead, front, y.literal, z.literal, place, &mut here);
         rest = onward(rest);
     }
+    *part = here;
     place
 }
 
