@@ -14,6 +14,7 @@ pub fn first_bad_byte(bytes: &[u8]) -> Option<usize>
 }
 
 // Numbers count from 1: that of v stands at v - 1.
+#[tactic(auto, unfolding(definitions::specs::Meaning::on))]
 pub fn is_on(bytes: &[u8], v: usize) -> bool
     requires { (1 ≤ v) × (v ≤ length bytes.now) }
     ensures { result ≡ on bytes.now v }

@@ -1,8 +1,10 @@
 pub mod Parts
 pub mod Said
+pub mod Gives
 pub mod Bytes
 pub mod Texts
 pub mod Replied
+pub mod Passes
 pub mod Lists
 pub mod Marks
 pub mod Models

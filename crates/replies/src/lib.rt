@@ -12,6 +12,7 @@ pub mod values; // values.rt: the numbers of a reply
 pub mod reply; // reply.rt: a whole reply
 pub mod line; // line.rt: the first line of text
 pub mod lists; // lists.rt: text read into a lent list
+pub mod literals; // literals.rt: a pass through the literals of a good reply
 pub mod marks; // marks.rt: a variable that does not stand in a reply exactly once
 pub mod models; // models.rt: a reply read into a lent model
 

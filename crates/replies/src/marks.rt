@@ -5,7 +5,7 @@ ghost use Rattle.replies.specs.Parts.{literals_from, HasModel};
 ghost use Rattle.replies.specs.Marks.{Cleared, changed, raised, marks_of, ones_from, once_from, sought_from};
 
 use super::Listed;
-use super::values::value_at;
+use super::literals::Literals;
 
 // Marks are of the variables from `first` on, and go no higher than 2.
 fn mark(marks: &mut [u8], first: usize, variable: usize)
@@ -31,12 +31,8 @@ fn mark_values(text: &[u8], n: u32, from: usize, first: usize, marks: &mut [u8])
     requires cleared { Cleared marks.old }
     ensures { marks.new ≡ marks_of first (length marks.old) (literals_from n from text.now) }
 {
-    let mut at = from;
-    let mut line = true;
-    while let Ok(Some(literal)) = value_at(text, n, line, at) {
-        mark(marks, first, literal.number.size as usize);
-        line = literal.line;
-        at = literal.next;
+    for literal in Literals::from(text, n, from) {
+        mark(marks, first, literal.size as usize);
     }
 }
 

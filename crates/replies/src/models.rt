@@ -8,9 +8,9 @@ ghost use Rattle.replies.specs.Marks.{Cleared};
 ghost use Rattle.replies.specs.Models.{with_literal, Told, taken_from};
 ghost use Rattle.replies.specs.Outcome.{ReplyAllowed};
 
+use super::literals::Literals;
 use super::marks::{least_not_once, sought_from};
 use super::reply::check_reply;
-use super::values::value_at;
 use super::{Heard, Number};
 use definitions::{Refusal, Reply};
 
@@ -35,12 +35,8 @@ fn put_literals(text: &[u8], n: u32, from: usize, model: &mut [u8])
     requires cleared { Cleared model.old }
     ensures { model.new ≡ model_of (length model.old) (literals_from n from text.now) }
 {
-    let mut at = from;
-    let mut line = true;
-    while let Ok(Some(literal)) = value_at(text, n, line, at) {
-        put_literal(model, literal.number);
-        line = literal.line;
-        at = literal.next;
+    for literal in Literals::from(text, n, from) {
+        put_literal(model, literal);
     }
 }
 

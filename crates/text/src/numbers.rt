@@ -1,5 +1,5 @@
 // Digits, and the numbers of a clause list.
-ghost use Rattle.std.specs.Prelude.{◌≡◌, ◌≤◌, length, nat_abs};
+ghost use Rattle.std.specs.Prelude.{◌≡◌, ◌≤◌, length};
 ghost use Rattle.definitions.specs.Dimacs.{decimal, entry};
 ghost use Rattle.text.specs.Puts.{Put};
 ghost use Rattle.text.specs.Lines.{with_end};
@@ -32,23 +32,17 @@ pub fn put_ended(n: u64, end: u8, out: &mut [u8]) -> usize
     at + 1
 }
 
-pub fn magnitude(number: i32) -> u64
-    ensures { result ≡ nat_abs number }
-{
-    number.unsigned_abs() as u64
-}
-
 // A number of the clause list: 0 ends a line, any other number is a literal and parted from the next.
 pub fn put_entry(number: i32, out: &mut [u8]) -> usize
     requires { length (entry number) ≤ length out.old }
     ensures { Put (entry number) out.old result out.new }
 {
     if number > 0 {
-        return put_ended(magnitude(number), b' ', out);
+        return put_ended(number.unsigned_abs() as u64, b' ', out);
     }
     if number < 0 {
         out[0] = b'-';
-        return 1 + put_ended(magnitude(number), b' ', &mut out[1..]);
+        return 1 + put_ended(number.unsigned_abs() as u64, b' ', &mut out[1..]);
     }
     put_ended(0, b'\n', out)
 }

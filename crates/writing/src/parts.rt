@@ -8,7 +8,7 @@ ghost use Rattle.writing.specs.Parts.{IsPart, list_is, text_is};
 
 use std::mem;
 use text::lengths::digits;
-use text::numbers::{magnitude, put_entry};
+use text::numbers::put_entry;
 
 pub trait Part: Drop {
     // There is room for these numbers from a place on.
@@ -58,10 +58,10 @@ fn entry_length(number: i32) -> usize
     ensures { result ≡ length (entry number) }
 {
     if 0 < number {
-        return digits(magnitude(number)) + 1;
+        return digits(number.unsigned_abs() as u64) + 1;
     }
     if number < 0 {
-        return digits(magnitude(number)) + 2;
+        return digits(number.unsigned_abs() as u64) + 2;
     }
     2
 }

@@ -30,48 +30,48 @@ module _ (z : ℤ) (f : FitsSigned w32 z) where
 
 pub put_ended-requires : goal.put_ended-requires
 put_ended-requires c =
-    omega (arith, ap length (above c.args.number c.ranges.number c.magnitude.result c.magnitude.ensures c.if-number-gt0.true))
+    omega (arith, ap length (above c.args.number c.ranges.number c.unsigned_abs.result c.unsigned_abs.ensures.value c.if-number-gt0.true))
 
 pub returns-then-number-gt0 : goal.returns-then-number-gt0
 returns-then-number-gt0 c =
-    retold _ _ _ _ _ (above c.args.number c.ranges.number c.magnitude.result c.magnitude.ensures c.if-number-gt0.true) c.put_ended.ensures
+    retold _ _ _ _ _ (above c.args.number c.ranges.number c.unsigned_abs.result c.unsigned_abs.ensures.value c.if-number-gt0.true) c.put_ended.ensures
 
 pub bounds-out-0 : goal.bounds-out-0
 bounds-out-0 c = omega (arith, ap length (below c.args.number c.ranges.number _ refl c.if-number-lt0.true))
 
 pub slice_bounds-put_ended-count : goal.slice_bounds-put_ended-count
 slice_bounds-put_ended-count c =
-    let m = c.magnitude-then-number-lt0 in
-    omega (arith, room (minus c.args.number c.ranges.number m.result m.ensures c.if-number-lt0.true c.args.out.now c.requires))
+    let m = c.unsigned_abs-then-number-lt0 in
+    omega (arith, room (minus c.args.number c.ranges.number m.result m.ensures.value c.if-number-lt0.true c.args.out.now c.requires))
 
 pub slice_bounds-put_ended-start : goal.slice_bounds-put_ended-start
 slice_bounds-put_ended-start c =
-    let m = c.magnitude-then-number-lt0 in
-    omega (arith, room (minus c.args.number c.ranges.number m.result m.ensures c.if-number-lt0.true c.args.out.now c.requires))
+    let m = c.unsigned_abs-then-number-lt0 in
+    omega (arith, room (minus c.args.number c.ranges.number m.result m.ensures.value c.if-number-lt0.true c.args.out.now c.requires))
 
 pub put_ended-requires-then-number-lt0 : goal.put_ended-requires-then-number-lt0
 put_ended-requires-then-number-lt0 c =
-    let m = c.magnitude-then-number-lt0 in
+    let m = c.unsigned_abs-then-number-lt0 in
     omega (
       arith,
-      room (minus c.args.number c.ranges.number m.result m.ensures c.if-number-lt0.true c.args.out.now c.requires),
+      room (minus c.args.number c.ranges.number m.result m.ensures.value c.if-number-lt0.true c.args.out.now c.requires),
       rest-length (set c.args.out.now 0 45) 1,
     )
 
 pub overflow_add-result : goal.overflow_add-result
 overflow_add-result c =
-    let m = c.magnitude-then-number-lt0 in
+    let m = c.unsigned_abs-then-number-lt0 in
     let n = c.put_ended-then-number-lt0 in
     let k : 1 + n.result ≤ length c.args.out.now =
-    omega (arith, n.ensures.0, room_before (minus c.args.number c.ranges.number m.result m.ensures c.if-number-lt0.true c.args.out.now c.requires)) in
+    omega (arith, n.ensures.0, room_before (minus c.args.number c.ranges.number m.result m.ensures.value c.if-number-lt0.true c.args.out.now c.requires)) in
     search rules
 
 pub returns-then-number-lt0 : goal.returns-then-number-lt0
 returns-then-number-lt0 c =
-    let m = c.magnitude-then-number-lt0 in
+    let m = c.unsigned_abs-then-number-lt0 in
     let n = c.put_ended-then-number-lt0 in
-    let r = last (minus c.args.number c.ranges.number m.result m.ensures c.if-number-lt0.true c.args.out.now c.requires) _ _ n.ensures.0 n.ensures.1 in
-    retold _ _ _ _ _ (below c.args.number c.ranges.number m.result m.ensures c.if-number-lt0.true) (r.0, r.1)
+    let r = last (minus c.args.number c.ranges.number m.result m.ensures.value c.if-number-lt0.true c.args.out.now c.requires) _ _ n.ensures.0 n.ensures.1 in
+    retold _ _ _ _ _ (below c.args.number c.ranges.number m.result m.ensures.value c.if-number-lt0.true) (r.0, r.1)
 
 pub put_ended-requires-2 : goal.put_ended-requires-2
 put_ended-requires-2 c = omega (arith, ap length (none c.args.number c.ranges.number c.if-number-gt0.false c.if-number-lt0.false))
