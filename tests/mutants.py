@@ -136,7 +136,7 @@ MUTANTS = [
     ("text written as far as there is room", [
         ("write_text/src/lib.rt",
          "    if out.len() < length {",
-         "    if out.len() < length {\n        add_text(bytes, measured, out);")]),
+         "    if out.len() < length {\n        add_text(&measured.opened, measured.sizes, out);")]),
 ]
 
 # Which program shows what a crate does wrong.
