@@ -47,5 +47,7 @@ pub fn write_booleans(model: &[u8], booleans: &mut [u8])
     requires { length booleans.old ≤ length model.now }
     ensures { booleans.new ≡ take (length booleans.old) model.now }
 {
-    booleans.copy_from_slice(&model[..booleans.len()]);
+    for i in 0..booleans.len() {
+        booleans[i] = model[i];
+    }
 }

@@ -55,12 +55,14 @@ fn number_from(text: &[u8], n: u32, first: Number, from: usize) -> Result<Got<Nu
     ensures says { said_numeral text.now result ≡ number_from n (number_said first) from (drop from text.now) }
     ensures place { IfOk result (λ got. Onward from text.now got.next) }
 {
-    let mut value = first;
+    // the size alone is kept: one that lies in a number would be packed with its sign at each digit
+    let mut size = first.size;
     let mut at = from;
     while at < text.len() && !is_blank(text[at]) {
-        value = value.grown(n, at, text[at])?;
+        size = Number { size, ..first }.grown(n, at, text[at])?.size;
         at += 1;
     }
+    let value = Number { size, ..first };
     if !value.is_whole() {
         return Err(Bad { place: at });
     }

@@ -32,6 +32,7 @@ fn after_number(text: &[u8], number: Number, from: usize) -> Result<Option<Liter
     Ok(None)
 }
 
+#[inline(always)]
 fn number_on(text: &[u8], n: u32, from: usize) -> Result<Option<Literal>, Bad>
     ensures says { said_value text.now result ≡ number_on n from (drop from text.now) }
     ensures place { IfOk result (ValueIn from text.now) }
@@ -41,15 +42,17 @@ fn number_on(text: &[u8], n: u32, from: usize) -> Result<Option<Literal>, Bad>
 }
 
 // The next literal, at a line's beginning or in it; none where the 0 stands that is the last number.
+#[inline(always)]
 pub fn value_at(text: &[u8], n: u32, line: bool, from: usize) -> Result<Option<Literal>, Bad>
     ensures says { said_value text.now result ≡ value_at n line from (drop from text.now) }
     ensures place { IfOk result (ValueIn from text.now) }
 {
-    if line {
-        let next = word_at(text, b"v ", from)?;
-        return number_on(text, n, next);
-    }
-    number_on(text, n, from)
+    let next = if line {
+        word_at(text, b"v ", from)?
+    } else {
+        from
+    };
+    number_on(text, n, next)
 }
 
 fn is_next(rising: bool, size: u32, literals: usize) -> bool

@@ -167,6 +167,7 @@ fn step(rules: &[u8], c: Cursor) -> Stepped
 }
 
 // The next piece at or behind the cursor, and where the pass stands behind it.
+#[inline(always)]
 pub fn next_piece(rules: &[u8], cursor: Cursor) -> Option<(Piece, Cursor)>
     requires { Steady rules.now cursor }
     ensures { Comes rules.now cursor result }

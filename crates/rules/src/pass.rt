@@ -25,6 +25,7 @@ impl<'a> Iterator for Pass<'a> {
 
     ghost remaining = { λ s. at_most (todo s.cursor) };
 
+    #[inline(always)]
     fn next(&mut self) -> Option<Piece> {
         let (piece, behind) = next_piece(self.rules, self.cursor)?;
         self.cursor = behind;

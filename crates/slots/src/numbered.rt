@@ -30,6 +30,7 @@ impl<'a> Model for Numbered<'a> {
 }
 
 impl<'a> Numbered<'a> {
+    #[inline(always)]
     pub fn new(opened: &'a Record<'a>) -> Numbered<'a>
         ensures { result ≡ opened.now }
     {
