@@ -7,6 +7,7 @@ use crate::checks::checked;
 use crate::search::searched;
 use definitions::{Hour, Refusal};
 use measure::measure;
+use opening::record::Record;
 use slots::variables::bounds_of;
 
 pub mod checks; // checks.rt: refusals 22 and 12
@@ -17,7 +18,7 @@ pub fn closing(bytes: &[u8], variable: usize, replies: &[u8]) -> Result<Hour, Re
     ensures { Allowed bytes.now variable replies.now result }
 {
     let measured = measure(bytes)?;
-    let opened = &measured.opened;
+    let opened = &Record::new(bytes, measured.header);
     checked(opened.ints(), variable, replies)?;
     searched(bounds_of(opened, variable), replies)
 }

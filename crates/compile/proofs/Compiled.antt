@@ -19,7 +19,7 @@ use Rattle.measure.specs.Said.{measured_of}
 use Rattle.measure.specs.Told.{Measures, measured, not_measured}
 
 module _ (s : List ℕ) (list : List ℤ) where
-  module _ (m : Measured) (e : map_done (measured_of s) (accepted s) ≡ done m) where
+  module _ (m : Measured) (e : map_done measured_of (accepted s) ≡ done m) where
     abbrev t : Sizes
     t = m.sizes
 
@@ -39,6 +39,6 @@ module _ (s : List ℕ) (list : List ℤ) where
         let k : K (board_of s) ≤ length list = omega (arith, ap (λ z. z.k) measures.totals) in
         rw (measures.board, le-leb (K (board_of s)) (length list) k, measures.totals, en, ← K_is (board_of s)) (refl, ey ∙ ap (λ n. clause_list (board_of s) ++ drop n list) (sym (K_is (board_of s))))
 
-  pub unmeasured : (n d : ℕ) → map_done (measured_of s) (accepted s) ≡ refused n d → (refused n d ≡ (compile_outcome s list).answer) × (list ≡ (compile_outcome s list).left)
+  pub unmeasured : (n d : ℕ) → map_done measured_of (accepted s) ≡ refused n d → (refused n d ≡ (compile_outcome s list).answer) × (list ≡ (compile_outcome s list).left)
   unfolding compile_outcome
   unmeasured n d e = rw (not_measured s e) (refl, refl)

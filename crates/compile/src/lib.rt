@@ -47,7 +47,8 @@ pub fn compile(bytes: &[u8], list: &mut [i32]) -> Result<Sizes, Refusal>
     if list.len() < sizes.k {
         return Err(Refusal::ListTooShort { wanted: sizes.k });
     }
-    let k = put_list(&measured.opened, list);
+    let opened = &Record::new(bytes, measured.header);
+    let k = put_list(opened, list);
     Ok(Sizes {
         n: sizes.n,
         m: sizes.m,

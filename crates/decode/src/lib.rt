@@ -77,5 +77,6 @@ pub fn decode(
     ensures { Allowed bytes.now model.now values.old booleans.old result values.new booleans.new }
 {
     let measured = measure(bytes)?;
-    read_back(&measured.opened, measured.sizes.n, model, values, booleans)
+    let opened = &Record::new(bytes, measured.header);
+    read_back(opened, measured.sizes.n, model, values, booleans)
 }

@@ -14,7 +14,7 @@ use crate::selectors::put_selectors;
 use crate::variables::put_variables;
 use definitions::Refusal;
 use judge::checks::{lengths, solved};
-use measure::{Measured, measure};
+use measure::measure;
 use opening::record::Record;
 
 pub mod parts; // parts.rt: the bytes of Booleans and of order variables
@@ -22,12 +22,16 @@ pub mod selectors; // selectors.rt: the bytes of the selectors
 pub mod variables; // variables.rt: the order variables of all variables
 
 // Refusal 11 for the values, the Booleans and the model, of which only its length is looked at; then 12, 14 and 13.
-fn checked(measured: &Measured, values: &[i32], booleans: &[u8], lent: usize) -> Result<(), Refusal>
-    requires { Opens measured.now.opened × (measured.now.sizes.n ≡ N (board_of measured.now.opened)) }
-    ensures { said_verdict result ≡ imaging (board_of measured.now.opened) values.now booleans.now lent }
+fn checked(
+    opened: &Record,
+    wanted: usize,
+    values: &[i32],
+    booleans: &[u8],
+    lent: usize,
+) -> Result<(), Refusal>
+    requires { Opens opened.now × (wanted ≡ N (board_of opened.now)) }
+    ensures { said_verdict result ≡ imaging (board_of opened.now) values.now booleans.now lent }
 {
-    let opened = &measured.opened;
-    let wanted = measured.sizes.n;
     lengths(opened, values, booleans)?;
     if lent != wanted {
         return Err(Refusal::LentWrong { wanted });
@@ -50,7 +54,8 @@ pub fn image(bytes: &[u8], values: &[i32], booleans: &[u8], model: &mut [u8]) ->
     ensures { Allowed bytes.now values.now booleans.now model.old result model.new }
 {
     let measured = measure(bytes)?;
-    checked(&measured, values, booleans, model.len())?;
-    put_model(&measured.opened, values, booleans, model);
+    let opened = &Record::new(bytes, measured.header);
+    checked(opened, measured.sizes.n, values, booleans, model.len())?;
+    put_model(opened, values, booleans, model);
     Ok(())
 }

@@ -6,6 +6,7 @@ ghost use Rattle.judge.specs.Outcome.{Allowed};
 use crate::checks::{lengths, solved};
 use definitions::Refusal;
 use measure::measure;
+use opening::record::Record;
 
 pub mod checks; // checks.rt: refusals 11, 12, 14 and 13
 pub mod clauses; // clauses.rt: the first clause that does not hold (refusal 13)
@@ -17,7 +18,7 @@ pub fn judge(bytes: &[u8], values: &[i32], booleans: &[u8]) -> Result<(), Refusa
     ensures { Allowed bytes.now values.now booleans.now result }
 {
     let measured = measure(bytes)?;
-    let opened = &measured.opened;
+    let opened = &Record::new(bytes, measured.header);
     lengths(opened, values, booleans)?;
     solved(opened, values, booleans)
 }

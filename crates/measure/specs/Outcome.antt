@@ -9,7 +9,7 @@ use Rattle.measure.specs.declared.Measured.{Measured}
 use Rattle.measure.specs.Said.{measured_of, said_measured}
 
 abbrev pub Allowed : List ℕ → Result Measured Refusal → Type 0
-Allowed s r = said_measured r ≡ map_done (measured_of s) (accepted s)
+Allowed s r = said_measured r ≡ map_done measured_of (accepted s)
 
 pub one_outcome : (s : List ℕ) (r r' : Result Measured Refusal) → Allowed s r → Allowed s r' → r ≡ r'
 one_outcome s r r' a a' = one_answer (λ measured. measured) (λ measured. measured) (λ measured. refl) r r' (a ∙ sym a')

@@ -1,6 +1,6 @@
 -- The answers as the definitions have them.
 use Rattle.std.specs.Prelude as code
-use Rattle.std.specs.Prelude.{List, ℕ, map, length}
+use Rattle.std.specs.Prelude.{map, length}
 use Rattle.definitions.specs.Tools.{sum}
 use Rattle.definitions.specs.Board.{Board}
 use Rattle.definitions.specs.Encoding.{width, selected, axioms, rules, places, N, M, K}
@@ -8,6 +8,7 @@ use Rattle.definitions.specs.Result.{Result}
 use Rattle.definitions.specs.declared.Refusal.{Refusal}
 use Rattle.definitions.specs.declared.Sizes.{Sizes}
 use Rattle.definitions.specs.Answers.{answered}
+use Rattle.opening.specs.Said.{header_of}
 use Rattle.measure.specs.declared.Kinds.{Kinds}
 use Rattle.measure.specs.declared.Measured.{Measured}
 
@@ -24,9 +25,8 @@ kinds_of B = record {
 abbrev pub totals_of : Board → Sizes
 totals_of B = record { n = N B; m = M B; k = K B }
 
--- an accepted record is seen as its bytes
-abbrev pub measured_of : List ℕ → Board → Measured
-measured_of s B = record { opened = s; sizes = totals_of B }
+abbrev pub measured_of : Board → Measured
+measured_of B = record { header = header_of B; sizes = totals_of B }
 
 abbrev pub said_measured : code.Result Measured Refusal → Result Measured
 said_measured r = answered (λ measured. measured) r

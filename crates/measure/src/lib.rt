@@ -1,12 +1,12 @@
-// What all operations begin with: the record's refusals, or the record and its sizes. They are counted; no tuple is walked.
+// What all operations begin with: the record's refusals, or its header and sizes. They are counted; no tuple is walked.
 #![tactic(auto)]
 
 ghost use Rattle.measure.specs.Outcome.{Allowed};
 
 use crate::sums::totals_of;
 use definitions::{Refusal, Sizes};
-use opening::open;
 use opening::record::Record;
+use opening::{Header, open};
 
 pub mod count; // count.rt: how many tuples a comparison has, by formula
 pub mod pieces; // pieces.rt: what a piece of the rules adds
@@ -37,24 +37,24 @@ pub struct Kinds {
     pub rules: Part,
 }
 
-// An accepted record, and its sizes.
-#[derive(Drop)]
-pub struct Measured<'a> {
-    pub opened: Record<'a>,
+// The header of an accepted record, and its sizes.
+#[derive(Clone, Copy)]
+pub struct Measured {
+    pub header: Header,
     pub sizes: Sizes,
 }
 
 // The longest list that is not refused.
 const LONGEST: usize = 2000000000;
 
-// A refusal of the record, or the record and its sizes.
-pub fn measure<'a>(bytes: &'a [u8]) -> Result<Measured<'a>, Refusal>
+// A refusal of the record, or its header and sizes.
+pub fn measure(bytes: &[u8]) -> Result<Measured, Refusal>
     ensures { Allowed bytes.now result }
 {
-    let opened = open(bytes)?;
-    let sizes = totals_of(&opened);
+    let header = open(bytes)?;
+    let sizes = totals_of(&Record::new(bytes, header));
     if LONGEST < sizes.k {
         return Err(Refusal::ListTooLong);
     }
-    Ok(Measured { opened, sizes })
+    Ok(Measured { header, sizes })
 }

@@ -1,6 +1,6 @@
 -- The answers as the definitions have them.
 use Rattle.std.specs.Prelude as code
-use Rattle.definitions.specs.Tools.{ℕ, List, length}
+use Rattle.definitions.specs.Tools.{length}
 use Rattle.definitions.specs.Board.{Board}
 use Rattle.definitions.specs.Result.{Result, done, refused}
 use Rattle.definitions.specs.Reading.{Context}
@@ -33,6 +33,5 @@ header_of B = record {
 abbrev pub context_in : Header → Context
 context_in h = record { version = h.version; ints = h.ints; bools = h.bools }
 
--- an opened record, by its bytes
-abbrev pub said_opening : code.Result (List ℕ) Refusal → Result (List ℕ)
-said_opening r = answered (λ bytes. bytes) r
+abbrev pub said_opening : code.Result Header Refusal → Result Header
+said_opening r = answered (λ header. header) r

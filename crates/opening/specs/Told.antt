@@ -19,13 +19,6 @@ module _ {A B : Type 0} (f : A → B) where
   mapped_refused (done a) e = never (sym e)
   mapped_refused (refused why p) e = cc
 
--- a refusal does not depend on what is told of a board
-pub refused_again : {A B C : Type 0} (f : A → B) (g : A → C) (m : Result A) {n d : ℕ} → map_done f m ≡ refused n d → map_done g m ≡ refused n d
-refused_again f g m e = ap (map_done g) (mapped_refused f m e)
-
-pub done_again : {A B C : Type 0} (f : A → B) (c : C) (m : Result A) {b : B} → map_done f m ≡ done b → map_done (λ a. c) m ≡ done c
-done_again f c m e = ap (map_done (λ a. c)) (mapped_done f m e).1
-
 pub opened : (s : List ℕ) {h : Header} → map_done header_of (read_board s) ≡ done h → Opened s h
 opened s e =
     let m = mapped_done header_of (read_board s) e in

@@ -6,7 +6,6 @@ ghost use Rattle.reader.specs.Said.{context_of};
 ghost use Rattle.opening.specs.Said.{context_in};
 ghost use Rattle.opening.specs.Outcome.{Allowed};
 
-use crate::record::Record;
 use definitions::Refusal;
 use fields::unsigned_at;
 use reader::Context;
@@ -36,7 +35,7 @@ pub struct Header {
 }
 
 // The record's refusals but 9, in 01's order: fewer than 5 bytes before the version, the stated length after it.
-pub fn open<'a>(bytes: &'a [u8]) -> Result<Record<'a>, Refusal>
+pub fn open(bytes: &[u8]) -> Result<Header, Refusal>
     ensures { Allowed bytes.now result }
 {
     if 65536 < bytes.len() {
@@ -55,7 +54,7 @@ pub fn open<'a>(bytes: &'a [u8]) -> Result<Record<'a>, Refusal>
         return Err(Refusal::LengthWrong);
     }
     let header = body::header_at(bytes, version.value, stated.next)?;
-    Ok(Record::new(bytes, header))
+    Ok(header)
 }
 
 // What the readers of clauses have to know of the record. It is no From: it asks that the counts are small.

@@ -11,10 +11,10 @@ use Rattle.measure.specs.Said.{measured_of}
 use Rattle.measure.specs.Told.{measured, not_measured}
 
 module _ (s : List ℕ) where
-  pub sized : (m : Measured) → map_done (measured_of s) (accepted s) ≡ done m → done (sizes_said m.sizes) ≡ size_outcome s
+  pub sized : (m : Measured) → map_done measured_of (accepted s) ≡ done m → done (sizes_said m.sizes) ≡ size_outcome s
   unfolding size_outcome sizes_of
   sized m e = let q = measured s e in rw (q.board, q.totals)
 
-  pub unsized : (n d : ℕ) → map_done (measured_of s) (accepted s) ≡ refused n d → refused n d ≡ size_outcome s
+  pub unsized : (n d : ℕ) → map_done measured_of (accepted s) ≡ refused n d → refused n d ≡ size_outcome s
   unfolding size_outcome
   unsized n d e = rw (not_measured s e)

@@ -44,7 +44,7 @@ module _ (s lent : List ℕ) where
   abbrev text : List ℕ
   text = text_of (board_of s)
 
-  module _ (m : Measured) (e : map_done (measured_of s) (accepted s) ≡ done m) where
+  module _ (m : Measured) (e : map_done measured_of (accepted s) ≡ done m) where
     measures : Measures s m
     measures = measured s e
 
@@ -62,6 +62,6 @@ module _ (s lent : List ℕ) where
     unfolding write_text_outcome written
     texted l n out en ey = rw (measures.board, le-leb (length text) (length lent) l, en) (refl, ey)
 
-  pub unmeasured : (n d : ℕ) → map_done (measured_of s) (accepted s) ≡ refused n d → (refused n d ≡ (write_text_outcome s lent).answer) × (lent ≡ (write_text_outcome s lent).left)
+  pub unmeasured : (n d : ℕ) → map_done measured_of (accepted s) ≡ refused n d → (refused n d ≡ (write_text_outcome s lent).answer) × (lent ≡ (write_text_outcome s lent).left)
   unfolding write_text_outcome
   unmeasured n d e = rw (not_measured s e) (refl, refl)

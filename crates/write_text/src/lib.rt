@@ -55,9 +55,10 @@ pub fn write_text(bytes: &[u8], out: &mut [u8]) -> Result<usize, Refusal>
     ensures { Allowed bytes.now out.old result out.new }
 {
     let measured = measure(bytes)?;
-    let length = text_length(&measured.opened, measured.sizes);
+    let opened = &Record::new(bytes, measured.header);
+    let length = text_length(opened, measured.sizes);
     if out.len() < length {
         return Err(Refusal::ListTooShort { wanted: length });
     }
-    Ok(add_text(&measured.opened, measured.sizes, out))
+    Ok(add_text(opened, measured.sizes, out))
 }

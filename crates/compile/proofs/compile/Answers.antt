@@ -15,13 +15,16 @@ returns-in_err-measured c =
 pub returns-then-list-sizes : goal.returns-then-list-sizes
 returns-then-list-sizes c = too_short _ _ _ (sym c.in_ok-measured.ensures) c.if-list-sizes.true
 
+pub new-requires : goal.new-requires
+new-requires c = (measured _ (sym c.in_ok-measured.ensures)).opened
+
 pub put_list-k-requires : goal.put_list-k-requires
 put_list-k-requires c =
     let m = measured c.args.bytes.now (sym c.in_ok-measured.ensures) in
-    rw m.bytes (omega (arith, ap (λ z. z.k) m.totals, K_is (board_of c.args.bytes.now)))
+    rw c.new.ensures (omega (arith, ap (λ z. z.k) m.totals, K_is (board_of c.args.bytes.now)))
 
 pub returns : goal.returns
 returns c =
     let m = measured c.args.bytes.now (sym c.in_ok-measured.ensures) in
-    let w = rw m.bytes at c.put_list-k.ensures in
+    let w = rw c.new.ensures at c.put_list-k.ensures in
     compiled _ _ _ (sym c.in_ok-measured.ensures) c.if-list-sizes.false _ _ w.0 w.1

@@ -4,29 +4,22 @@ use borrow.Author.Tests.{lt-leb}
 use Rattle.definitions.specs.Operations.{read_board}
 use Rattle.reader.proofs.Steps.{turned}
 use Rattle.opening.proofs.Opened.{no_version, no_length, begins, version_wrong, length_wrong, board_is}
-use Rattle.opening.specs.Said.{map_done, header_of}
-use Rattle.opening.specs.Told.{opened, refused_again, done_again}
-use Rattle.definitions.specs.Result.{refused}
-use Rattle.std.proofs.Common.{◌≡◌, ℕ, List}
 use Rattle.opening.proofs.open.Goals as goal
-
-again : (s : List ℕ) {n d : ℕ} → map_done header_of (read_board s) ≡ refused n d → refused n d ≡ map_done (λ B. s) (read_board s)
-again s e = sym (refused_again header_of (λ B. s) (read_board s) e)
 
 pub returns-then-bytes-gt65536 : goal.returns-then-bytes-gt65536
 unfolding read_board
 returns-then-bytes-gt65536 c = rw (lt-leb _ _ c.if-bytes-gt65536.true)
 
 pub returns-in_default : goal.returns-in_default
-returns-in_default c = again _ (no_version _ c.if-bytes-gt65536.false (sym c.in_default.ensures))
+returns-in_default c = sym (no_version _ c.if-bytes-gt65536.false (sym c.in_default.ensures))
 
 pub returns-in_default-unsigned_at : goal.returns-in_default-unsigned_at
 returns-in_default-unsigned_at c =
-    again _ (no_length _ c.if-bytes-gt65536.false (sym c.in-Some.ensures) (sym c.in_default-unsigned_at.ensures))
+    sym (no_length _ c.if-bytes-gt65536.false (sym c.in-Some.ensures) (sym c.in_default-unsigned_at.ensures))
 
 pub returns-then-version-ne1 : goal.returns-then-version-ne1
 returns-then-version-ne1 c =
-    again _ (version_wrong _ c.if-bytes-gt65536.false (sym c.in-Some.ensures) (sym c.in-Some-unsigned_at.ensures) c.if-version-ne1.true)
+    sym (version_wrong _ c.if-bytes-gt65536.false (sym c.in-Some.ensures) (sym c.in-Some-unsigned_at.ensures) c.if-version-ne1.true)
 
 pub overflow_sub-bytes : goal.overflow_sub-bytes
 overflow_sub-bytes c =
@@ -34,19 +27,14 @@ overflow_sub-bytes c =
 
 pub returns-then-stated-bytes : goal.returns-then-stated-bytes
 returns-then-stated-bytes c =
-    again _ (length_wrong _ c.if-bytes-gt65536.false (sym c.in-Some.ensures) (sym c.in-Some-unsigned_at.ensures) c.if-version-ne1.false c.if-stated-bytes.true)
+    sym (length_wrong _ c.if-bytes-gt65536.false (sym c.in-Some.ensures) (sym c.in-Some-unsigned_at.ensures) c.if-version-ne1.false c.if-stated-bytes.true)
 
 pub returns-in_err-header : goal.returns-in_err-header
 returns-in_err-header c =
     let b = board_is _ c.if-bytes-gt65536.false (sym c.in-Some.ensures) (sym c.in-Some-unsigned_at.ensures) c.if-version-ne1.false c.if-stated-bytes.false in
-    turned (λ header. header) _ _ c.from_residual.ensures.1 ∙ again _ (b ∙ sym c.in_err-header.ensures)
-
-pub new-requires : goal.new-requires
-new-requires c =
-    let b = board_is _ c.if-bytes-gt65536.false (sym c.in-Some.ensures) (sym c.in-Some-unsigned_at.ensures) c.if-version-ne1.false c.if-stated-bytes.false in
-    opened _ (b ∙ sym c.in_ok-header.ensures)
+    turned (λ header. header) _ _ c.from_residual.ensures.1 ∙ sym (b ∙ sym c.in_err-header.ensures)
 
 pub returns : goal.returns
 returns c =
     let b = board_is _ c.if-bytes-gt65536.false (sym c.in-Some.ensures) (sym c.in-Some-unsigned_at.ensures) c.if-version-ne1.false c.if-stated-bytes.false in
-    rw c.new.ensures (sym (done_again header_of _ (read_board _) (b ∙ sym c.in_ok-header.ensures)))
+    sym (b ∙ sym c.in_ok-header.ensures)
