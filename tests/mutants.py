@@ -33,7 +33,7 @@ MUTANTS = [
     ("the selector left off a single-term comparison", [
         ("compile/src/pieces.rt",
          "Some(negated)",
-         "if numbered.ready(place, constant).n == 1 { None } else { Some(negated) }")]),
+         "if c.n == 1 { None } else { Some(negated) }")]),
     ("one selector for a whole clause", [
         ("writing/src/lines.rt", "number += selectors_of(literal);", ""),
         ("rules/src/lib.rt", "after(c, next, c.selector + 1)", "after(c, next, c.selector)")]),

@@ -21,24 +21,23 @@ pub fn put_piece<P: Part>(numbered: &Numbered, piece: Piece, at: usize, part: &m
     ensures { P.adds (piece_numbers (board_of numbered.now) (said_piece (tail_of numbered.now) piece)) at part.old result part.new }
 {
     let selectors = numbered.selectors();
+    let rules = numbered.record().rules();
     match piece {
         Piece::Line {
             place,
             literals,
             selector,
-        } => {
-            let rules = numbered.record().rules();
-            put_line(
-                rules,
-                place,
-                literals,
-                selectors + selector as u32,
-                at,
-                part,
-            )
-        }
+        } => put_line(
+            rules,
+            place,
+            literals,
+            selectors + selector as u32,
+            at,
+            part,
+        ),
         Piece::Lone { place, constant } => {
-            put_comparison(numbered.ready(place, constant), None, at, part)
+            let c = numbered.ready(rules, place, constant);
+            put_comparison(c, None, at, part)
         }
         Piece::Led {
             selector,
@@ -47,7 +46,8 @@ pub fn put_piece<P: Part>(numbered: &Numbered, piece: Piece, at: usize, part: &m
         } => {
             let number = selectors + selector as u32;
             let negated = -(number as i32);
-            put_comparison(numbered.ready(place, constant), Some(negated), at, part)
+            let c = numbered.ready(rules, place, constant);
+            put_comparison(c, Some(negated), at, part)
         }
     }
 }

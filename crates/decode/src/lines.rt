@@ -8,7 +8,6 @@ ghost use Rattle.laws.specs.Boards.{board_of};
 ghost use Rattle.laws.specs.Reread.{context_of};
 ghost use Rattle.laws.specs.Pieces.{line_from};
 ghost use Rattle.laws.specs.Mentions.{Mentions};
-ghost use Rattle.opening.specs.Headers.{tail_of};
 ghost use Rattle.decode.specs.Given.{Given};
 ghost use Rattle.decode.specs.Truth.{true_clause};
 ghost use Rattle.decode.specs.Lines.{number_in, signed, selector_after};
@@ -42,12 +41,18 @@ fn selector_after(literal: Literal, j: usize) -> usize
 }
 
 // Whether some literal of a line holds: it has n literals, from the place `at` on, and selectors from `selector` on.
-pub fn line_holds(numbered: &Numbered, model: &[u8], n: usize, at: usize, selector: usize) -> bool
-    requires { Given numbered.now model.now × (times n (read_literal (context_of (board_of numbered.now))) (tail_of numbered.now) at ≡ done (literals_at (tail_of numbered.now) n at)) × All (Mentions (board_of numbered.now)) (line_from selector (literals_at (tail_of numbered.now) n at).value) }
-    ensures { result ≡ true_clause (board_of numbered.now) model.now (line_from selector (literals_at (tail_of numbered.now) n at).value) }
+pub fn line_holds(
+    numbered: &Numbered,
+    rules: &[u8],
+    model: &[u8],
+    n: usize,
+    at: usize,
+    selector: usize,
+) -> bool
+    requires { Given numbered.now model.now × (times n (read_literal (context_of (board_of numbered.now))) rules.now at ≡ done (literals_at rules.now n at)) × All (Mentions (board_of numbered.now)) (line_from selector (literals_at rules.now n at).value) }
+    ensures { result ≡ true_clause (board_of numbered.now) model.now (line_from selector (literals_at rules.now n at).value) }
 {
     let selectors = numbered.selectors() as usize;
-    let rules = numbered.record().rules();
     let mut j = selector;
     let mut place = at;
     for _ in 0..n {

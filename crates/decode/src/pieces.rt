@@ -5,7 +5,6 @@ ghost use Rattle.laws.specs.Reread.{comparison_at, context_of, Stands};
 ghost use Rattle.laws.specs.Mentions.{Sound};
 ghost use Rattle.rules.specs.Cursors.{said_piece, Held};
 ghost use Rattle.walk.specs.Comparisons.{FairComparison, Walking, over_least, to_come};
-ghost use Rattle.opening.specs.Headers.{tail_of};
 ghost use Rattle.decode.specs.Given.{Given};
 ghost use Rattle.decode.specs.Truth.{true_clause};
 ghost use Rattle.decode.specs.Sums.{Told, ValuesIn, Shown};
@@ -21,16 +20,16 @@ use walk::tuples::{first_tuple, least};
 use walk::{Comparison, Slot, Walk};
 
 // Whether the piece's lead holds: of a line, some literal; of a comparison, its negated selector.
-fn lead_holds(numbered: &Numbered, model: &[u8], piece: Piece) -> bool
-    requires { Given numbered.now model.now × Held (context_of (board_of numbered.now)) (tail_of numbered.now) piece × Sound (board_of numbered.now) (said_piece (tail_of numbered.now) piece) }
-    ensures { result ≡ true_clause (board_of numbered.now) model.now (lead_of (said_piece (tail_of numbered.now) piece)) }
+fn lead_holds(numbered: &Numbered, rules: &[u8], model: &[u8], piece: Piece) -> bool
+    requires { Given numbered.now model.now × Held (context_of (board_of numbered.now)) rules.now piece × Sound (board_of numbered.now) (said_piece rules.now piece) }
+    ensures { result ≡ true_clause (board_of numbered.now) model.now (lead_of (said_piece rules.now piece)) }
 {
     match piece {
         Piece::Line {
             place,
             literals,
             selector,
-        } => line_holds(numbered, model, literals, place, selector),
+        } => line_holds(numbered, rules, model, literals, place, selector),
         Piece::Lone { .. } => false,
         Piece::Led { selector, .. } => {
             let first = numbered.selectors() as usize;
@@ -41,14 +40,19 @@ fn lead_holds(numbered: &Numbered, model: &[u8], piece: Piece) -> bool
 
 // Whether all clauses of the piece hold, told without a look at them: its lead holds, or its comparison does at the values that the
 // model stands for (000, Proposition 1).
-pub fn piece_holds(numbered: &Numbered, values: &[i32], model: &[u8], piece: Piece) -> bool
-    requires { Given numbered.now model.now × Told (board_of numbered.now) model.now × ValuesIn (board_of numbered.now) model.now values.now × Held (context_of (board_of numbered.now)) (tail_of numbered.now) piece × Sound (board_of numbered.now) (said_piece (tail_of numbered.now) piece) }
-    ensures { Shown (board_of numbered.now) model.now (said_piece (tail_of numbered.now) piece) result }
+pub fn piece_holds(
+    numbered: &Numbered,
+    values: &[i32],
+    rules: &[u8],
+    model: &[u8],
+    piece: Piece,
+) -> bool
+    requires { Given numbered.now model.now × Told (board_of numbered.now) model.now × ValuesIn (board_of numbered.now) model.now values.now × Held (context_of (board_of numbered.now)) rules.now piece × Sound (board_of numbered.now) (said_piece rules.now piece) }
+    ensures { Shown (board_of numbered.now) model.now (said_piece rules.now piece) result }
 {
-    if lead_holds(numbered, model, piece) {
+    if lead_holds(numbered, rules, model, piece) {
         return true;
     }
-    let rules = numbered.record().rules();
     match piece {
         Piece::Line { .. } => false,
         // no joined arm: the proof of one that binds a signed number does not close
@@ -78,11 +82,11 @@ fn single() -> Comparison
 }
 
 // The comparison at a place, or a single clause where its constant is below the least sum.
-fn tails_at(numbered: &Numbered, place: usize, constant: i32) -> Comparison
-    requires { Stands (length (board_of numbered.now).bounds) (tail_of numbered.now) place constant }
-    ensures { TailsOf (board_of numbered.now) (comparison_at (tail_of numbered.now) place constant) result }
+fn tails_at(numbered: &Numbered, rules: &[u8], place: usize, constant: i32) -> Comparison
+    requires { Stands (length (board_of numbered.now).bounds) rules.now place constant }
+    ensures { TailsOf (board_of numbered.now) (comparison_at rules.now place constant) result }
 {
-    let c = numbered.ready(place, constant);
+    let c = numbered.ready(rules, place, constant);
     if constant < least(c) {
         return single();
     }
@@ -90,19 +94,19 @@ fn tails_at(numbered: &Numbered, place: usize, constant: i32) -> Comparison
 }
 
 // What is walked for the clauses of a piece: each tuple gives what stands behind the lead.
-pub fn tails_of(numbered: &Numbered, piece: Piece) -> Comparison
-    requires { Held (context_of (board_of numbered.now)) (tail_of numbered.now) piece }
-    ensures { Tails (board_of numbered.now) (said_piece (tail_of numbered.now) piece) result }
+pub fn tails_of(numbered: &Numbered, rules: &[u8], piece: Piece) -> Comparison
+    requires { Held (context_of (board_of numbered.now)) rules.now piece }
+    ensures { Tails (board_of numbered.now) (said_piece rules.now piece) result }
 {
     match piece {
         Piece::Line { .. } => single(),
         // no joined arm here either
-        Piece::Lone { place, constant } => tails_at(numbered, place, constant),
+        Piece::Lone { place, constant } => tails_at(numbered, rules, place, constant),
         Piece::Led {
             place,
             constant,
             ..
-        } => tails_at(numbered, place, constant),
+        } => tails_at(numbered, rules, place, constant),
     }
 }
 

@@ -35,8 +35,8 @@ fn search_rules(numbered: &Numbered, values: &[i32], model: &[u8], from: usize) 
         let Some((piece, behind)) = next_piece(rules, cursor) else {
             break 'search None;
         };
-        let held = piece_holds(numbered, values, model, piece);
-        let tails = tails_of(numbered, piece);
+        let held = piece_holds(numbered, values, rules, model, piece);
+        let tails = tails_of(numbered, rules, piece);
         number += passed(held, tails);
         let mut here = walked(held, tails);
         while let Some(tuple) = here {

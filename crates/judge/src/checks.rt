@@ -1,7 +1,12 @@
 // Judge's and Image's checks of the lists that they are lent: refusals 11, 12, 14 and 13, in this order.
-ghost use Rattle.std.specs.Prelude.{◌≡◌};
+ghost use Rattle.std.specs.Prelude.{◌≡◌, map};
+ghost use Rattle.definitions.specs.Tools.{any};
+ghost use Rattle.definitions.specs.Result.{each};
+ghost use Rattle.definitions.specs.Meaning.{assigned, holds};
 ghost use Rattle.definitions.specs.Answers.{said_verdict};
 ghost use Rattle.laws.specs.Boards.{board_of};
+ghost use Rattle.lent.specs.Said.{said_found};
+ghost use Rattle.judge.specs.Suited.{Near};
 ghost use Rattle.judge.specs.Checks.{Long, fitting, solving};
 
 use crate::clauses::first_failing;
@@ -25,6 +30,14 @@ pub fn lengths(opened: &Record, values: &[i32], booleans: &[u8]) -> Result<(), R
     Ok(())
 }
 
+// The record's first clause that does not hold.
+fn first_broken(opened: &Record, values: &[i32], booleans: &[u8]) -> Option<usize>
+    requires { Long opened.now values.now booleans.now × Near values.now }
+    ensures { said_found 13 result ≡ each 13 0 (map (any (holds (assigned values.now booleans.now))) (board_of opened.now).clauses) }
+{
+    first_failing(opened.rules(), values, booleans, opened.clauses())
+}
+
 // Refusals 12, 14 and 13: no sum is formed before every value is known to be within its bounds.
 pub fn solved(opened: &Record, values: &[i32], booleans: &[u8]) -> Result<(), Refusal>
     requires { Long opened.now values.now booleans.now }
@@ -36,7 +49,7 @@ pub fn solved(opened: &Record, values: &[i32], booleans: &[u8]) -> Result<(), Re
     if let Some(index) = first_outside(opened, values) {
         return Err(Refusal::ValueOutside { index });
     }
-    if let Some(number) = first_failing(opened, values, booleans) {
+    if let Some(number) = first_broken(opened, values, booleans) {
         return Err(Refusal::ClauseFails { number });
     }
     Ok(())

@@ -4,19 +4,16 @@ ghost use Rattle.definitions.specs.Tools.{any};
 ghost use Rattle.definitions.specs.Result.{done, each};
 ghost use Rattle.definitions.specs.Reading.{times, read_literal};
 ghost use Rattle.definitions.specs.Meaning.{assigned, holds};
-ghost use Rattle.laws.specs.Again.{literals_at};
-ghost use Rattle.laws.specs.Boards.{board_of};
+ghost use Rattle.laws.specs.Again.{literals_at, clauses_at};
 ghost use Rattle.lent.specs.Said.{said_found};
-ghost use Rattle.rules.specs.Cursors.{Held};
-ghost use Rattle.judge.specs.Suited.{Near, Suiting};
+ghost use Rattle.rules.specs.Cursors.{Held, Sound, at_start};
+ghost use Rattle.judge.specs.Suited.{Suiting};
 ghost use Rattle.judge.specs.Clauses.{begun, holds_in};
-ghost use Rattle.judge.specs.Checks.{Long};
 
 use crate::literals::{compares, holds};
-use opening::record::Record;
 use reader::rereading::literal_again;
-use rules::Piece;
-use rules::pass::pieces;
+use rules::pass::Pass;
+use rules::{Piece, start};
 
 // Whether one of n literals holds.
 fn any_holds(rules: &[u8], values: &[i32], booleans: &[u8], n: usize, at: usize) -> bool
@@ -60,13 +57,17 @@ fn clauses_in(piece: Piece) -> usize
     }
 }
 
-pub fn first_failing(opened: &Record, values: &[i32], booleans: &[u8]) -> Option<usize>
-    requires { Long opened.now values.now booleans.now × Near values.now }
-    ensures { said_found 13 result ≡ each 13 0 (map (any (holds (assigned values.now booleans.now))) (board_of opened.now).clauses) }
+// Of the clauses that stand at the start of any rules, and were read in a context that the values suit.
+pub fn first_failing(rules: &[u8], values: &[i32], booleans: &[u8], clauses: usize) -> Option<usize>
+    requires { Suiting values.now booleans.now (λ ctx. Sound ctx rules.now (at_start clauses)) }
+    ensures { said_found 13 result ≡ each 13 0 (map (any (holds (assigned values.now booleans.now))) (clauses_at rules.now clauses 0).value) }
 {
-    let rules = opened.rules();
+    let pieces = Pass {
+        rules,
+        cursor: start(clauses),
+    };
     let mut number = 0;
-    for piece in pieces(opened) {
+    for piece in pieces {
         if !piece_holds(rules, values, booleans, piece) {
             return Some(number);
         }

@@ -4,7 +4,6 @@ ghost use Rattle.definitions.specs.Board.{bounds_of};
 ghost use Rattle.laws.specs.Boards.{board_of};
 ghost use Rattle.laws.specs.Reread.{comparison_at, context_of, Stands};
 ghost use Rattle.laws.specs.Sizes.{piece_places};
-ghost use Rattle.opening.specs.Headers.{tail_of};
 ghost use Rattle.rules.specs.Cursors.{Held, said_piece};
 ghost use Rattle.measure.specs.Shares.{ShareOf, ShareUnder};
 
@@ -16,13 +15,13 @@ use slots::comparisons::ready;
 use walk::tuples::over_least;
 
 // A comparison's clauses, each led by as many literals as is said.
-fn comparison_share(opened: &Record, lead: u64, place: usize, constant: i32) -> Share
-    requires { Stands (length (board_of opened.now).bounds) (tail_of opened.now) place constant × (lead ≤ 1) }
-    ensures { ShareUnder (bounds_of (board_of opened.now)) lead (comparison_at (tail_of opened.now) place constant) result }
+fn comparison_share(opened: &Record, rules: &[u8], lead: u64, place: usize, constant: i32) -> Share
+    requires { Stands (length (board_of opened.now).bounds) rules.now place constant × (lead ≤ 1) }
+    ensures { ShareUnder (bounds_of (board_of opened.now)) lead (comparison_at rules.now place constant) result }
 {
     // counting needs no first numbers
     let unnumbered = [0u32; 0];
-    let c = ready(opened, &unnumbered, place, constant);
+    let c = ready(opened, &unnumbered, rules, place, constant);
     let t = over_least(c);
     if t < 1 {
         return Share {
@@ -40,9 +39,9 @@ fn comparison_share(opened: &Record, lead: u64, place: usize, constant: i32) -> 
 }
 
 // A line is one clause; a comparison's clauses are counted, never walked.
-pub fn share_of(opened: &Record, piece: Piece) -> Share
-    requires { Held (context_of (board_of opened.now)) (tail_of opened.now) piece × (piece_places (bounds_of (board_of opened.now)) (said_piece (tail_of opened.now) piece) < 2 ^ 63) }
-    ensures { ShareOf (bounds_of (board_of opened.now)) (said_piece (tail_of opened.now) piece) result }
+pub fn share_of(opened: &Record, rules: &[u8], piece: Piece) -> Share
+    requires { Held (context_of (board_of opened.now)) rules.now piece × (piece_places (bounds_of (board_of opened.now)) (said_piece rules.now piece) < 2 ^ 63) }
+    ensures { ShareOf (bounds_of (board_of opened.now)) (said_piece rules.now piece) result }
 {
     match piece {
         Piece::Line { literals, .. } => Share {
@@ -50,11 +49,11 @@ pub fn share_of(opened: &Record, piece: Piece) -> Share
             places: literals as u64 + 1,
             selectors: 0,
         },
-        Piece::Lone { place, constant } => comparison_share(opened, 0, place, constant),
+        Piece::Lone { place, constant } => comparison_share(opened, rules, 0, place, constant),
         Piece::Led {
             place,
             constant,
             ..
-        } => comparison_share(opened, 1, place, constant),
+        } => comparison_share(opened, rules, 1, place, constant),
     }
 }

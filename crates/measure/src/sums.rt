@@ -36,8 +36,9 @@ fn rules_share(opened: &Record) -> Share
         places: 0,
         selectors: 0,
     };
+    let rules = opened.rules();
     for piece in pieces(opened) {
-        total = total.and(share_of(opened, piece));
+        total = total.and(share_of(opened, rules, piece));
     }
     total
 }

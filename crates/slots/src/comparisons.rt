@@ -4,7 +4,6 @@ ghost use Rattle.definitions.specs.Tools.{All};
 ghost use Rattle.laws.specs.Admitted.{GoodTerm};
 ghost use Rattle.laws.specs.Boards.{Opens, board_of};
 ghost use Rattle.laws.specs.Reread.{term_at, terms_at, comparison_at, TermsStand, Stands};
-ghost use Rattle.opening.specs.Headers.{tail_of};
 ghost use Rattle.walk.specs.Slots.{slot_of};
 ghost use Rattle.slots.specs.Variables.{numbered};
 ghost use Rattle.slots.specs.Ready.{Small, ReadyBy};
@@ -73,12 +72,21 @@ fn slot_at(opened: &Record, firsts: &[u32], rules: &[u8], place: usize, n: usize
     slot_of(opened, firsts, term_at(rules, place + 1 + 3 * i))
 }
 
-// The comparison whose term count stands at a place. Its slots are no array until all are there: one that is filled by index and then
-// copied is slow.
-fn readied(opened: &Record, firsts: &[u32], rules: &[u8], place: usize, constant: i32) -> Comparison
-    requires { Opens opened.now × Small (board_of opened.now) firsts.now × Stands (length (board_of opened.now).bounds) rules.now place constant }
-    ensures { ReadyBy (board_of opened.now) (numbered firsts.now) (comparison_at rules.now place constant) result }
+// The comparison whose term count stands at a place of the rules; a table gives the first numbers, and those that it lacks are 0.
+// Its slots are no array until all are there: one that is filled by index and then copied is slow.
+pub fn ready(
+    opened: &Record,
+    firsts: &[u32],
+    rules: &[u8],
+    place: usize,
+    constant: i32,
+) -> Comparison
+    requires { Small (board_of opened.now) firsts.now × Stands (length (board_of opened.now).bounds) rules.now place constant }
+    ensures ready { ReadyBy (board_of opened.now) (numbered firsts.now) (comparison_at rules.now place constant) result }
+    ensures opens { Opens opened.now }
 {
+    // the call tells that the record was opened, so that its bounds are good ones
+    let _ints = opened.ints();
     let n = unchecked(rules, place, 1) as usize;
     let a = slot_at(opened, firsts, rules, place, n, 0);
     let b = slot_at(opened, firsts, rules, place, n, 1);
@@ -88,13 +96,4 @@ fn readied(opened: &Record, firsts: &[u32], rules: &[u8], place: usize, constant
         slots: [a, b, c],
         constant: constant,
     }
-}
-
-// The comparison whose term count stands at a place of the rules; a table gives the first numbers, and those that it lacks are 0.
-pub fn ready(opened: &Record, firsts: &[u32], place: usize, constant: i32) -> Comparison
-    requires { Small (board_of opened.now) firsts.now × Stands (length (board_of opened.now).bounds) (tail_of opened.now) place constant }
-    ensures ready { ReadyBy (board_of opened.now) (numbered firsts.now) (comparison_at (tail_of opened.now) place constant) result }
-    ensures opens { Opens opened.now }
-{
-    readied(opened, firsts, opened.rules(), place, constant)
 }

@@ -3,7 +3,6 @@ ghost use Rattle.std.specs.Prelude.{◌≡◌, ℕ, List, length};
 ghost use Rattle.definitions.specs.Encoding.{first};
 ghost use Rattle.laws.specs.Boards.{Opens, board_of};
 ghost use Rattle.laws.specs.Reread.{comparison_at, Stands};
-ghost use Rattle.opening.specs.Headers.{tail_of};
 ghost use Rattle.slots.specs.Variables.{FirstsOf};
 ghost use Rattle.slots.specs.Ready.{ReadyFor};
 
@@ -35,6 +34,7 @@ impl<'a> Numbered<'a> {
         ensures { result ≡ opened.now }
     {
         let mut firsts = [0u32; FIRSTS];
+        prove!(opened.ints() < FIRSTS);
         put_firsts(opened, &mut firsts);
         Numbered { opened, firsts }
     }
@@ -55,11 +55,11 @@ impl<'a> Numbered<'a> {
     }
 
     // The comparison whose term count stands at a place of the rules, with the board's own numbers.
-    pub fn ready(&self, place: usize, constant: i32) -> Comparison
-        requires { Stands (length (board_of self.now).bounds) (tail_of self.now) place constant }
-        ensures ready { ReadyFor (board_of self.now) (comparison_at (tail_of self.now) place constant) result }
+    pub fn ready(&self, rules: &[u8], place: usize, constant: i32) -> Comparison
+        requires { Stands (length (board_of self.now).bounds) rules.now place constant }
+        ensures ready { ReadyFor (board_of self.now) (comparison_at rules.now place constant) result }
         ensures opens { Opens self.now }
     {
-        ready(self.opened, &self.firsts, place, constant)
+        ready(self.opened, &self.firsts, rules, place, constant)
     }
 }

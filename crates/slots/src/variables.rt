@@ -5,7 +5,7 @@ ghost use Rattle.laws.specs.Admitted.{GoodBounds};
 ghost use Rattle.laws.specs.Boards.{Opens, board_of};
 ghost use Rattle.slots.specs.Variables.{bounds_read, BoundsOf, numbered, FirstsOf};
 
-use crate::{Bounds, FIRSTS};
+use crate::Bounds;
 use fields::unchecked_signed;
 use opening::record::Record;
 
@@ -45,7 +45,8 @@ pub fn first_number(opened: &Record, x: usize) -> u32
 }
 
 // The first numbers of all variables, and behind them the first selector's, into a table: added up once, and looked up for each term.
-pub fn put_firsts(opened: &Record, firsts: &mut [u32; FIRSTS])
+pub fn put_firsts(opened: &Record, firsts: &mut [u32])
+    requires { length (board_of opened.now).bounds < length firsts.old }
     ensures firsts { FirstsOf (board_of opened.now) firsts.new }
     ensures opens { Opens opened.now }
 {

@@ -6,7 +6,6 @@ use Rattle.definitions.specs.Encoding.{least}
 use Rattle.laws.specs.Whole.{whole, back}
 use Rattle.laws.specs.Boards.{board_of}
 use Rattle.laws.specs.Reread.{comparison_at}
-use Rattle.opening.specs.Headers.{tail_of}
 use Rattle.slots.specs.Ready.{ReadyFor}
 use Rattle.walk.specs.Comparisons.{shows_least}
 use Rattle.decode.specs.Tails.{below_tails, above_tails}
@@ -16,7 +15,7 @@ use Rattle.decode.proofs.pieces.tails_at.Goals.{After-least}
 -- the comparison was made ready and its least sum found
 module _ (c : After-least) where
   abbrev q : board.Comparison
-  q = comparison_at (tail_of c.args.numbered.now) c.args.place c.args.constant
+  q = comparison_at c.args.rules.now c.args.place c.args.constant
 
   made-ready : ReadyFor (board_of c.args.numbered.now) q c.ready-c.result
   made-ready = rw (to_z-of_z c.ranges.constant) at c.ready-c.ensures.ready

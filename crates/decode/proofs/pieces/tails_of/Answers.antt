@@ -4,16 +4,15 @@ use Rattle.definitions.specs.Encoding.{minus, selector}
 use Rattle.laws.specs.Boards.{board_of}
 use Rattle.laws.specs.Fits.{good-constant}
 use Rattle.laws.specs.Reread.{Stands}
-use Rattle.opening.specs.Headers.{tail_of}
 use Rattle.decode.specs.Tails.{line_tails}
 use Rattle.decode.proofs.pieces.tails_of.Goals as goal
 use Rattle.decode.proofs.pieces.tails_of.Goals.{In-Lone, In-Led}
 
 -- the comparison of the piece: alone, and under a selector
-lone : (c : In-Lone) → Stands (length (board_of c.args.numbered.now).bounds) (tail_of c.args.numbered.now) c.in-Lone.place c.in-Lone.constant
+lone : (c : In-Lone) → Stands (length (board_of c.args.numbered.now).bounds) c.args.rules.now c.in-Lone.place c.in-Lone.constant
 lone c = rw c.in-Lone.is at c.requires
 
-led : (c : In-Led) → Stands (length (board_of c.args.numbered.now).bounds) (tail_of c.args.numbered.now) c.in-Led.place c.in-Led.constant
+led : (c : In-Led) → Stands (length (board_of c.args.numbered.now).bounds) c.args.rules.now c.in-Led.place c.in-Led.constant
 led c = rw c.in-Led.is at c.requires
 
 pub tails_at-requires : goal.tails_at-requires

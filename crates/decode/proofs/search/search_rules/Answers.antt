@@ -31,20 +31,25 @@ pub piece_holds-held-requires : goal.piece_holds-held-requires
 piece_holds-held-requires c =
     let p = c.requires in
     let m = met (goal.at.piece_holds-held-requires c).In-Some in
-    (p.0, p.1, p.2, m.held, (sound_next c.search.invariant _ m.comes).0)
+    let e = rw c.record-opened.ensures.bytes at c.rules-rules.ensures.rules in
+    rw e (p.0, p.1, p.2, m.held, (sound_next c.search.invariant _ m.comes).0)
 
 pub tails_of-tails-requires : goal.tails_of-tails-requires
-tails_of-tails-requires c = (met (goal.at.tails_of-tails-requires c).In-Some).held
+tails_of-tails-requires c =
+    let e = rw c.record-opened.ensures.bytes at c.rules-rules.ensures.rules in
+    rw e (met (goal.at.tails_of-tails-requires c).In-Some).held
 
 pub overflow_add-number : goal.overflow_add-number
 overflow_add-number c =
+    let e = rw c.record-opened.ensures.bytes at c.rules-rules.ensures.rules in
     let m = met (goal.at.overflow_add-number c).In-Some in
-    omega (arith, c.passed-number.ensures, passed_room c.search.invariant _ m.comes _ _ c.piece_holds-held.ensures c.tails_of-tails.ensures, c.requires.3)
+    omega (arith, c.passed-number.ensures, passed_room c.search.invariant _ m.comes _ _ (rw e at c.piece_holds-held.ensures) (rw e at c.tails_of-tails.ensures), c.requires.3)
 
 pub loop-here-init : goal.loop-here-init
 loop-here-init c =
+    let e = rw c.record-opened.ensures.bytes at c.rules-rules.ensures.rules in
     let m = met (goal.at.loop-here-init c).In-Some in
-    walks_start c.search.invariant _ m.comes _ _ _ _ c.requires.0.long c.piece_holds-held.ensures c.tails_of-tails.ensures c.passed-number.ensures c.walked-here.ensures
+    walks_start c.search.invariant _ m.comes _ _ _ _ c.requires.0.long (rw e at c.piece_holds-held.ensures) (rw e at c.tails_of-tails.ensures) c.passed-number.ensures c.walked-here.ensures
 
 pub search_row-requires : goal.search_row-requires
 search_row-requires c =

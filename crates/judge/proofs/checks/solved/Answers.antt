@@ -11,13 +11,13 @@ pub returns-in-Some-first_outside : goal.returns-in-Some-first_outside
 returns-in-Some-first_outside c =
     solving_is (board_of c.args.opened.now) c.args.values.now c.args.booleans.now (sym c.in_default.ensures) (sym c.in-Some-first_outside.ensures) refl
 
-pub first_failing-requires : goal.first_failing-requires
-first_failing-requires c = (c.requires, near _ _ _ c.requires (sym c.in_default-first_outside.ensures))
+pub first_broken-requires : goal.first_broken-requires
+first_broken-requires c = (c.requires, near _ _ _ c.requires (sym c.in_default-first_outside.ensures))
 
-pub returns-in-Some-first_failing : goal.returns-in-Some-first_failing
-returns-in-Some-first_failing c =
-    solving_is (board_of c.args.opened.now) c.args.values.now c.args.booleans.now (sym c.in_default.ensures) (sym c.in_default-first_outside.ensures) (sym c.in-Some-first_failing.ensures)
+pub returns-in-Some-first_broken : goal.returns-in-Some-first_broken
+returns-in-Some-first_broken c =
+    solving_is (board_of c.args.opened.now) c.args.values.now c.args.booleans.now (sym c.in_default.ensures) (sym c.in_default-first_outside.ensures) (sym c.in-Some-first_broken.ensures)
 
 pub returns : goal.returns
 returns c =
-    solving_is (board_of c.args.opened.now) c.args.values.now c.args.booleans.now (sym c.in_default.ensures) (sym c.in_default-first_outside.ensures) (sym c.in_default-first_failing.ensures)
+    solving_is (board_of c.args.opened.now) c.args.values.now c.args.booleans.now (sym c.in_default.ensures) (sym c.in_default-first_outside.ensures) (sym c.in_default-first_broken.ensures)

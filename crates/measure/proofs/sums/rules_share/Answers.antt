@@ -31,19 +31,19 @@ loop-piece-init c =
 
 pub share_of-requires : goal.share_of-requires
 share_of-requires c =
-    ((meets c).held, next_fits _ (opens_recorded _ c.loop-piece.invariant.passing.opens) _ _ _ (adding c))
+    rw c.rules-rules.ensures.rules ((meets c).held, next_fits _ (opens_recorded _ c.loop-piece.invariant.passing.opens) _ _ _ (adding c))
 
 pub and-total-requires : goal.and-total-requires
 and-total-requires c =
     let p = (goal.at.and-total-requires c).In-Some in
-    plus_fits _ (opens_recorded _ c.loop-piece.invariant.passing.opens) _ _ _ (adding p) _ c.share_of.ensures
+    plus_fits _ (opens_recorded _ c.loop-piece.invariant.passing.opens) _ _ _ (adding p) _ (rw c.rules-rules.ensures.rules at c.share_of.ensures)
 
 pub loop-piece-preserved : goal.loop-piece-preserved
 loop-piece-preserved c =
     let p = (goal.at.loop-piece-preserved c).In-Some in
     record {
       passing = further _ p.loop-piece.piece-iterator p.loop-piece.invariant.passing p.next.new.self _ p.next.ensures.steps _ p.in-Some.is;
-      adding = rw c.and-total.ensures (adding-more _ _ _ _ _ _ (adding p) c.share_of.ensures);
+      adding = rw c.and-total.ensures (adding-more _ _ _ _ _ _ (adding p) (rw c.rules-rules.ensures.rules at c.share_of.ensures));
     }
 
 pub returns : goal.returns

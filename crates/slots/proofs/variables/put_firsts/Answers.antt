@@ -20,24 +20,10 @@ overflow_add-next-in-loop-x c = omega (arith, first-most _ (opens_admitted _ c.b
 pub loop-x-preserved : goal.loop-x-preserved
 loop-x-preserved c =
     let e = first_more _ _ _ (omega arith) c.bounds_of.ensures in
-    let few = (opens_admitted _ c.bools.ensures.opens).ints in
     (firsts_more _ _ _ c.loop-x.firsts c.loop-x.invariant.1 (omega arith) c.loop-x.invariant.0, omega (arith, e))
-
-pub offset_bounds-firsts-x : goal.offset_bounds-firsts-x
-offset_bounds-firsts-x c = omega (arith, (opens_admitted _ c.bools.ensures.opens).ints)
-
-pub bounds-firsts-x : goal.bounds-firsts-x
-bounds-firsts-x c = omega (arith, (opens_admitted _ c.bools.ensures.opens).ints)
-
-pub offset_bounds-firsts-ints : goal.offset_bounds-firsts-ints
-offset_bounds-firsts-ints c = omega (arith, (opens_admitted _ c.bools.ensures.opens).ints)
-
-pub bounds-firsts-ints : goal.bounds-firsts-ints
-bounds-firsts-ints c = omega (arith, (opens_admitted _ c.bools.ensures.opens).ints)
 
 pub returns-clause-firsts : goal.returns-clause-firsts
 returns-clause-firsts c =
-    let few = (opens_admitted _ c.bools.ensures.opens).ints in
     let e : c.loop-x.x ≡ c.ints-ints.result = omega arith in
     let n = rw e at c.loop-x.invariant.1 in
     let there : c.ints-ints.result < length c.loop-x.firsts = omega arith in
