@@ -12,7 +12,7 @@ ghost use Rattle.image.specs.Outcome.{Allowed};
 use crate::parts::put_booleans;
 use crate::selectors::put_selectors;
 use crate::variables::put_variables;
-use definitions::Refusal;
+use definitions::{Refusal, Sizes};
 use judge::checks::{lengths, solved};
 use measure::measure;
 use opening::record::Record;
@@ -24,17 +24,17 @@ pub mod variables; // variables.rt: the order variables of all variables
 // Refusal 11 for the values, the Booleans and the model, of which only its length is looked at; then 12, 14 and 13.
 fn checked(
     opened: &Record,
-    wanted: usize,
+    sizes: Sizes,
     values: &[i32],
     booleans: &[u8],
     lent: usize,
 ) -> Result<(), Refusal>
-    requires { Opens opened.now × (wanted ≡ N (board_of opened.now)) }
+    requires { Opens opened.now × (sizes.n ≡ N (board_of opened.now)) }
     ensures { said_verdict result ≡ imaging (board_of opened.now) values.now booleans.now lent }
 {
     lengths(opened, values, booleans)?;
-    if lent != wanted {
-        return Err(Refusal::LentWrong { wanted });
+    if lent != sizes.n {
+        return Err(Refusal::LentWrong { wanted: sizes.n });
     }
     solved(opened, values, booleans)
 }
@@ -55,7 +55,7 @@ pub fn image(bytes: &[u8], values: &[i32], booleans: &[u8], model: &mut [u8]) ->
 {
     let measured = measure(bytes)?;
     let opened = &Record::new(bytes, measured.header);
-    checked(opened, measured.sizes.n, values, booleans, model.len())?;
+    checked(opened, measured.sizes, values, booleans, model.len())?;
     put_model(opened, values, booleans, model);
     Ok(())
 }
