@@ -5,6 +5,7 @@ ghost use Rattle.opening.specs.Said.{header_of};
 ghost use Rattle.opening.specs.Headers.{Opened, tail_of};
 
 use super::Header;
+use fields::unchecked;
 use std::marker::Model;
 
 #[derive(Drop)]
@@ -28,6 +29,27 @@ impl<'a> Record<'a> {
         ensures { result ≡ bytes.now }
     {
         Record { bytes, header }
+    }
+
+    // Of bytes that are known to pass the checks: their counts are read, and nothing is tested.
+    pub fn of(bytes: &'a [u8]) -> Record<'a>
+        requires { Opens bytes.now }
+        ensures { result ≡ bytes.now }
+    {
+        let ints = unchecked(bytes, 5, 2) as usize;
+        let bools = unchecked(bytes, 7, 2) as usize;
+        let clauses = unchecked(bytes, 9, 2) as usize;
+        Record::new(
+            bytes,
+            Header {
+                version: 1,
+                ints,
+                bools,
+                clauses,
+                table: 11,
+                rules: 11 + 4 * ints,
+            },
+        )
     }
 
     pub fn bytes(&self) -> &'a [u8]
