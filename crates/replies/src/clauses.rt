@@ -36,6 +36,7 @@ pub fn clauses_after(clauses: usize, size: u32) -> usize
 }
 
 // How many numbers follow the first line, if there are M clauses and all is well.
+#[inline(never)]
 pub fn count_numbers(text: &[u8], head: Head) -> Result<usize, Bad>
     ensures { said_counted head result ≡ sized (list_from (started head.n head.m) head.next (drop head.next text.now)) }
 {

@@ -10,6 +10,7 @@ use super::{Head, Next};
 use definitions::{Refusal, Sizes};
 
 // The numbers of text that has been checked, to the start of the list: the text says how many, and not the list.
+#[inline(never)]
 fn put_numbers(text: &[u8], head: Head, list: &mut [i32])
     requires small { head.n < 2147483648 }
     requires room { Fits head.n head.m head.next text.now list.old }
