@@ -29,11 +29,19 @@ MUTANTS = [
     ("the first comparison's clauses, of later ones the line of selectors alone", [
         ("compile/src/pieces.rt",
          "            let number = selectors + selector as u32;",
-         "            if 0 < selector {\n                return 0;\n            }\n            let number = selectors + selector as u32;")]),
+         "            if 0 < selector {\n                return at;\n            }\n            let number = selectors + selector as u32;")]),
     ("the selector left off a single-term comparison", [
         ("compile/src/pieces.rt",
          "Some(negated)",
          "if numbered.ready(place, constant).n == 1 { None } else { Some(negated) }")]),
+    ("a step's 0 put a place further", [
+        ("writing/src/axioms.rt",
+         "        place = put_pair(-(number as i32), (number + 1) as i32, place, &mut here);",
+         "        let second = here.add(-(number as i32), place);\n"
+         "        let end = here.add((number + 1) as i32, second);\n"
+         "        here.add(0, end + 1);\n"
+         "        place = end + 1;"),
+        ("writing/src/axioms.rt", "use crate::rows::{put_pair, put_short};", "use crate::rows::put_short;")]),
     ("one selector for a whole clause", [
         ("writing/src/lines.rt", "number += selectors_of(literal);", ""),
         ("rules/src/lib.rt", "after(c, next, c.selector + 1)", "after(c, next, c.selector)")]),
@@ -88,6 +96,10 @@ MUTANTS = [
          "        put_model(opened, values, booleans, model);\n"
          "    }\n"
          "    checked(&measured, values, booleans, model.len())?;")]),
+    ("the first byte of what is lent not looked at", [
+        ("lent/src/lib.rt",
+         "bytes.iter().position(|byte| *byte > 1)",
+         "bytes.iter().enumerate().position(|(i, byte)| 0 < i && *byte > 1)")]),
     ("hours halved and rounded up", [
         ("closing/src/search.rt",
          "floor_div(range.lower + range.upper, 2)",
