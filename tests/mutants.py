@@ -19,21 +19,29 @@ import tempfile
 MUTANTS = [
     ("the same list each time", [
         ("compile/src/lib.rt",
-         "put_list(&measured.opened, list)",
-         r'put_list(&open(b"\x01\0\0\0\x0A\0\x01\0\0\0\0\0\x05\0\x05")?, list)'),
-        ("compile/src/lib.rt", "use opening::record::Record;", "use opening::open;\nuse opening::record::Record;")]),
+         "put_list(opened, list)",
+         r'put_list(&Record::new(b"\x01\0\0\0\x0A\0\x01\0\0\0\0\0\x05\0\x05", Header { version: 1, ints: 1, bools: 0, clauses: 0, table: 11, rules: 15 }), list)'),
+        ("compile/src/lib.rt", "use opening::record::Record;", "use opening::Header;\nuse opening::record::Record;")]),
     ("nothing written, the sizes right", [
         ("compile/src/lib.rt",
-         "let k = put_list(&measured.opened, list);",
-         "let mut elsewhere = [0; 16384];\n    let k = put_list(&measured.opened, &mut elsewhere);")]),
+         "let k = put_list(opened, list);",
+         "let mut elsewhere = [0; 16384];\n    let k = put_list(opened, &mut elsewhere);")]),
     ("the first comparison's clauses, of later ones the line of selectors alone", [
         ("compile/src/pieces.rt",
          "            let number = selectors + selector as u32;",
-         "            if 0 < selector {\n                return 0;\n            }\n            let number = selectors + selector as u32;")]),
+         "            if 0 < selector {\n                return at;\n            }\n            let number = selectors + selector as u32;")]),
     ("the selector left off a single-term comparison", [
         ("compile/src/pieces.rt",
          "Some(negated)",
          "if c.n == 1 { None } else { Some(negated) }")]),
+    ("a step's 0 put a place further", [
+        ("writing/src/axioms.rt",
+         "        place = put_pair(-(number as i32), (number + 1) as i32, place, &mut here);",
+         "        let second = here.add(-(number as i32), place);\n"
+         "        let end = here.add((number + 1) as i32, second);\n"
+         "        here.add(0, end + 1);\n"
+         "        place = end + 1;"),
+        ("writing/src/axioms.rt", "use crate::rows::{put_pair, put_short};", "use crate::rows::put_short;")]),
     ("one selector for a whole clause", [
         ("writing/src/lines.rt", "number += selectors_of(literal);", ""),
         ("rules/src/lib.rt", "after(c, next, c.selector + 1)", "after(c, next, c.selector)")]),
@@ -41,8 +49,8 @@ MUTANTS = [
         ("writing/src/comparisons.rt", "if t < 1 {", "if false {")]),
     ("place K written too", [
         ("compile/src/lib.rt",
-         "let k = put_list(&measured.opened, list);",
-         "let k = put_list(&measured.opened, list);\n                if k < list.len() {\n                    list[k] = 0;\n                }")]),
+         "let k = put_list(opened, list);",
+         "let k = put_list(opened, list);\n                if k < list.len() {\n                    list[k] = 0;\n                }")]),
     ("the last clause of a row that does not hold", [
         ("decode/src/rows.rt", "    for at in number..end {", "    let mut last = number;\n    let mut fails = false;\n    for at in number..end {"),
         ("decode/src/rows.rt", "            return Err(at);", "            last = at;\n            fails = true;"),
@@ -82,12 +90,15 @@ MUTANTS = [
          "    }\n")]),
     ("the model written before the clauses are tested", [
         ("image/src/lib.rt",
-         "    checked(&measured, values, booleans, model.len())?;",
-         "    let opened = &measured.opened;\n"
+         "    checked(opened, measured.sizes, values, booleans, model.len())?;",
          "    if booleans.len() == opened.bools() && values.len() == opened.ints() && model.len() == measured.sizes.n {\n"
          "        put_model(opened, values, booleans, model);\n"
          "    }\n"
-         "    checked(&measured, values, booleans, model.len())?;")]),
+         "    checked(opened, measured.sizes, values, booleans, model.len())?;")]),
+    ("the first byte of what is lent not looked at", [
+        ("lent/src/lib.rt",
+         "bytes.iter().position(|byte| *byte > 1)",
+         "bytes.iter().enumerate().position(|(i, byte)| 0 < i && *byte > 1)")]),
     ("hours halved and rounded up", [
         ("closing/src/search.rt",
          "floor_div(range.lower + range.upper, 2)",
@@ -136,7 +147,7 @@ MUTANTS = [
     ("text written as far as there is room", [
         ("write_text/src/lib.rt",
          "    if out.len() < length {",
-         "    if out.len() < length {\n        add_text(&measured.opened, measured.sizes, out);")]),
+         "    if out.len() < length {\n        add_text(opened, measured.sizes, out);")]),
 ]
 
 # Which program shows what a crate does wrong.
