@@ -33,10 +33,13 @@ impl<'a> Numbered<'a> {
     pub fn new(opened: &'a Record<'a>) -> Numbered<'a>
         ensures { result ≡ opened.now }
     {
-        let mut firsts = [0u32; FIRSTS];
+        let mut numbered = Numbered {
+            opened,
+            firsts: [0u32; FIRSTS],
+        };
         prove!(opened.ints() < FIRSTS);
-        put_firsts(opened, &mut firsts);
-        Numbered { opened, firsts }
+        put_firsts(opened, &mut numbered.firsts);
+        numbered
     }
 
     pub fn record(&self) -> &'a Record<'a>
