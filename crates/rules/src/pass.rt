@@ -1,4 +1,4 @@
-// A pass through the rules of an opened record: an iterator over their pieces.
+// A pass through rules: an iterator over their pieces. `pieces` is that of an opened record.
 ghost use Rattle.std.specs.Prelude.{◌≡◌, length};
 ghost use Rattle.std.specs.Iterator.{at_most};
 ghost use Rattle.laws.specs.Boards.{Opens, board_of};

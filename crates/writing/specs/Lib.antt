@@ -1,4 +1,5 @@
 pub mod Adds
+pub mod Todo
 pub mod Parts
 pub mod Lengths
 pub mod Numbers
