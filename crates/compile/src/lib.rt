@@ -33,9 +33,8 @@ fn put_list(opened: &Record, list: &mut [i32]) -> usize
     requires { length (clause_list (board_of opened.now)) ≤ length list.old }
     ensures { (result ≡ length (clause_list (board_of opened.now))) × (list.new ≡ written (clause_list (board_of opened.now)) list.old) }
 {
-    let numbered = Numbered::new(opened);
     let at = put_axioms(opened, list);
-    at + put_pieces(&numbered, &mut list[at..])
+    at + put_pieces(&Numbered::new(opened), &mut list[at..])
 }
 
 // Writes the first K places of the list; a refusal leaves it as it was.

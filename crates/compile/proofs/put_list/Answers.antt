@@ -35,14 +35,14 @@ slice_bounds-put_pieces-start c = omega (arith, room (put (goal.at.slice_bounds-
 pub put_pieces-requires : goal.put_pieces-requires
 put_pieces-requires c =
     let p = (goal.at.put_pieces-requires c).After-put_axioms-at in
-    rw c.new-numbered.ensures (omega (arith, room (put p), rest-length c.put_axioms-at.new.list c.put_axioms-at.result))
+    rw c.new.ensures (omega (arith, room (put p), rest-length c.put_axioms-at.new.list c.put_axioms-at.result))
 
 pub overflow_add-result : goal.overflow_add-result
 overflow_add-result c =
-    let n = rw c.new-numbered.ensures at c.put_pieces.ensures.0 in
+    let n = rw c.new.ensures at c.put_pieces.ensures.0 in
     let h : c.put_axioms-at.result + c.put_pieces.result ≤ length c.args.list.now = omega (arith, room_before (put (goal.at.overflow_add-result c).After-put_axioms-at)) in search rules
 
 pub returns : goal.returns
 returns c =
-    let e = last (put (goal.at.returns c).After-put_axioms-at) _ _ (rw c.new-numbered.ensures at c.put_pieces.ensures.0) (rw c.new-numbered.ensures at c.put_pieces.ensures.1) in
+    let e = last (put (goal.at.returns c).After-put_axioms-at) _ _ (rw c.new.ensures at c.put_pieces.ensures.0) (rw c.new.ensures at c.put_pieces.ensures.1) in
     renamed c.args.list.now (sym (whole_list (board_of c.args.opened.now))) (e.0, e.1)
