@@ -23,6 +23,7 @@ const VALUES: usize = 1024;
 
 // The clauses of the rules, which are counted from `from` on: piece by piece, and in a piece that is not known to hold its tuples,
 // row by row, a walk that 01 has left by its label. The axioms hold, and `values` are what they tell.
+#[inline(never)]
 fn search_rules(numbered: &Numbered, values: &[i32], model: &[u8], from: usize) -> Option<usize>
     requires { Given numbered.now model.now × Told (board_of numbered.now) model.now × ValuesIn (board_of numbered.now) model.now values.now × (from + length (rule_tests (board_of numbered.now) model.now) < 9223372036854775808) }
     ensures { said_found 13 result ≡ each 13 from (rule_tests (board_of numbered.now) model.now) }
