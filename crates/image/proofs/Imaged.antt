@@ -10,7 +10,11 @@ use Rattle.definitions.specs.Meaning.{assigned, in_bounds, holds, plain_model}
 use Rattle.definitions.specs.Operations.{Outcome, accepted, lending, long, bits, image_outcome}
 use Rattle.definitions.specs.Answers.{refusal}
 use Rattle.laws.specs.Readings.{never}
-use Rattle.laws.specs.Boards.{board_of, Opens}
+use Rattle.laws.specs.Boards.{board_of}
+use Rattle.opening.specs.Said.{map_done}
+use Rattle.measure.specs.declared.Measured.{Measured}
+use Rattle.measure.specs.Said.{measured_of}
+use Rattle.measure.specs.Told.{measured}
 use Rattle.judge.specs.Checks.{fitting, solving}
 use Rattle.judge.proofs.Judged.{judged_is, not-judged, long_enough}
 use Rattle.judge.proofs.Checked.{near}
@@ -60,12 +64,14 @@ in_bounds_lem B values booleans =
     let a = assigned values booleans in
     second (bits booleans) (each 14 0 (map (in_bounds B a) (variables B))) (each 13 0 (map (any (holds a)) B.clauses))
 
--- what the checks have answered lets the model be written
-pub writable : (s : List ℕ) (values : List ℤ) (booleans model : List ℕ) → Opens s → done tt ≡ imaging (board_of s) values booleans (length model) → Writable s values booleans model
-writable s values booleans model o e =
-    let p = passed (board_of s) values booleans (length model) (sym e) in
-    let l = long_enough s values booleans o p.lists in
-    record { lists = l; near = near s values booleans l (in_bounds_lem (board_of s) values booleans p.solution); room = p.model }
+-- what `measure` and the checks have answered lets the model be written
+pub writable : (s : List ℕ) (m : Measured) (opened : List ℕ) (values : List ℤ) (booleans model : List ℕ)
+    → done m ≡ map_done measured_of (accepted s) → opened ≡ s → done tt ≡ imaging (board_of opened) values booleans (length model) → Writable opened values booleans model
+writable s m opened values booleans model d o e =
+    let h = measured s (sym d) in
+    let p = passed (board_of opened) values booleans (length model) (sym e) in
+    let l = long_enough opened values booleans (rw o h.opened.opens) p.lists in
+    record { lists = l; near = near opened values booleans l (in_bounds_lem (board_of opened) values booleans p.solution); room = p.model }
 
 -- ---- the outcome
 module _ (s : List ℕ) (values : List ℤ) (booleans model : List ℕ) where

@@ -1,5 +1,5 @@
 -- `image::image` meets its contract: the record, the checks, then the writing.
-use Rattle.std.proofs.Common.{sym, ap}
+use Rattle.std.proofs.Common.{sym, ap, rules}
 use Rattle.std.proofs.lemmas.Result.{err_from_is_err_and}
 use Rattle.laws.specs.Boards.{board_of}
 use Rattle.measure.specs.Told.{measured, not_measured}
@@ -28,9 +28,7 @@ returns-in_err-checked c =
     rw (p.1, p.2) (image_refused a.bytes.now a.values.now a.booleans.now a.model.now (board_of a.bytes.now) m.board _ (rw c.new.ensures at c.in_err-checked.ensures))
 
 pub put_model-requires : goal.put_model-requires
-put_model-requires c =
-    let m = measured c.args.bytes.now (sym c.in_ok-measured.ensures) in
-    writable _ _ _ _ (rw c.new.ensures m.opened.opens) c.in_ok-checked.ensures
+put_model-requires c = search (rules, writable)
 
 pub returns : goal.returns
 returns c =
