@@ -36,12 +36,12 @@ MUTANTS = [
          "if c.n == 1 { None } else { Some(negated) }")]),
     ("a step's 0 put a place further", [
         ("writing/src/axioms.rt",
-         "        place = put_pair(-(number as i32), (number + 1) as i32, place, &mut here);",
+         "        place = here.add_step(first + i, place);",
+         "        let number = first + i;\n"
          "        let second = here.add(-(number as i32), place);\n"
          "        let end = here.add((number + 1) as i32, second);\n"
          "        here.add(0, end + 1);\n"
-         "        place = end + 1;"),
-        ("writing/src/axioms.rt", "use crate::rows::{put_pair, put_short};", "use crate::rows::put_short;")]),
+         "        place = end + 1;")]),
     ("one selector for a whole clause", [
         ("writing/src/lines.rt", "number += selectors_of(literal);", ""),
         ("rules/src/lib.rt", "after(c, next, c.selector + 1)", "after(c, next, c.selector)")]),

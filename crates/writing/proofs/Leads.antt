@@ -17,7 +17,7 @@ use Rattle.walk.specs.declared.Run.{Run}
 use Rattle.walk.specs.Rows.{front_of, raised, lowered, in_run, ReadyRun, run-first, run_none, row_next}
 use Rattle.walk.specs.Comparisons.{to_come, none_left}
 use Rattle.walk.proofs.Runs.{raised_steady, lowered_steady}
-use Rattle.writing.specs.Axioms.{steps_from, axiom_numbers, steps_more}
+use Rattle.writing.specs.Axioms.{steps_from, axiom_numbers, steps_more, steps_none}
 use Rattle.writing.specs.Numbers.{clause, flat, stays, led, led_none, led-more}
 
 -- what is said of two numbers that fit is said of them as words
@@ -100,6 +100,19 @@ steps_on i n m k e ek h =
     steps_more i n (omega arith)
     ∙ ap₂ (λ u v. u ∷ v ∷ pos 0 ∷ steps_from (i + 1) (n - 1)) (sym (minus_is i (omega arith))) (sym (plus_is (i + 1) (omega arith)))
     ∙ ap₂ (λ a b. negated i ∷ to_z w32 (i + 1) ∷ pos 0 ∷ steps_from a b) (sym ek) fewer
+
+step_alone : (i : ℕ) → i + 1 < numbers_limit → steps_from i 1 ≡ clause (negated i ∷ to_z w32 (i + 1) ∷ [])
+step_alone i h =
+    let one = clause (negated i ∷ to_z w32 (i + 1) ∷ []) in
+    steps_on i 1 0 (i + 1) (omega arith) (omega arith) h ∙ ap (λ l. one ++ l) (steps_none (i + 1) 0 refl) ∙ append-nil one
+
+-- a step is two literals, and 0
+pub step_words : (i : ℕ) → i + 1 < numbers_limit → steps_from i 1 ≡ (negated i ∷ []) ++ ((to_z w32 (i + 1) ∷ []) ++ (pos 0 ∷ []))
+step_words i h = step_alone i h ∙ clause_pair (negated i) (to_z w32 (i + 1))
+
+-- n steps are one, and m more
+pub steps_next : (i n m k : ℕ) → n ≡ m + 1 → k ≡ i + 1 → i + n < numbers_limit → steps_from i n ≡ steps_from i 1 ++ steps_from k m
+steps_next i n m k e ek h = steps_on i n m k e ek h ∙ ap (λ l. l ++ steps_from k m) (sym (step_alone i (omega arith)))
 
 pub axioms_on : (i w : ℕ) → i + w < numbers_limit → axiom_numbers i w ≡ clause (negated i ∷ []) ++ (clause (to_z w32 (i + (w - 1)) ∷ []) ++ steps_from i (w - 1))
 unfolding clause axiom_numbers

@@ -74,6 +74,10 @@ module _ {A : Type 0} where
         held = λ k. ap (λ o. set o at v) (itself at out (omega arith)) ∙ written_snoc (take at out) out v at (length-take-le at out (omega arith)) h;
       }
 
+  -- however its place and the one behind it are said
+  pub set_at : (v : A) (at k n : ℕ) (out : List A) → at ≡ k → at + 1 ≡ n → at < length out → Adds (v ∷ []) at out n (set out k v)
+  set_at v at k n out e en h = subst (λ k. Adds (v ∷ []) at out n (set out k v)) e (subst (λ n. Adds (v ∷ []) at out n (set out at v)) en (set_one v at out h))
+
   -- what a callee has put at the start of `&mut out[at..]`
   pub put : (t : List A) (at : ℕ) (out : List A) (n : ℕ) (ys : List A) → at + length t ≤ length out → n ≡ length t → ys ≡ written t (rest out at)
       → Adds t at out (at + n) (back out at ys)

@@ -29,6 +29,13 @@ module _ {S : Type 0} {room : S → ℕ → List ℤ → Type 0} {adds : List �
   pub begin : {all todo : List ℤ} (at : ℕ) (s : S) → todo ≡ all → room s at all → Adding room adds all todo at s at s
   begin at s e h = record { done = []; whole = e; added = L.nothing at s; has_room = subst (room s at) (sym e) h }
 
+  -- a place is the same, however it is said
+  pub room_at : {xs : List ℤ} {at at' : ℕ} {s : S} → at ≡ at' → room s at xs → room s at' xs
+  room_at {xs} {at} {at'} {s} e h = subst (λ at. room s at xs) e h
+
+  pub adds_at : {xs : List ℤ} {at at' : ℕ} {s : S} {n : ℕ} {t : S} → at ≡ at' → adds xs at s n t → adds xs at' s n t
+  adds_at {xs} {at} {at'} {s} {n} {t} e a = subst (λ at. adds xs at s n t) e a
+
   -- numbers in two parts
   module _ {all : List ℤ} (xs ys : List ℤ) (e : all ≡ xs ++ ys) {at : ℕ} {s : S} (h : room s at all) where
     pub front_room : room s at xs

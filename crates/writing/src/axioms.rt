@@ -4,7 +4,7 @@ ghost use Rattle.laws.specs.Limits.{numbers_limit};
 ghost use Rattle.writing.specs.Axioms.{steps_from, axiom_numbers};
 
 use crate::parts::Part;
-use crate::rows::{put_pair, put_short};
+use crate::rows::put_short;
 
 // From each order variable to the next: if x is at most c - 1, it is at most c. The steps are counted from 0, and not from `first`:
 // several are then written at once.
@@ -15,8 +15,7 @@ fn put_steps<P: Part>(first: u32, steps: u32, at: usize, part: &mut P) -> usize
     let mut place = at;
     let mut here = part.taken();
     for i in 0..steps {
-        let number = first + i;
-        place = put_pair(-(number as i32), (number + 1) as i32, place, &mut here);
+        place = here.add_step(first + i, place);
     }
     *part = here;
     place

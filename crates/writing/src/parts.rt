@@ -1,9 +1,11 @@
 // What the numbers of clauses are added to: a lent list takes them as they are, and lent bytes take their text. Each function that
 // adds is told a place, and answers the place behind.
-ghost use Rattle.std.specs.Prelude.{◌≡◌, ◌+◌, ◌≤◌, ℕ, ℤ, List, [], ◌∷◌, length};
+ghost use Rattle.std.specs.Prelude.{◌≡◌, ◌+◌, ◌≤◌, ◌<◌, ℕ, ℤ, List, [], ◌∷◌, length};
 ghost use Rattle.definitions.specs.Dimacs.{entry};
+ghost use Rattle.laws.specs.Limits.{numbers_limit};
 ghost use Rattle.text.specs.Entries.{entries};
 ghost use Rattle.writing.specs.Adds.{Adds, Counts};
+ghost use Rattle.writing.specs.Axioms.{steps_from};
 ghost use Rattle.writing.specs.Parts.{IsPart, list_is, text_is};
 
 use std::mem;
@@ -20,6 +22,16 @@ pub trait Part: Drop {
     fn add(&mut self, number: i32, at: usize) -> usize
         requires { room self.old at (number ∷ []) }
         ensures { adds (number ∷ []) at self.old result self.new };
+
+    // A step: if not the order variable of this number, the next one.
+    fn add_step(&mut self, number: u32, at: usize) -> usize
+        requires { (number + 1 < numbers_limit) × room self.old at (steps_from number 1) }
+        ensures { adds (steps_from number 1) at self.old result self.new }
+    {
+        let second = self.add(-(number as i32), at);
+        let end = self.add((number + 1) as i32, second);
+        self.add(0, end)
+    }
 
     // What was lent, taken out: a long loop holds it by itself, so that it need not be looked up for each number, and puts it back.
     fn taken(&mut self) -> Self
@@ -44,6 +56,14 @@ impl Part for AsNumbers<'_> {
     fn add(&mut self, number: i32, at: usize) -> usize {
         self.list[at] = number;
         at + 1
+    }
+
+    // At once, as most of a list's numbers are of steps.
+    fn add_step(&mut self, number: u32, at: usize) -> usize {
+        self.list[at] = -(number as i32);
+        self.list[at + 1] = (number + 1) as i32;
+        self.list[at + 2] = 0;
+        at + 3
     }
 
     fn taken(&mut self) -> Self {
