@@ -23,7 +23,7 @@ pub trait Part: Drop {
         requires { room self.old at (number ∷ []) }
         ensures { adds (number ∷ []) at self.old result self.new };
 
-    // A step: if not the order variable of this number, the next one.
+    // The clause of a step, from the order variable of this number to the next: not this one, or the next.
     fn add_step(&mut self, number: u32, at: usize) -> usize
         requires { (number + 1 < numbers_limit) × room self.old at (steps_from number 1) }
         ensures { adds (steps_from number 1) at self.old result self.new }
@@ -58,7 +58,7 @@ impl Part for AsNumbers<'_> {
         at + 1
     }
 
-    // At once, as most of a list's numbers are of steps.
+    // All three at once.
     fn add_step(&mut self, number: u32, at: usize) -> usize {
         self.list[at] = -(number as i32);
         self.list[at + 1] = (number + 1) as i32;
