@@ -6,6 +6,7 @@ use Prim.Native.Nat.{ℕ, ◌+◌, ◌-◌, ◌<◌}
 use native.Mathlib.Omega.{arith}
 use lib.ListN.{drop}
 use lib.IntN.{ℤ, pos, ◌+ℤ◌, ◌-ℤ◌}
+use Rattle.std.specs.Prelude.{◌<ℤ◌, ◌≤ℤ◌}
 use Rattle.laws.specs.Limits.{numbers_limit}
 use Rattle.laws.specs.Signs.{plus_is, minus_is}
 use Rattle.laws.specs.Lists.{flatten-append}
@@ -15,10 +16,10 @@ use Rattle.std.specs.Prelude.{Option, Some, None}
 use Rattle.walk.specs.declared.Spot.{Spot}
 use Rattle.walk.specs.declared.Run.{Run}
 use Rattle.walk.specs.Rows.{front_of, raised, lowered, in_run, ReadyRun, run-first, run_none, row_next}
-use Rattle.walk.specs.Comparisons.{to_come, none_left}
+use Rattle.walk.specs.Comparisons.{to_come, none_left, over_least, literals_of, below-least, from-least}
 use Rattle.walk.proofs.Runs.{raised_steady, lowered_steady}
 use Rattle.writing.specs.Axioms.{steps_from, axiom_numbers, steps_more, steps_none}
-use Rattle.writing.specs.Numbers.{clause, flat, stays, led, led_none, led-more}
+use Rattle.writing.specs.Numbers.{clause, flat, stays, led, led_none, led-more, under_lead, under_low, under-high}
 
 -- what is said of two numbers that fit is said of them as words
 pub as_words : {y z : ℤ} (P : ℤ → ℤ → Type 0) → FitsSigned w32 y → FitsSigned w32 z → P y z → P (to_z w32 (of_z w32 y)) (to_z w32 (of_z w32 z))
@@ -78,6 +79,17 @@ led-append lead cs ds =
 
 pub led-single : (lead : Option ℤ) (ls : List ℤ) → led lead (ls ∷ []) ≡ clause (front_of lead ++ ls)
 led-single lead ls = led-more lead ls [] ∙ ap (λ l. clause (front_of lead ++ ls) ++ l) (led_none lead) ∙ append-nil (clause (front_of lead ++ ls))
+
+-- a clause of fewer than two terms is a row by itself
+pub led_alone : (lead front : Option ℤ) → led lead (front_of front ∷ []) ≡ clause (stays lead front)
+led_alone lead front = led-single lead (front_of front)
+
+-- ---- what a comparison adds under a lead, by how far its constant is over the least sum
+pub under_below : (lead : Option ℤ) (c : Comparison) (t : ℤ) → t ≡ over_least c → t <ℤ pos 1 → under_lead lead c ≡ led lead ([] ∷ [])
+under_below lead c t e h = under_low lead c (below-least c (subst (λ z. z <ℤ pos 1) e h))
+
+pub under_above : (lead : Option ℤ) (c : Comparison) (t : ℤ) → t ≡ over_least c → pos 1 ≤ℤ t → under_lead lead c ≡ led lead (literals_of c)
+under_above lead c t e h = under-high lead c (from-least c (subst (λ z. pos 1 ≤ℤ z) e h))
 
 -- ---- the clauses of the tuples to come
 module _ (c : Comparison) (lead : Option ℤ) (cur : Option Walk) where

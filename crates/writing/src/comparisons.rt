@@ -25,6 +25,7 @@ fn put_tuples<P: Part>(c: Comparison, t: i32, lead: Option<i32>, at: usize, part
 }
 
 // Where the constant is below the least sum, the lead alone is the one clause.
+#[tactic(auto, using(crate::proofs::Leads::under_below, crate::proofs::Leads::under_above))]
 pub fn put_comparison<P: Part>(c: Comparison, lead: Option<i32>, at: usize, part: &mut P) -> usize
     requires { FairComparison c × P.room part.old at (under_lead lead c) }
     ensures { P.adds (under_lead lead c) at part.old result part.new }

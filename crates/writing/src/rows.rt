@@ -102,6 +102,7 @@ fn put_units<P: Part>(lead: Option<i32>, run: Run, at: usize, part: &mut P) -> u
 }
 
 // The row's clauses, each under the lead.
+#[tactic(auto, using(crate::proofs::Leads::led_alone), unfolding(crate::specs::Numbers::clause))]
 pub fn put_row<P: Part>(lead: Option<i32>, row: Row, at: usize, part: &mut P) -> usize
     requires { Ready row × P.room part.old at (led lead (in_row row)) }
     ensures { P.adds (led lead (in_row row)) at part.old result part.new }
