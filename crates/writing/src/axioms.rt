@@ -6,8 +6,7 @@ ghost use Rattle.writing.specs.Axioms.{steps_from, axiom_numbers};
 use crate::parts::Part;
 use crate::rows::put_short;
 
-// From each order variable to the next: if x is at most c - 1, it is at most c. The steps are counted from 0, and not from `first`:
-// several are then written at once.
+// From each order variable to the next: if x is at most c - 1, it is at most c.
 fn put_steps<P: Part>(first: u32, steps: u32, at: usize, part: &mut P) -> usize
     requires { (first + steps < numbers_limit) × P.room part.old at (steps_from first steps) }
     ensures { P.adds (steps_from first steps) at part.old result part.new }
